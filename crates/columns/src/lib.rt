@@ -1,0 +1,15 @@
+// Numbers in columns.
+
+// What has been read of a number so far.
+pub enum Scan {
+    Blank,
+    Zero,
+    In(u32),
+    Broken,
+}
+
+// The number in a run of columns, or Bad where they hold none.
+pub enum Number {
+    Value(u32),
+    Bad,
+}

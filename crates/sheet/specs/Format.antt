@@ -1,0 +1,41 @@
+-- A sheet's format: the columns of a number and the limits (document 01, "Sheets"). Every other
+-- length of a line follows from the columns. Assumes nothing.
+use Prim.Native.Nat.{ℕ, _+_, _*_}
+
+pub record Format : Type 0 where
+  -- columns of a number
+  pub columns : ℕ
+  -- at most so many lines in all, N, A and Y lines, declarations, C and F lines, and P lines of one declaration
+  pub lines : ℕ
+  pub names : ℕ
+  pub args : ℕ
+  pub types : ℕ
+  pub decls : ℕ
+  pub ctors : ℕ
+  pub fields : ℕ
+  pub params : ℕ
+  -- nodes of a type written out
+  pub nodes : ℕ
+
+-- document 01's own
+abbrev pub base : Format
+base = record {
+  columns = 6;
+  lines = 2048;
+  names = 256;
+  args = 512;
+  types = 1024;
+  decls = 96;
+  ctors = 256;
+  fields = 512;
+  params = 8;
+  nodes = 1024;
+}
+
+-- a letter, five numbers and byte 10
+abbrev pub lineBytes : ℕ → ℕ
+lineBytes w = 5 * w + 2
+
+-- The text of a name fills its line: the letter, one number, the text, byte 10.
+abbrev pub textBytes : ℕ → ℕ
+textBytes w = 4 * w
