@@ -15,6 +15,11 @@ abbrev pub pick {ℓ} : {A : Type ℓ} → Bool → A → A → A
 pick true a b = a
 pick false a b = b
 
+-- the same, for a chain of tests: what follows the first that holds
+infixr 5 _⇒_∥_
+abbrev pub _⇒_∥_ {ℓ} : {A : Type ℓ} → Bool → A → A → A
+_⇒_∥_ = pick
+
 -- a decimal digit, 48 to 57
 abbrev pub digit : ℕ → Bool
 digit d = leb 48 d && leb d 57

@@ -1,0 +1,11 @@
+pub mod Cty
+pub mod Decl
+pub mod Erasure
+pub mod Reach
+pub mod Layout
+pub mod Resolve
+pub mod Run
+pub mod Program
+pub mod Rows
+pub mod Output
+pub mod Answer
