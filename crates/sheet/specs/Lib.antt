@@ -1,3 +1,4 @@
 pub mod Format
 pub mod Line
 pub mod Sheet
+pub mod FirstLaws
