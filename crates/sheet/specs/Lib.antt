@@ -2,3 +2,5 @@ pub mod Format
 pub mod Line
 pub mod Sheet
 pub mod FirstLaws
+pub mod LineLaws
+pub mod SheetLaws
