@@ -19,9 +19,9 @@ use Rattle.sheet.specs.Line.{Line, named, row, bad, graphic, spelling, s
 
 -- ---- a line that fits
 -- every byte is one of a name's text
-unfoldable pub graphics : List ℕ → Bool
-graphics [] = true
-graphics (b ∷ t) = graphic b && graphics t
+abbrev pub Graphic : List ℕ → Type 0
+Graphic [] = Unit {0}
+Graphic (b ∷ t) = (33 ≤ b) × (b ≤ 126) × Graphic t
 
 -- every number is below m
 abbrev pub AllBelow : ℕ → List ℕ → Type 0
@@ -30,7 +30,7 @@ AllBelow m (n ∷ ns) = (n < m) × AllBelow m ns
 
 -- The numbers fit their w columns and a name's text its part of the line; the letter is one of a line with five numbers.
 abbrev pub Fits : ℕ → Line → Type 0
-Fits w (named n t) = (n < 10 ^ w) × (0 < length t) × (length t ≤ textBytes w) × (graphics t ≡ true)
+Fits w (named n t) = (n < 10 ^ w) × (0 < length t) × (length t ≤ textBytes w) × (Graphic t)
 Fits w (row x ns) = (lettered x ≡ true) × (length ns ≡ 5) × AllBelow (10 ^ w) ns
 Fits w bad = ⊥
 
@@ -52,14 +52,14 @@ value-of (Value n) e = refl
 value-of Bad e = false-true e
 
 -- ---- names
-spelling-graphic : (t : List ℕ) → graphics (spelling t) ≡ true
-unfolding spelling graphics
-spelling-graphic [] = refl
+spelling-graphic : (t : List ℕ) → Graphic (spelling t)
+unfolding spelling
+spelling-graphic [] = tt
 spelling-graphic (b ∷ t) = go (graphic b) refl (spelling-graphic t)
   where
-    go : (c : Bool) → graphic b ≡ c → graphics (spelling t) ≡ true → graphics (pick c (b ∷ spelling t) []) ≡ true
-    go true e h = rw e h
-    go false e h = refl
+    go : (c : Bool) → graphic b ≡ c → Graphic (spelling t) → Graphic (pick c (b ∷ spelling t) [])
+    go true e h = let k = both (leb 33 b) (leb b 126) e in (leb-true 33 b (k .0), leb-true b 126 (k .1), h)
+    go false e h = tt
 
 -- the text is its spelling and what comes after
 spelling-split : (t : List ℕ) → spelling t ++ drop (length (spelling t)) t ≡ t
@@ -88,18 +88,16 @@ unfolding spelling
 spelling-spaces zero = refl
 spelling-spaces (suc n) = refl
 
-spelling-append : (t s : List ℕ) → graphics t ≡ true → spelling s ≡ [] → spelling (t ++ s) ≡ t
-unfolding spelling graphics
+spelling-append : (t s : List ℕ) → Graphic t → spelling s ≡ [] → spelling (t ++ s) ≡ t
+unfolding spelling
 spelling-append [] s g e = e
-spelling-append (b ∷ t) s g e =
-    let k = both (graphic b) (graphics t) g in
-    rw (k .0) (ap (λ (u : List ℕ). b ∷ u) (spelling-append t s (k .1) e))
+spelling-append (b ∷ t) s g e = rw (le-leb 33 b (g .0), le-leb b 126 (g .1)) (ap (λ (u : List ℕ). b ∷ u) (spelling-append t s (g .2) e))
 
-spelling-padded : (n : ℕ) (t : List ℕ) → graphics t ≡ true → spelling (padded n t) ≡ t
+spelling-padded : (n : ℕ) (t : List ℕ) → Graphic t → spelling (padded n t) ≡ t
 unfolding padded
 spelling-padded n t g = spelling-append t (replicate (n - length t) 32) g (spelling-spaces (n - length t))
 
-proper-padded : (n : ℕ) (t : List ℕ) → 0 < length t → graphics t ≡ true → proper (padded n t) ≡ true
+proper-padded : (n : ℕ) (t : List ℕ) → 0 < length t → Graphic t → proper (padded n t) ≡ true
 unfolding proper padded
 proper-padded n t h g =
     let e : spelling (t ++ replicate (n - length t) 32) ≡ t = spelling-append t (replicate (n - length t) 32) g (spelling-spaces (n - length t)) in

@@ -136,7 +136,7 @@ within-count w b i h = le-trans (mul-le-mul-left (lineBytes w) h) (mul-div-le (l
 pub past-count : (w : ℕ) (b : List ℕ) (i : ℕ) → count w b ≤ i → length b < lineBytes w * suc i
 past-count w b i h =
     let k : count w b < suc i = omega arith in
-    rw mul-comm (div-lt-iff-lt-mul {k = lineBytes w} {x = length b} {y = suc i} (omega arith) .0 k)
+    rw (mul-comm (lineBytes w) (suc i)) (div-lt-iff-lt-mul {k = lineBytes w} {x = length b} {y = suc i} (omega arith) .0 k)
 
 pub lineAt-length : (w : ℕ) (b : List ℕ) (i : ℕ) → i < count w b → length (lineAt w b i) ≡ lineBytes w
 unfolding lineAt
