@@ -45,6 +45,6 @@ pub fn line_at(out: &mut [u8], i: usize, line: &[u8])
     requires { ⌜ (32 * suc i ≤ length (now out)) × (length (now line) ≡ 32) ⌝ }
     ensures { λ _. ⌜ now (out .exit) ≡ putAt 6 (now (out .entry)) i (now (line .entry)) ⌝ }
 {
-    let at = i * 32;
-    copy_line(&mut out[at..at + 32], line);
+    let start = i * 32;
+    copy_line(&mut out[start..start + 32], line);
 }
