@@ -30,7 +30,7 @@ AllBelow m (n ∷ ns) = (n < m) × AllBelow m ns
 
 -- The numbers fit their w columns and a name's text its part of the line; the letter is one of a line with five numbers.
 abbrev pub Fits : ℕ → Line → Type 0
-Fits w (named n t) = (n < 10 ^ w) × (0 < length t) × (length t ≤ textBytes w) × (Graphic t)
+Fits w (named n t) = (n < 10 ^ w) × (0 < length t) × (length t ≤ textBytes w) × Graphic t
 Fits w (row x ns) = (lettered x ≡ true) × (length ns ≡ 5) × AllBelow (10 ^ w) ns
 Fits w bad = ⊥
 

@@ -191,6 +191,11 @@ pub encodes-lines-row2 : (w : ℕ) (b : List ℕ) → length b % lineBytes w ≡
 unfolding row2
 encodes-lines-row2 w b h e = encodes-lines w b h (none-first (λ i. isBad (line w b i)) (count w b) e)
 
+-- a line that is not bad is encoded as its bytes
+pub encode-line : (w : ℕ) (b : List ℕ) (i : ℕ) → i < count w b → isBad (line w b i) ≡ false → encode w (line w b i) ≡ lineAt w b i
+unfolding line
+encode-line w b i h g = encode-decode w (lineAt w b i) (lineAt-length w b i h) g
+
 -- what is read fits
 fit-linesFrom : (w : ℕ) (b : List ℕ) (i n : ℕ) → ((k : ℕ) → i ≤ k → k < i + n → isBad (line w b k) ≡ false) → AllFit w (linesFrom w b i n)
 unfolding linesFrom line

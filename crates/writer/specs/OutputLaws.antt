@@ -1,21 +1,21 @@
 -- What an output holds while its parts are written one after the other, for parts of any length, and for lines of any number of columns.
 -- Assumes nothing.
-use mathlib.Core.Path.{_≡_, refl, ap, _∙_}
+use mathlib.Core.Path.{_≡_, refl, ap, sym, _∙_}
 use mathlib.Core.List.{List, [], _∷_, _++_, append-assoc, append-nil}
 use Prim.Native.Nat.{ℕ, suc, _+_, _*_, _-_, _≤_, _<_}
 use native.Mathlib.Omega.{arith}
 use native.Mathlib.Numerals.{add-one}
-use native.Mathlib.Nat.{mul-suc}
-use lib.ListN.{length, take, drop, getD, set, length-append, length-take, length-drop}
+use native.Mathlib.Nat.{mul-suc, mul-div-right}
+use lib.ListN.{length, take, drop, getD, set, length-append, length-take, length-drop, take-append-drop}
 use lib.Seq.{take-at, drop-at, drop-drop, set-at, drop-cons, take-suc, take-all, drop-append-add, length-take-le}
 use borrow.Rule.Slice.PartMut.{putMid, midOf, post-is}
 use Rattle.columns.specs.Column.{write}
 use Rattle.columns.specs.ColumnLaws.{write-length}
 use Rattle.sheet.specs.Format.{lineBytes}
-use Rattle.sheet.specs.Line.{Line, row, writes, encode}
-use Rattle.sheet.specs.LineLaws.{encode-length, length-writes}
-use Rattle.sheet.specs.Sheet.{encodes}
-use Rattle.sheet.specs.SheetLaws.{AllFit, encodes-append, encodes-one}
+use Rattle.sheet.specs.Line.{Line, row, writes, decode, encode}
+use Rattle.sheet.specs.LineLaws.{Fits, decode-encode, encode-length, length-writes}
+use Rattle.sheet.specs.Sheet.{encodes, lines, count}
+use Rattle.sheet.specs.SheetLaws.{AllFit, encodes-append, encodes-one, within-count, length-lines, lines-cons, lines-append}
 use Rattle.writer.specs.Output.{putAt, puts}
 
 -- ---- a run of parts
@@ -49,6 +49,27 @@ part-put w out q i a e h g =
 pub length-put : (w : ℕ) (out q : List ℕ) (i : ℕ) → lineBytes w * suc i ≤ length out → length q ≡ lineBytes w → length (putAt w out i q) ≡ length out
 unfolding putAt
 length-put w out q i h k = simp (length-append, length-take, length-drop, k) (omega (arith, mul-suc (lineBytes w) i))
+
+-- The lines are as they were, but for line i, which is what q decodes to.
+pub lines-put : (w : ℕ) (out q : List ℕ) (i : ℕ) → i < count w out → length q ≡ lineBytes w → lines w (putAt w out i q) ≡ set (lines w out) i (decode w q)
+unfolding putAt
+lines-put w out q i h k =
+    let L = lineBytes w in
+    let n : L * suc i ≤ length out = within-count w out i h in
+    let m : L * suc i ≡ L * i + L = mul-suc L i in
+    let p = take (L * i) out in
+    let y = take L (drop (L * i) out) in
+    let r = drop (L * suc i) out in
+    let lp : length p ≡ L * i = length-take-le (L * i) out (omega arith) in
+    let ly : length y ≡ L = length-take-le L (drop (L * i) out) (rw length-drop (omega arith)) in
+    let c : length (lines w p) ≡ i = length-lines w p ∙ rw lp (mul-div-right i {m = L} (omega arith)) in
+    let e : y ++ r ≡ drop (L * i) out = rw (m, ← drop-drop L (L * i) out) (take-append-drop L (drop (L * i) out)) in
+    let o : lines w out ≡ lines w p ++ (decode w y ∷ lines w r) =
+    ap (lines w) (sym (take-append-drop (L * i) out)) ∙ lines-append w i p (drop (L * i) out) lp ∙ ap (λ (s : List ℕ). lines w p ++ lines w s) (sym e) ∙ ap (λ (ls : List Line). lines w p ++ ls) (lines-cons w y r ly) in
+    lines-append w i p (q ++ r) lp ∙ ap (λ (ls : List Line). lines w p ++ ls) (lines-cons w q r k) ∙ rw o (sym (set-at (lines w p) (decode w y) (lines w r) (decode w q) i c))
+
+pub lines-put-encode : (w : ℕ) (out : List ℕ) (i : ℕ) (l : Line) → 0 < w → i < count w out → Fits w l → lines w (putAt w out i (encode w l)) ≡ set (lines w out) i l
+lines-put-encode w out i l z h f = lines-put w out (encode w l) i h (encode-length w l f) ∙ rw (decode-encode w l z f)
 
 -- a line more of a run that is written in order
 pub put-more : (w n : ℕ) (out p q d : List ℕ) → out ≡ p ++ drop (lineBytes w * n) d → length p ≡ lineBytes w * n → putAt w out n q ≡ (p ++ q) ++ drop (lineBytes w * suc n) d
