@@ -9,3 +9,6 @@ pub mod Program
 pub mod Rows
 pub mod Output
 pub mod Answer
+pub mod Names
+pub mod Cut
+pub mod CutLaws
