@@ -42,7 +42,7 @@ module _ (f : Format) (v l : ℕ) (Split : List ℕ → List ℕ → Type 0) (st
   chain (u' ∷ us) p s u h e =
       go
       (λ (x : Sheets) (k : build f v l (x .verdict ++ u') ≡ build f v l ((p ++ u) ++ u')).
-        chain us (p ++ u) (x .verdict) u' (split-cons p u (u' ∷ us) h) k)
+      chain us (p ++ u) (x .verdict) u' (split-cons p u (u' ∷ us) h) k)
       (build f v l (s ++ u))
       refl
     where
@@ -54,7 +54,7 @@ module _ (f : Format) (v l : ℕ) (Split : List ℕ → List ℕ → Type 0) (st
       go ih none q =
           let r : build f v l (p ++ u) ≡ none = sym e ∙ q in
           let hs : Split (p ++ u) (u' ++ join us) =
-              rw append-nil at (split-cons p u (u' ∷ us) h [] (u' ∷ us) [] (ap (λ (t : List (List ℕ)). u' ∷ t) (sym (append-nil us)))) in
+          rw append-nil at (split-cons p u (u' ∷ us) h [] (u' ∷ us) [] (ap (λ (t : List (List ℕ)). u' ∷ t) (sym (append-nil us)))) in
           sym (ap (build f v l) (sym (append-assoc p u (u' ++ join us))) ∙ refused-whole (p ++ u) (u' ++ join us) hs r)
       go ih (some x) q =
           let r : build f v l (p ++ u) ≡ some x = sym e ∙ q in

@@ -12,3 +12,4 @@ pub mod Answer
 pub mod Names
 pub mod Cut
 pub mod CutLaws
+pub mod AnswerLaws
