@@ -1,6 +1,7 @@
 pub mod Cty
 pub mod Decl
 pub mod Erasure
+pub mod RoundsLaws
 pub mod Names
 pub mod NamesLaws
 pub mod Reach
