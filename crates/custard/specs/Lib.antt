@@ -6,6 +6,7 @@ pub mod Names
 pub mod NamesLaws
 pub mod Reach
 pub mod Layout
+pub mod ErasureLaws
 pub mod Resolve
 pub mod Run
 pub mod Program
