@@ -1,7 +1,10 @@
 pub mod Cty
 pub mod Decl
 pub mod Erasure
+pub mod Names
+pub mod NamesLaws
 pub mod Reach
+pub mod ReachLaws
 pub mod Layout
 pub mod Resolve
 pub mod Run
