@@ -8,6 +8,7 @@ pub mod ReachLaws
 pub mod Layout
 pub mod Resolve
 pub mod Run
+pub mod LayoutLaws
 pub mod Program
 pub mod Rows
 pub mod Output
