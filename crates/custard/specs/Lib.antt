@@ -5,15 +5,16 @@ pub mod RoundsLaws
 pub mod Names
 pub mod NamesLaws
 pub mod Reach
+pub mod ReachLaws
 pub mod Layout
 pub mod ErasureLaws
 pub mod Resolve
 pub mod Run
+pub mod LayoutLaws
 pub mod Program
 pub mod Rows
 pub mod Output
 pub mod Answer
-pub mod Names
 pub mod Cut
 pub mod CutLaws
 pub mod AnswerLaws
