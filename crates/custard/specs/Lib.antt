@@ -18,3 +18,5 @@ pub mod Answer
 pub mod Cut
 pub mod CutLaws
 pub mod AnswerLaws
+pub mod CtyLaws
+pub mod ResolveLaws
