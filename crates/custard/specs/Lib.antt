@@ -20,3 +20,5 @@ pub mod CutLaws
 pub mod AnswerLaws
 pub mod CtyLaws
 pub mod ResolveLaws
+pub mod RunLaws
+pub mod OwnLaws
