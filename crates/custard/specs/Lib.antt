@@ -22,3 +22,4 @@ pub mod CtyLaws
 pub mod ResolveLaws
 pub mod RunLaws
 pub mod OwnLaws
+pub mod Locality
