@@ -7,7 +7,7 @@ use mathlib.Core.Bool.{Bool, true, false, _&&_, _||_, not}
 use mathlib.Core.Option.{Option, none, some}
 use Prim.Native.Nat.{ℕ, zero, suc, _+_, _≤_, _<_}
 use native.Mathlib.Omega.{arith}
-use lib.Dec.{T, ltb, lt→ltb, ltb→lt}
+use lib.Dec.{T, ltb, lt→ltb, ltb→lt, nltb→le}
 use lib.ListN.{length, getD, List·getD-eq-default}
 use lib.Seq.{ext-getD}
 use Rattle.columns.specs.Column.{pick}
@@ -70,6 +70,16 @@ use Rattle.custard.specs.Names.{fields-names, ctors-names, body-names, d
 use Rattle.custard.specs.NamesLaws.{position-le, position-name, position-same, agree-sym}
 use Rattle.custard.specs.Reach.{Reach, one, more, cyclic}
 use Rattle.custard.specs.ReachLaws.{true-false, reach-loop, reach-stays, cyclic-iff}
+
+-- ---- tests
+-- two tests that hold alike are equal
+pub same-test : (a b : Bool) → (a ≡ true → b ≡ true) → (b ≡ true → a ≡ true) → a ≡ b
+same-test true b f g = sym (f refl)
+same-test false true f g = g refl
+same-test false false f g = refl
+
+pub ltb-false : (m n : ℕ) → ltb m n ≡ false → n ≤ m
+ltb-false m n e = nltb→le m n (rw e tt)
 
 -- ---- tables
 pub length-table : {A : Type 0} (f : ℕ → A) (n : ℕ) → length (table f n) ≡ n
@@ -338,3 +348,355 @@ pub candidate-next : (ds : List Decl) (s : List Bool) (i : ℕ)
 unfolding guard-next payload-names
 candidate-next ds s i h o nt c =
     rw (getD-candidates ds (marked ds s) s i none h, o, candidate-iff (marked ds s) (dtype-at ds i) (getD s i false) nt .1 c)
+
+-- ---- what the constructor layouts depend on
+-- Two predicates that agree on the names of a type find it erased alike.
+module _ (er er' : ℕ → Bool) where
+  mutual
+    unfolding cty-erased names-of-cty gather
+
+    pub cty-erased-cong : (c : Cty) → ((n : ℕ) → List·Memᴰ n (names-of-cty c) → er n ≡ er' n) → cty-erased er c ≡ cty-erased er' c
+    cty-erased-cong TUnit h = refl
+    cty-erased-cong TAny h = refl
+    cty-erased-cong TExn h = refl
+    cty-erased-cong (TVar v) h = refl
+    cty-erased-cong (TInt s w) h = refl
+    cty-erased-cong (TFloat f) h = refl
+    cty-erased-cong (TConst c) h = refl
+    cty-erased-cong (TArrow a e r) h = ap (λ (b : Bool). is-pure e && b) (cty-erased-cong r (λ n m. h n (Memᴰ·append-right (names-of-cty a) m)))
+    cty-erased-cong (TApp n ts) h = h n (List·Memᴰ·head refl)
+    cty-erased-cong (TTuple ts) h = ctys-erased-cong ts h
+    cty-erased-cong (TBuf t) h = refl
+    cty-erased-cong (TRef k t) h = refl
+    cty-erased-cong (TInline t) h = cty-erased-cong t h
+
+    pub ctys-erased-cong : (ts : Ctys) → ((n : ℕ) → List·Memᴰ n (gathers (λ v. []) (λ k. k ∷ []) ts) → er n ≡ er' n) → ctys-erased er ts ≡ ctys-erased er' ts
+    ctys-erased-cong nil h = refl
+    ctys-erased-cong (cons t ts) h =
+        ap₂ _&&_ (cty-erased-cong t (λ n m. h n (Memᴰ·append-left (gathers (λ v. []) (λ k. k ∷ []) ts) m))) (ctys-erased-cong ts (λ n m. h n (Memᴰ·append-right (names-of-cty t) m)))
+
+  pub slots-cong : (fs : List Field) → ((n : ℕ) → List·Memᴰ n (fields-names fs) → er n ≡ er' n) → slots er fs ≡ slots er' fs
+  unfolding slots fields-names
+  slots-cong [] h = refl
+  slots-cong (f ∷ fs) h =
+      ap₂ _∷_ (ap not (cty-erased-cong (f .fd-type) (λ n m. h n (Memᴰ·append-left (fields-names fs) m)))) (slots-cong fs (λ n m. h n (Memᴰ·append-right (names-of-cty (f .fd-type)) m)))
+
+  -- Two predicates that agree on a declaration's names give it the same constructor layouts.
+  pub ctor-layouts-cong : (d : Dtype) → ((n : ℕ) → List·Memᴰ n (dtype-names d) → er n ≡ er' n) → ctor-layouts er d ≡ ctor-layouts er' d
+  unfolding ctor-layouts ctors-of dtype-names body-names ctors-names
+  ctor-layouts-cong d h = by (d .dt-body) h
+    where
+      some-ctors : (cs : List Ctor)
+          → ((n : ℕ) → List·Memᴰ n (ctors-names cs) → er n ≡ er' n)
+          → map (λ c. ctor-layout c (slots er (c .ct-fields))) cs ≡ map (λ c. ctor-layout c (slots er' (c .ct-fields))) cs
+      some-ctors [] k = refl
+      some-ctors (c ∷ cs) k =
+          ap₂ _∷_ (ap (ctor-layout c) (slots-cong (c .ct-fields) (λ n m. k n (Memᴰ·append-left (ctors-names cs) m)))) (some-ctors cs (λ n m. k n (Memᴰ·append-right (fields-names (c .ct-fields)) m)))
+
+      by : (b : Body)
+          → ((n : ℕ) → List·Memᴰ n (body-names b) → er n ≡ er' n)
+          → map (λ c. ctor-layout c (slots er (c .ct-fields))) (ctors-of (d .dt-name) b) ≡ map (λ c. ctor-layout c (slots er' (c .ct-fields))) (ctors-of (d .dt-name) b)
+      by TAbstract k = refl
+      by (TAbbrev c) k = refl
+      by (TRecord fs) k = ap (λ (l : List Bool). ctor-layout (record { ct-name = d .dt-name; ct-fields = fs }) l ∷ []) (slots-cong fs k)
+      by (TVariant cs) k = some-ctors cs k
+
+-- ---- names of a payload
+pub uninline-names : (c : Cty) → names-of-cty (uninline c) ≡ names-of-cty c
+unfolding uninline names-of-cty gather
+uninline-names TUnit = refl
+uninline-names TAny = refl
+uninline-names TExn = refl
+uninline-names (TVar v) = refl
+uninline-names (TInt s w) = refl
+uninline-names (TFloat f) = refl
+uninline-names (TConst c) = refl
+uninline-names (TArrow a e b) = refl
+uninline-names (TApp n ts) = refl
+uninline-names (TTuple ts) = refl
+uninline-names (TBuf t) = refl
+uninline-names (TRef k t) = refl
+uninline-names (TInline t) = refl
+
+-- the kept fields name nothing that the fields do not
+pub kept-names : (bs : List Bool) (fs : List Field) (n : ℕ) → List·Memᴰ n (fields-names (kept bs fs)) → List·Memᴰ n (fields-names fs)
+unfolding kept fields-names
+kept-names [] fs n m = absurd (List·Memᴰ·not-nil m)
+kept-names (b ∷ bs) [] n m = absurd (List·Memᴰ·not-nil m)
+kept-names (true ∷ bs) (f ∷ fs) n m =
+    ⊎-elim (λ u. Memᴰ·append-left (fields-names fs) u) (λ u. Memᴰ·append-right (names-of-cty (f .fd-type)) (kept-names bs fs n u)) (List·Memᴰ·append-cases (names-of-cty (f .fd-type)) m)
+kept-names (false ∷ bs) (f ∷ fs) n m = Memᴰ·append-right (names-of-cty (f .fd-type)) (kept-names bs fs n m)
+
+-- nor does a constructor name anything that its declaration does not
+ctor-names : (k : ℕ) (b : Body) (c : Ctor) (n : ℕ) → ctors-of k b ≡ c ∷ [] → List·Memᴰ n (fields-names (c .ct-fields)) → List·Memᴰ n (body-names b)
+unfolding ctors-of body-names ctors-names
+ctor-names k TAbstract c n e m = let y : _≡_ {A = ℕ} 0 1 = cc in absurd (omega arith)
+ctor-names k (TAbbrev t) c n e m = let y : _≡_ {A = ℕ} 0 1 = cc in absurd (omega arith)
+ctor-names k (TRecord fs) c n e m = let y : record { ct-name = k; ct-fields = fs } ≡ c = cc in rw (← y) at m
+ctor-names k (TVariant cs) c n e m = rw e (Memᴰ·append-left [] m)
+
+-- A candidate's payload names nothing that its declaration does not.
+pub payload-named : (er : ℕ → Bool) (d : Dtype) (e : Bool) (nt : NewtypeLayout) → Candidate er d e nt → (n : ℕ) → List·Memᴰ n (names-of-cty (nt .nt-ty)) → List·Memᴰ n (dtype-names d)
+unfolding dtype-names fields-names
+payload-named er d e nt k n m =
+    let q : List·Memᴰ n (names-of-cty (k .field .fd-type)) = rw (k .made, uninline-names) at m in
+    let r : List·Memᴰ n (fields-names (kept (slots er (k .ctor .ct-fields)) (k .ctor .ct-fields))) = rw (k .one-kept) (Memᴰ·append-left [] q) in
+    ctor-names (d .dt-name) (d .dt-body) (k .ctor) n (k .one-ctor) (kept-names (slots er (k .ctor .ct-fields)) (k .ctor .ct-fields) n r)
+
+-- an entry of the table of candidates is a local declaration that is one
+pub record CandidateAt (ds : List Decl) (er : ℕ → Bool) (s : List Bool) (i : ℕ) (nt : NewtypeLayout) : Type 0 where
+  pub below : i < length ds
+  pub local : origin-at ds i ≡ here
+  pub candidate : Candidate er (dtype-at ds i) (getD s i false) nt
+
+pub candidate-entry : (ds : List Decl) (er : ℕ → Bool) (s : List Bool) (i : ℕ) (nt : NewtypeLayout) → getD (candidates ds er s) i none ≡ some (L-newtype nt) → CandidateAt ds er s i nt
+unfolding candidate
+candidate-entry ds er s i nt e = by (ltb i (length ds)) refl
+  where
+    on : i < length ds → (o : Origin) → origin-at ds i ≡ o → candidate (dtype-at ds i) o (getD s i false) (ctor-layouts er (dtype-at ds i)) ≡ some (L-newtype nt) → CandidateAt ds er s i nt
+    on h here u z = record { below = h; local = u; candidate = candidate-iff er (dtype-at ds i) (getD s i false) nt .0 z }
+    on h (imported ti) u z = let y : _≡_ {A = ℕ} 0 1 = cc in absurd (omega arith)
+
+    by : (b : Bool) → ltb i (length ds) ≡ b → CandidateAt ds er s i nt
+    by true u = let h : i < length ds = ltb→lt i (length ds) (rw u tt) in on h (origin-at ds i) refl (sym (getD-candidates ds er s i none h) ∙ e)
+    by false u =
+        let z : getD (candidates ds er s) i none ≡ none = getD-candidates-past ds er s i none (ltb-false i (length ds) u) in
+        let y : _≡_ {A = ℕ} 0 1 = cc in
+        absurd (omega arith)
+
+-- A step of the guard leads from a declaration to the place of a name in it.
+pub guard-named : (ds : List Decl) (er : ℕ → Bool) (s : List Bool) (a b : ℕ) → List·Memᴰ b (guard-next ds (candidates ds er s) a) → Placed ds (dtype-names (dtype-at ds a)) b
+guard-named ds er s a b m =
+    let p : Step ds (candidates ds er s) a b = guard-step ds (candidates ds er s) a b m in
+    let k : CandidateAt ds er s a (p .newtype) = candidate-entry ds er s a (p .newtype) (p .is-candidate) in
+    record {
+      name = p .place .name;
+      named = payload-named er (dtype-at ds a) (getD s a false) (p .newtype) (k .candidate) (p .place .name) (p .place .named);
+      placed = p .place .placed;
+      below = p .place .below;
+    }
+
+-- and starts among the declarations
+pub guard-from : (ds : List Decl) (er : ℕ → Bool) (s : List Bool) (a b : ℕ) → List·Memᴰ b (guard-next ds (candidates ds er s) a) → a < length ds
+guard-from ds er s a b m =
+    let p : Step ds (candidates ds er s) a b = guard-step ds (candidates ds er s) a b m in
+    candidate-entry ds er s a (p .newtype) (p .is-candidate) .below
+
+-- ---- programs that agree
+-- i and j are the places of one name of S in the two programs
+pub record Places (S : ℕ → Bool) (ds ds' : List Decl) (i j : ℕ) : Type 0 where
+  pub name : ℕ
+  pub member : S name ≡ true
+  pub declared : Declared ds name
+  pub first : position ds name ≡ i
+  pub second : position ds' name ≡ j
+
+-- there is one such place j for i
+pub places-only : (S : ℕ → Bool) (ds ds' : List Decl) (i j k : ℕ) → Places S ds ds' i j → Places S ds ds' i k → k ≡ j
+places-only S ds ds' i j k p q =
+    let e : q .name ≡ p .name =
+    sym (position-name ds (q .name) (q .declared)) ∙ rw (q .first, ← (p .first)) (position-name ds (p .name) (p .declared)) in
+    sym (q .second) ∙ rw e (p .second)
+
+-- Two programs that agree on S, with marks that agree on S.
+pub record Alike (S : ℕ → Bool) (ds ds' : List Decl) (s s' : List Bool) : Type 0 where
+  pub agree : Agree S ds ds'
+  pub marks : (n : ℕ) → S n ≡ true → marked ds s n ≡ marked ds' s' n
+
+pub alike-sym : (S : ℕ → Bool) (ds ds' : List Decl) (s s' : List Bool) → Alike S ds ds' s s' → Alike S ds' ds s' s
+alike-sym S ds ds' s s' a = record { agree = agree-sym S ds ds' (a .agree); marks = λ n h. sym (a .marks n h) }
+
+module _ (S : ℕ → Bool) (ds ds' : List Decl) (s s' : List Bool) (a : Alike S ds ds' s s') where
+  pub mark-same : (n : ℕ) → S n ≡ true → getD s (position ds n) false ≡ getD s' (position ds' n) false
+  unfolding marked
+  mark-same n h = a .marks n h
+
+  -- the same constructor layouts,
+  pub ctor-layouts-same : (n : ℕ) → S n ≡ true → Declared ds n
+      → ctor-layouts (marked ds s) (dtype-at ds (position ds n)) ≡ ctor-layouts (marked ds' s') (dtype-at ds' (position ds' n))
+  ctor-layouts-same n h d =
+      ctor-layouts-cong (marked ds s) (marked ds' s') (dtype-at ds (position ds n)) (λ m k. a .marks m (a .agree .closed n h d m k)) ∙ rw (a .agree .same-dtype n h d)
+
+  candidate-cong : (n : ℕ) → S n ≡ true → Declared ds n → candidate-at ds (marked ds s) s (position ds n) ≡ candidate-at ds' (marked ds' s') s' (position ds' n)
+  candidate-cong n h d = rw (ctor-layouts-same n h d, a .agree .same-dtype n h d, a .agree .same-origin n h d, mark-same n h)
+
+  -- the same candidates,
+  pub candidate-same : (n : ℕ) → S n ≡ true → Declared ds n
+      → getD (candidates-of ds s) (position ds n) none ≡ getD (candidates-of ds' s') (position ds' n) none
+  candidate-same n h d =
+      getD-candidates ds (marked ds s) s (position ds n) none d
+      ∙ candidate-cong n h d
+      ∙ sym (getD-candidates ds' (marked ds' s') s' (position ds' n) none (a .agree .declared n h .0 d))
+
+  guard-match : (i i' j : ℕ) → Places S ds ds' i i' → List·Memᴰ j (guard-next ds (candidates-of ds s) i) → (j' : ℕ) × List·Memᴰ j' (guard-next ds' (candidates-of ds' s') i') × Places S ds ds' j j'
+  guard-match i i' j p m =
+      let q : Step ds (candidates-of ds s) i j = guard-step ds (candidates-of ds s) i j m in
+      let k : CandidateAt ds (marked ds s) s i (q .newtype) = candidate-entry ds (marked ds s) s i (q .newtype) (q .is-candidate) in
+      let n : ℕ = q .place .name in
+      let named : List·Memᴰ n (dtype-names (dtype-at ds i)) = payload-named (marked ds s) (dtype-at ds i) (getD s i false) (q .newtype) (k .candidate) n (q .place .named) in
+      let inside : S n ≡ true = a .agree .closed (p .name) (p .member) (p .declared) n (rw (p .first) named) in
+      let decl : Declared ds n = rw (q .place .placed) (q .place .below) in
+      let decl' : Declared ds' n = a .agree .declared n inside .0 decl in
+      let cand : getD (candidates-of ds' s') i' none ≡ some (L-newtype (q .newtype)) =
+      rw (← (p .second)) (sym (candidate-same (p .name) (p .member) (p .declared)) ∙ rw (p .first) (q .is-candidate)) in
+      let step : Step ds' (candidates-of ds' s') i' (position ds' n) =
+      record { newtype = q .newtype; is-candidate = cand; place = record { name = n; named = q .place .named; placed = refl; below = decl' } } in
+      (position ds' n, step-guard ds' (candidates-of ds' s') i' (position ds' n) step, record { name = n; member = inside; declared = decl; first = q .place .placed; second = refl })
+
+  loop-same : (n : ℕ) → S n ≡ true → Declared ds n → dropped ds (candidates-of ds s) (position ds n) ≡ true → dropped ds' (candidates-of ds' s') (position ds' n) ≡ true
+  loop-same n h d e =
+      let p : Places S ds ds' (position ds n) (position ds' n) = record { name = n; member = h; declared = d; first = refl; second = refl } in
+      dropped-iff ds' (candidates-of ds' s') (position ds' n) .1
+      (reach-loop (guard-next ds (candidates-of ds s)) (guard-next ds' (candidates-of ds' s')) (Places S ds ds') guard-match (position ds n) (position ds' n) p (λ j r. places-only S ds ds' (position ds n) (position ds' n) j p r) (dropped-iff ds (candidates-of ds s) (position ds n) .0 e))
+
+-- the same candidates dropped,
+pub dropped-same : (S : ℕ → Bool) (ds ds' : List Decl) (s s' : List Bool)
+    → Alike S ds ds' s s'
+    → (n : ℕ)
+    → S n ≡ true
+    → Declared ds n
+    → dropped ds (candidates-of ds s) (position ds n) ≡ dropped ds' (candidates-of ds' s') (position ds' n)
+dropped-same S ds ds' s s' a n h d =
+    same-test
+    (dropped ds (candidates-of ds s) (position ds n))
+    (dropped ds' (candidates-of ds' s') (position ds' n))
+    (loop-same S ds ds' s s' a n h d)
+    (loop-same S ds' ds s' s (alike-sym S ds ds' s s' a) n h (a .agree .declared n h .0 d))
+
+-- and the same layouts: two programs that agree on a set of names closed under what is declared there,
+-- and whose marks agree there, give a name of the set the same layout.
+pub layout-same : (S : ℕ → Bool) (ds ds' : List Decl) (s s' : List Bool)
+    → Alike S ds ds' s s'
+    → (n : ℕ)
+    → S n ≡ true
+    → (l : Layout)
+    → getD (compute-layouts ds s) (position ds n) l ≡ getD (compute-layouts ds' s') (position ds' n) l
+layout-same S ds ds' s s' a n h l = by (ltb (position ds n) (length ds)) refl
+  where
+    inner : Declared ds n → layout-at ds s (position ds n) ≡ layout-at ds' s' (position ds' n)
+    inner d =
+        rw (ctor-layouts-same S ds ds' s s' a n h d, candidate-same S ds ds' s s' a n h d, dropped-same S ds ds' s s' a n h d, a .agree .same-dtype n h d, a .agree .same-origin n h d, mark-same S ds ds' s s' a n h)
+
+    by : (b : Bool) → ltb (position ds n) (length ds) ≡ b → getD (compute-layouts ds s) (position ds n) l ≡ getD (compute-layouts ds' s') (position ds' n) l
+    by true u =
+        let d : Declared ds n = ltb→lt (position ds n) (length ds) (rw u tt) in
+        getD-layouts ds s (position ds n) l d ∙ inner d ∙ sym (getD-layouts ds' s' (position ds' n) l (a .agree .declared n h .0 d))
+    by false u =
+        let p : length ds ≤ position ds n = ltb-false (position ds n) (length ds) u in
+        let q : length ds' ≤ position ds' n = foreign (λ d. absurd (omega (arith, a .agree .declared n h .1 d))) in
+        getD-layouts-past ds s (position ds n) l p ∙ sym (getD-layouts-past ds' s' (position ds' n) l q)
+      where
+        foreign : (Declared ds' n → ⊥) → length ds' ≤ position ds' n
+        foreign f = on (ltb (position ds' n) (length ds')) refl
+          where
+            on : (b : Bool) → ltb (position ds' n) (length ds') ≡ b → length ds' ≤ position ds' n
+            on true e = absurd (f (ltb→lt (position ds' n) (length ds') (rw e tt)))
+            on false e = ltb-false (position ds' n) (length ds') e
+
+-- ---- programs with pinned declarations
+-- ds' is ds with the declarations at the places of B pinned to layouts that ds itself gives them, where
+-- a declaration at a place of B names only places of B.
+pub record PinnedLayouts (B : ℕ → Bool) (ds ds' : List Decl) (s : List Bool) : Type 0 where
+  pub same-length : length ds ≡ length ds'
+  pub same-dtypes : (i : ℕ) → i < length ds → dtype-at ds i ≡ dtype-at ds' i
+  pub others : (i : ℕ) → i < length ds → B i ≡ false → origin-at ds i ≡ origin-at ds' i
+  pub pins : (i : ℕ) → i < length ds → B i ≡ true → Pin (λ ti. ti .ti-layout ≡ getD (compute-layouts ds s) i L-opaque) ds' i
+  pub closed : (i j : ℕ) → i < length ds → B i ≡ true → Placed ds (dtype-names (dtype-at ds i)) j → B j ≡ true
+
+module _ (B : ℕ → Bool) (ds ds' : List Decl) (s : List Bool) (p : PinnedLayouts B ds ds' s) where
+  positions-pinned : (ns : List ℕ) → positions ds ns ≡ positions ds' ns
+  unfolding positions
+  positions-pinned [] = refl
+  positions-pinned (n ∷ ns) = rw (position-same ds ds' n (p .same-length) (p .same-dtypes), positions-pinned ns, p .same-length)
+
+  marked-pinned : (n : ℕ) → marked ds s n ≡ marked ds' s n
+  unfolding marked
+  marked-pinned n = rw (position-same ds ds' n (p .same-length) (p .same-dtypes))
+
+  ctor-layouts-pinned : (i : ℕ) → i < length ds → ctor-layouts (marked ds s) (dtype-at ds i) ≡ ctor-layouts (marked ds' s) (dtype-at ds' i)
+  ctor-layouts-pinned i h = ctor-layouts-cong (marked ds s) (marked ds' s) (dtype-at ds i) (λ n m. marked-pinned n) ∙ rw (p .same-dtypes i h)
+
+  -- a place outside B has the same candidate,
+  candidate-other : (i : ℕ) → i < length ds → B i ≡ false → getD (candidates-of ds s) i none ≡ getD (candidates-of ds' s) i none
+  candidate-other i h b =
+      getD-candidates ds (marked ds s) s i none h ∙ inner ∙ sym (getD-candidates ds' (marked ds' s) s i none (rw (p .same-length) at h))
+    where
+      inner : candidate-at ds (marked ds s) s i ≡ candidate-at ds' (marked ds' s) s i
+      inner = rw (ctor-layouts-pinned i h, p .same-dtypes i h, p .others i h b)
+
+  -- and one in B is no candidate any more
+  candidate-pinned : (i : ℕ) → i < length ds → B i ≡ true → getD (candidates-of ds' s) i none ≡ none
+  unfolding candidate
+  candidate-pinned i h b = getD-candidates ds' (marked ds' s) s i none (rw (p .same-length) at h) ∙ rw (p .pins i h b .pinned)
+
+  -- a step of the guard from outside B is one in the other program too,
+  step-to : (a b : ℕ) → B a ≡ false → List·Memᴰ b (guard-next ds (candidates-of ds s) a) → List·Memᴰ b (guard-next ds' (candidates-of ds' s) a)
+  unfolding guard-next payload-names
+  step-to a b e m =
+      let h : a < length ds = guard-from ds (marked ds s) s a b m in
+      let q : Step ds (candidates-of ds s) a b = guard-step ds (candidates-of ds s) a b m in
+      let r : getD (candidates-of ds' s) a none ≡ some (L-newtype (q .newtype)) = sym (candidate-other a h e) ∙ q .is-candidate in
+      rw (r, ← (positions-pinned (names-of-cty (q .newtype .nt-ty)))) (rw (q .is-candidate) at m)
+
+  -- and no step is new
+  step-from : (a b : ℕ) → List·Memᴰ b (guard-next ds' (candidates-of ds' s) a) → List·Memᴰ b (guard-next ds (candidates-of ds s) a)
+  unfolding guard-next payload-names
+  step-from a b m = by (B a) refl
+    where
+      q : Step ds' (candidates-of ds' s) a b
+      q = guard-step ds' (candidates-of ds' s) a b m
+
+      h : a < length ds
+      h = rw (p .same-length) (guard-from ds' (marked ds' s) s a b m)
+
+      by : (x : Bool) → B a ≡ x → List·Memᴰ b (guard-next ds (candidates-of ds s) a)
+      by true e =
+          let z : none ≡ some (L-newtype (q .newtype)) = sym (candidate-pinned a h e) ∙ q .is-candidate in
+          let y : _≡_ {A = ℕ} 0 1 = cc in
+          absurd (omega arith)
+      by false e =
+          let r : getD (candidates-of ds s) a none ≡ some (L-newtype (q .newtype)) = candidate-other a h e ∙ q .is-candidate in
+          rw (r, positions-pinned (names-of-cty (q .newtype .nt-ty))) (rw (q .is-candidate) at m)
+
+  -- B is not left
+  step-inside : (a b : ℕ) → B a ≡ true → List·Memᴰ b (guard-next ds (candidates-of ds s) a) → B b ≡ true
+  step-inside a b e m = p .closed a b (guard-from ds (marked ds s) s a b m) e (guard-named ds (marked ds s) s a b m)
+
+  -- so a walk that ends outside B never was in it
+  walk-to : {a c : ℕ} → B c ≡ false → Reach (guard-next ds (candidates-of ds s)) a c → Reach (guard-next ds' (candidates-of ds' s)) a c
+  walk-to e (one {a} {b} m) = one (step-to a b (by (B a) refl) m)
+    where
+      by : (x : Bool) → B a ≡ x → x ≡ false
+      by true z = true-false (sym (step-inside a b z m) ∙ e)
+      by false z = refl
+  walk-to {c = c} e (more {a} {b} m r) = more (step-to a b (by (B a) refl) m) (walk-to e r)
+    where
+      by : (x : Bool) → B a ≡ x → x ≡ false
+      by true z =
+          true-false (sym (reach-stays (guard-next ds (candidates-of ds s)) (λ (i : ℕ). B i ≡ true) step-inside r (step-inside a b z m)) ∙ e)
+      by false z = refl
+
+  walk-from : {a c : ℕ} → Reach (guard-next ds' (candidates-of ds' s)) a c → Reach (guard-next ds (candidates-of ds s)) a c
+  walk-from (one {a} {b} m) = one (step-from a b m)
+  walk-from (more {a} {b} m r) = more (step-from a b m) (walk-from r)
+
+  dropped-other : (i : ℕ) → B i ≡ false → dropped ds (candidates-of ds s) i ≡ dropped ds' (candidates-of ds' s) i
+  dropped-other i e =
+      same-test
+      (dropped ds (candidates-of ds s) i)
+      (dropped ds' (candidates-of ds' s) i)
+      (λ z. dropped-iff ds' (candidates-of ds' s) i .1 (walk-to e (dropped-iff ds (candidates-of ds s) i .0 z)))
+      (λ z. dropped-iff ds (candidates-of ds s) i .1 (walk-from (dropped-iff ds' (candidates-of ds' s) i .0 z)))
+
+  layout-pinned : (i : ℕ) → i < length ds → layout-at ds s i ≡ layout-at ds' s i
+  unfolding layout-of
+  layout-pinned i h = by (B i) refl
+    where
+      by : (x : Bool) → B i ≡ x → layout-at ds s i ≡ layout-at ds' s i
+      by true e = sym (getD-layouts ds s i L-opaque h) ∙ sym (p .pins i h e .holds) ∙ rw (p .pins i h e .pinned)
+      by false e = rw (ctor-layouts-pinned i h, candidate-other i h e, dropped-other i e, p .same-dtypes i h, p .others i h e)
+
+  -- Pinning a closed part of a program to the layouts that the program gives it changes no layout.
+  pub pinned-layouts : compute-layouts ds s ≡ compute-layouts ds' s
+  unfolding compute-layouts
+  pinned-layouts = rw (← (p .same-length)) (table-cong (layout-at ds s) (layout-at ds' s) (length ds) layout-pinned)
