@@ -108,8 +108,9 @@ module _ (X P : ℕ → Type 0) where
     Eachs nil = Unit {0}
     Eachs (cons t ts) = Each t × Eachs ts
 
-abbrev pub Any : ℕ → Type 0
-Any v = Unit {0}
+-- no property at all
+abbrev pub Any : {A : Type 0} → A → Type 0
+Any x = Unit {0}
 
 -- P of each name of a type
 abbrev pub All : (ℕ → Type 0) → Cty → Type 0
