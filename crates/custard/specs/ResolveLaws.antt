@@ -811,6 +811,12 @@ pub types-unspent : (limit : ℕ) (lay : ℕ → Unfold) (rank : ℕ → ℕ) �
 types-unspent limit lay rank ranked k cs h =
     every-map (All (Under lay rank k)) (λ c. Unspent (resolve-checked limit lay (suc k) c)) (λ c u. checked-unspent lay rank ranked limit k c u) cs h
 
+-- and more of it gives the same code
+pub fault-code-more : (limit : ℕ) (lay : ℕ → Unfold) (rank : ℕ → ℕ) → Ranked lay rank → (k m : ℕ) → k ≤ m → (cs : List Cty) → Every (All (Under lay rank k)) cs → fault-code (resolve-checked limit lay (suc k)) cs ≡ fault-code (resolve-checked limit lay (suc m)) cs
+fault-code-more limit lay rank ranked k m q cs h =
+    fault-code-cong (resolve-checked limit lay (suc k)) (resolve-checked limit lay (suc m)) cs
+    (every-map (All (Under lay rank k)) (λ c. resolve-checked limit lay (suc k) c ≡ resolve-checked limit lay (suc m) c) (λ c u. checked-more lay rank ranked limit k m q c u) cs h)
+
 -- ---- one declaration
 -- rows 9 and 10 depend on the names that are met alone
 pub decl-fault-local : (limit : ℕ) (ds ds′ : List Decl) (ls ls′ : List Layout) (i j : ℕ) (P : ℕ → Type 0)
@@ -964,6 +970,20 @@ pub left-normal : (limit : ℕ) (lay : ℕ → Unfold) (k : ℕ) (d : Dtype) (l 
 left-normal limit lay k d l m h =
     left-types (λ t. Normal lay t × (size t ≤ limit)) (resolve lay k) d l m
     (every-map (Resolved limit lay k) (λ c. Normal lay (resolve lay k c) × (size (resolve lay k c) ≤ limit)) (λ c r. (r .normal, r .small)) (resolves l) h)
+
+-- the same from the ranks, whether or not there is a fault
+pub left-done : (lay : ℕ → Unfold) (rank : ℕ → ℕ) → Ranked lay rank → (k : ℕ) (d : Dtype) (l : Layout) → Matches (d .dt-body) l → Every (All (Under lay rank k)) (resolves l)
+    → LeftTypes (Normal lay) (rw-decl (resolve lay (suc k)) d l)
+left-done lay rank ranked k d l m h =
+    left-types (Normal lay) (resolve lay (suc k)) d l m
+    (every-map (All (Under lay rank k)) (λ c. Normal lay (resolve lay (suc k) c)) (λ c u. resolve-done lay rank ranked k c u) (resolves l) h)
+
+-- the names of the left declaration are among those that are met
+pub left-all : (lay : ℕ → Unfold) (P : ℕ → Type 0) → Closed lay P → (k : ℕ) (d : Dtype) (l : Layout) → Matches (d .dt-body) l → Every (All P) (resolves l)
+    → LeftTypes (All P) (rw-decl (resolve lay k) d l)
+left-all lay P closed k d l m h =
+    left-types (All P) (resolve lay k) d l m
+    (every-map (All P) (λ c. All P (resolve lay k c)) (λ c a. resolve-all lay P closed k c a) (resolves l) h)
 
 -- ---- the layout of a local declaration goes with its body
 abbrev pub Newtype : Option Layout → Type 0
