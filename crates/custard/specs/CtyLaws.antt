@@ -1,6 +1,6 @@
 -- Laws of types: properties of the variables and the names of a type, through each function that
 -- walks over it; congruence of walks; sizes and lengths. Assumes nothing.
-use mathlib.Core.Logic.{_⊎_, inl, inr, ⊎-elim}
+use mathlib.Core.Logic.{_⊎_, ⊎-elim}
 use mathlib.Core.Path.{_≡_, refl, ap, ap₂, sym, _∙_, subst}
 use mathlib.Core.List.{
   List,
@@ -18,9 +18,9 @@ use mathlib.Core.List.{
   Memᴰ·append-right,
 }
 use mathlib.Core.Bool.{Bool, true, false}
-use Prim.Native.Nat.{ℕ, zero, suc, _+_, _≤_, _<_}
+use Prim.Native.Nat.{ℕ, zero, suc, _+_, _≤_}
 use native.Mathlib.Omega.{arith}
-use lib.Dec.{T, eqb, eqb-refl}
+use lib.Dec.{T, eqb}
 use lib.ListN.{length}
 use Rattle.columns.specs.Column.{pick}
 use Rattle.custard.specs.Cty.{
@@ -54,7 +54,6 @@ use Rattle.custard.specs.Cty.{
   size,
   sizes,
   uninline,
-  Binding,
   zip,
   look,
   subst-cty,

@@ -4,10 +4,10 @@
 -- changes nothing; and what follows for `rw-decl` and `decl-fault`. Assumes nothing.
 use mathlib.Core.Logic.{_⊎_, inl, inr, ⊎-elim, _≢_}
 use mathlib.Core.Path.{_≡_, refl, ap, ap₂, sym, _∙_, subst}
-use mathlib.Core.List.{List, [], _∷_, map, List·Memᴰ}
+use mathlib.Core.List.{List, [], _∷_, map}
 use mathlib.Core.Bool.{Bool, true, false, _&&_, _||_, not}
 use mathlib.Core.Option.{Option, none, some}
-use Prim.Native.Nat.{ℕ, zero, suc, _+_, _≤_, _<_}
+use Prim.Native.Nat.{ℕ, zero, suc, _≤_, _<_}
 use native.Mathlib.Omega.{arith}
 use lib.Dec.{T, eqb, leb, ltb, leb→le, le→leb}
 use lib.ListN.{length, getD}
@@ -43,7 +43,6 @@ use Rattle.custard.specs.Cty.{
 use Rattle.custard.specs.CtyLaws.{
   Every,
   every-map,
-  every-both,
   Any,
   All,
   Alls,
