@@ -1,6 +1,6 @@
 -- Laws of types: properties of the variables and the names of a type, through each function that
 -- walks over it; congruence of walks; sizes and lengths. Assumes nothing.
-use mathlib.Core.Logic.{_⊎_, inl, inr, ⊎-elim}
+use mathlib.Core.Logic.{_⊎_, ⊎-elim}
 use mathlib.Core.Path.{_≡_, refl, ap, ap₂, sym, _∙_, subst}
 use mathlib.Core.List.{
   List,
@@ -18,9 +18,9 @@ use mathlib.Core.List.{
   Memᴰ·append-right,
 }
 use mathlib.Core.Bool.{Bool, true, false}
-use Prim.Native.Nat.{ℕ, zero, suc, _+_, _≤_, _<_}
+use Prim.Native.Nat.{ℕ, zero, suc, _+_, _≤_}
 use native.Mathlib.Omega.{arith}
-use lib.Dec.{T, eqb, eqb-refl}
+use lib.Dec.{T, eqb}
 use lib.ListN.{length}
 use Rattle.columns.specs.Column.{pick}
 use Rattle.custard.specs.Cty.{
@@ -54,7 +54,6 @@ use Rattle.custard.specs.Cty.{
   size,
   sizes,
   uninline,
-  Binding,
   zip,
   look,
   subst-cty,
@@ -108,8 +107,9 @@ module _ (X P : ℕ → Type 0) where
     Eachs nil = Unit {0}
     Eachs (cons t ts) = Each t × Eachs ts
 
-abbrev pub Any : ℕ → Type 0
-Any v = Unit {0}
+-- no property at all
+abbrev pub Any : {A : Type 0} → A → Type 0
+Any x = Unit {0}
 
 -- P of each name of a type
 abbrev pub All : (ℕ → Type 0) → Cty → Type 0

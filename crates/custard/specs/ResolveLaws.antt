@@ -4,10 +4,10 @@
 -- changes nothing; and what follows for `rw-decl` and `decl-fault`. Assumes nothing.
 use mathlib.Core.Logic.{_⊎_, inl, inr, ⊎-elim, _≢_}
 use mathlib.Core.Path.{_≡_, refl, ap, ap₂, sym, _∙_, subst}
-use mathlib.Core.List.{List, [], _∷_, map, List·Memᴰ}
-use mathlib.Core.Bool.{Bool, true, false, _&&_, not}
+use mathlib.Core.List.{List, [], _∷_, map}
+use mathlib.Core.Bool.{Bool, true, false, _&&_, _||_, not}
 use mathlib.Core.Option.{Option, none, some}
-use Prim.Native.Nat.{ℕ, zero, suc, _+_, _≤_, _<_}
+use Prim.Native.Nat.{ℕ, zero, suc, _≤_, _<_}
 use native.Mathlib.Omega.{arith}
 use lib.Dec.{T, eqb, leb, ltb, leb→le, le→leb}
 use lib.ListN.{length, getD}
@@ -43,7 +43,6 @@ use Rattle.custard.specs.Cty.{
 use Rattle.custard.specs.CtyLaws.{
   Every,
   every-map,
-  every-both,
   Any,
   All,
   Alls,
@@ -83,6 +82,56 @@ use Rattle.custard.specs.Resolve.{
   checked,
   checkeds,
   resolve-checked,
+}
+use Rattle.custard.specs.Decl.{
+  Field,
+  Ctor,
+  Body,
+  TAbstract,
+  TAbbrev,
+  TRecord,
+  TVariant,
+  Dtype,
+  NoNewtype,
+  has-flag,
+  ctors-of,
+  CtorLayout,
+  Layout,
+  L-erased,
+  L-newtype,
+  L-struct,
+  L-abbrev,
+  L-opaque,
+  Origin,
+  here,
+  imported,
+  Decl,
+  member,
+}
+use Rattle.custard.specs.Layout.{
+  slots,
+  ctor-layout,
+  ctor-layouts,
+  newtype-of-ctor,
+  newtype-of,
+  candidate,
+  collapse,
+  layout-of-body,
+  layout-of,
+}
+use Rattle.custard.specs.Run.{
+  fuel,
+  with-body,
+  all-in,
+  collapsed-abbrev,
+  resolved-field,
+  resolved-ctor,
+  struct-body,
+  rw-decl,
+  field-types,
+  resolves,
+  fault-code,
+  decl-fault,
 }
 
 -- ---- results
@@ -644,3 +693,346 @@ module _ (lay : ℕ → Unfold) where
         checked-more (suc k) (suc m) q c h =
             checked-level-more (resolve-checked limit lay (suc k)) (suc k) (λ n p d g. checked-done k d (below k n d p g))
             (resolve-checked limit lay (suc m)) (λ n p d g. checked-more k m (omega arith) d (below k n d p g)) c h
+
+-- ---- what `rw-decl` resolves
+-- Q of each type that the constructors' kept fields have
+abbrev pub Fields : (Cty → Type 0) → List Field → Type 0
+Fields Q [] = Unit {0}
+Fields Q (f ∷ fs) = Q (f .fd-type) × Fields Q fs
+
+abbrev pub Kept : (Cty → Type 0) → List CtorLayout → Type 0
+Kept Q [] = Unit {0}
+Kept Q (cl ∷ cls) = Fields Q (cl .cl-fields) × Kept Q cls
+
+module _ (Q : Cty → Type 0) where
+  -- the list is the kept fields' types, in order
+  pub field-types-kept : (cls : List CtorLayout) → Every Q (field-types cls) → Kept Q cls
+  unfolding field-types
+  field-types-kept [] h = tt
+  field-types-kept (cl ∷ cls) h = go (λ k. field-types-kept cls k) (cl .cl-fields) h
+    where
+      go : (Every Q (field-types cls) → Kept Q cls) → (fs : List Field)
+          → Every Q (field-types (record { cl-name = cl .cl-name; cl-slots = cl .cl-slots; cl-fields = fs } ∷ cls)) → Fields Q fs × Kept Q cls
+      go ih [] k = (tt, ih k)
+      go ih (f ∷ fs) k = ((k .0, go ih fs (k .1) .0), go ih fs (k .1) .1)
+
+  pub kept-field-types : (cls : List CtorLayout) → Kept Q cls → Every Q (field-types cls)
+  unfolding field-types
+  kept-field-types [] h = tt
+  kept-field-types (cl ∷ cls) h = go (kept-field-types cls (h .1)) (cl .cl-fields) (h .0)
+    where
+      go : Every Q (field-types cls) → (fs : List Field) → Fields Q fs
+          → Every Q (field-types (record { cl-name = cl .cl-name; cl-slots = cl .cl-slots; cl-fields = fs } ∷ cls))
+      go ih [] k = ih
+      go ih (f ∷ fs) k = (k .0, go ih fs (k .1))
+
+-- ---- faults
+pub fault-code-cong : (res res′ : Cty → Result Cty) (cs : List Cty) → Every (λ c. res c ≡ res′ c) cs → fault-code res cs ≡ fault-code res′ cs
+unfolding fault-code
+fault-code-cong res res′ [] h = refl
+fault-code-cong res res′ (c ∷ cs) h = rw (h .0, fault-code-cong res res′ cs (h .1)) refl
+
+nine : (e : ℕ) → e ≡ 9 → e ≡ 0 → ⊥
+nine e p q = omega arith
+
+ten : (e : ℕ) → e ≡ 10 → e ≡ 0 → ⊥
+ten e p q = omega arith
+
+-- no fault: each type is answered
+pub record Answered (r : Result Cty) : Type 0 where
+  pub type : Cty
+  pub is-ok : r ≡ ok type
+
+pub fault-code-none : (res : Cty → Result Cty) (cs : List Cty) → Every (λ c. On Any Row ⊥ (res c)) cs → fault-code res cs ≡ 0 → Every (λ c. Answered (res c)) cs
+unfolding fault-code
+fault-code-none res [] h e = tt
+fault-code-none res (c ∷ cs) h e = go (λ q. fault-code-none res cs (h .1) q) (res c) refl (h .0)
+  where
+    go : (fault-code res cs ≡ 0 → Every (λ d. Answered (res d)) cs) → (r : Result Cty) → res c ≡ r → On Any Row ⊥ r → Every (λ d. Answered (res d)) (c ∷ cs)
+    go ih (ok t) q k = (record { type = t; is-ok = q }, ih (rw q at e))
+    go ih (fault f) q k = absurd (⊎-elim (λ z. nine f z (rw q at e)) (λ z. ten f z (rw q at e)) k)
+    go ih spent q k = absurd k
+
+pub fault-code-ok : (res : Cty → Result Cty) (cs : List Cty) → Every (λ c. Answered (res c)) cs → fault-code res cs ≡ 0
+unfolding fault-code
+fault-code-ok res [] h = refl
+fault-code-ok res (c ∷ cs) h = rw (h .0 .is-ok) (fault-code-ok res cs (h .1))
+
+-- a code is 0, 9 or 10
+pub fault-code-row : (res : Cty → Result Cty) (cs : List Cty) → Every (λ c. On Any Row (Unit {0}) (res c)) cs → (fault-code res cs ≡ 0) ⊎ Row (fault-code res cs)
+unfolding fault-code
+fault-code-row res [] h = inl refl
+fault-code-row res (c ∷ cs) h = go (fault-code-row res cs (h .1)) (res c) refl (h .0)
+  where
+    go : (fault-code res cs ≡ 0) ⊎ Row (fault-code res cs) → (r : Result Cty) → res c ≡ r → On Any Row (Unit {0}) r → (fault-code res (c ∷ cs) ≡ 0) ⊎ Row (fault-code res (c ∷ cs))
+    go ih (ok t) q k = rw q ih
+    go ih (fault f) q k = rw q (inr k)
+    go ih spent q k = rw q ih
+
+-- ---- types that resolve without fault
+pub record Resolved (limit : ℕ) (lay : ℕ → Unfold) (k : ℕ) (c : Cty) : Type 0 where
+  pub answers : resolve-checked limit lay k c ≡ ok (resolve lay k c)
+  pub normal : Normal lay (resolve lay k c)
+  pub small : size (resolve lay k c) ≤ limit
+
+module _ (limit : ℕ) (lay : ℕ → Unfold) (k : ℕ) where
+  pub answered-resolved : (c : Cty) → Answered (resolve-checked limit lay k c) → Resolved limit lay k c
+  answered-resolved c a =
+      let e : resolve lay k c ≡ a .type = checked-resolves lay limit k c (a .type) (a .is-ok) in
+      record {
+        answers = a .is-ok ∙ ap ok (sym e);
+        normal = subst (Normal lay) (sym e) (checked-normal lay limit k c (a .type) (a .is-ok));
+        small = subst (λ (t : Cty). size t ≤ limit) (sym e) (checked-small lay limit k c (a .type) (a .is-ok));
+      }
+
+  pub resolved-answered : (c : Cty) → Resolved limit lay k c → Answered (resolve-checked limit lay k c)
+  resolved-answered c r = record { type = resolve lay k c; is-ok = r .answers }
+
+  -- no fault and no fuel that runs out: every type resolves
+  pub fault-none : (cs : List Cty) → Every (λ c. Unspent (resolve-checked limit lay k c)) cs → fault-code (resolve-checked limit lay k) cs ≡ 0 → Every (Resolved limit lay k) cs
+  fault-none cs h e =
+      every-map (λ c. Answered (resolve-checked limit lay k c)) (Resolved limit lay k) answered-resolved cs
+      (fault-code-none (resolve-checked limit lay k) cs
+      (every-map (λ c. Unspent (resolve-checked limit lay k c)) (λ c. On Any Row ⊥ (resolve-checked limit lay k c))
+      (λ c u. unspent-on Any Row (Unit {0}) (resolve-checked limit lay k c) u (row-on c)) cs h)
+      e)
+    where
+      row-on : (c : Cty) → On Any Row (Unit {0}) (resolve-checked limit lay k c)
+      row-on c =
+          on-map (λ t. ((resolve lay k c ≡ t) × Normal lay t) × (size t ≤ limit)) Any Row Row (Unit {0}) (Unit {0}) (λ t p. tt) (λ f p. p) (λ u. u) (resolve-checked limit lay k c) (resolve-sound lay limit k c)
+
+  pub resolved-fault : (cs : List Cty) → Every (Resolved limit lay k) cs → fault-code (resolve-checked limit lay k) cs ≡ 0
+  resolved-fault cs h =
+      fault-code-ok (resolve-checked limit lay k) cs (every-map (Resolved limit lay k) (λ c. Answered (resolve-checked limit lay k c)) resolved-answered cs h)
+
+-- fuel past the ranks of the names that are met does not run out
+pub types-unspent : (limit : ℕ) (lay : ℕ → Unfold) (rank : ℕ → ℕ) → Ranked lay rank → (k : ℕ) (cs : List Cty) → Every (All (Under lay rank k)) cs → Every (λ c. Unspent (resolve-checked limit lay (suc k) c)) cs
+types-unspent limit lay rank ranked k cs h =
+    every-map (All (Under lay rank k)) (λ c. Unspent (resolve-checked limit lay (suc k) c)) (λ c u. checked-unspent lay rank ranked limit k c u) cs h
+
+-- and more of it gives the same code
+pub fault-code-more : (limit : ℕ) (lay : ℕ → Unfold) (rank : ℕ → ℕ) → Ranked lay rank → (k m : ℕ) → k ≤ m → (cs : List Cty) → Every (All (Under lay rank k)) cs → fault-code (resolve-checked limit lay (suc k)) cs ≡ fault-code (resolve-checked limit lay (suc m)) cs
+fault-code-more limit lay rank ranked k m q cs h =
+    fault-code-cong (resolve-checked limit lay (suc k)) (resolve-checked limit lay (suc m)) cs
+    (every-map (All (Under lay rank k)) (λ c. resolve-checked limit lay (suc k) c ≡ resolve-checked limit lay (suc m) c) (λ c u. checked-more lay rank ranked limit k m q c u) cs h)
+
+-- ---- one declaration
+-- rows 9 and 10 depend on the names that are met alone
+pub decl-fault-local : (limit : ℕ) (ds ds′ : List Decl) (ls ls′ : List Layout) (i j : ℕ) (P : ℕ → Type 0)
+    → Closed (unfold-name ds ls) P → Agree (unfold-name ds ls) (unfold-name ds′ ls′) P
+    → getD ls i L-opaque ≡ getD ls′ j L-opaque → Every (All P) (resolves (getD ls i L-opaque))
+    → decl-fault limit ds ls i ≡ decl-fault limit ds′ ls′ j
+unfolding decl-fault
+decl-fault-local limit ds ds′ ls ls′ i j P closed agree e h =
+    fault-code-cong (resolve-checked limit (unfold-name ds ls) fuel) (resolve-checked limit (unfold-name ds′ ls′) fuel) (resolves (getD ls i L-opaque))
+    (every-map (All P) (λ c. resolve-checked limit (unfold-name ds ls) fuel c ≡ resolve-checked limit (unfold-name ds′ ls′) fuel c)
+    (λ c a. checked-local (unfold-name ds ls) P closed (unfold-name ds′ ls′) agree limit fuel c a) (resolves (getD ls i L-opaque)) h)
+    ∙ ap (λ (l : Layout). fault-code (resolve-checked limit (unfold-name ds′ ls′) fuel) (resolves l)) e
+
+-- no fault at a declaration, and no fuel that runs out: its types resolve
+pub decl-resolved : (limit : ℕ) (ds : List Decl) (ls : List Layout) (i : ℕ)
+    → Every (λ c. Unspent (resolve-checked limit (unfold-name ds ls) fuel c)) (resolves (getD ls i L-opaque))
+    → decl-fault limit ds ls i ≡ 0 → Every (Resolved limit (unfold-name ds ls) fuel) (resolves (getD ls i L-opaque))
+unfolding decl-fault
+decl-resolved limit ds ls i h e = fault-none limit (unfold-name ds ls) fuel (resolves (getD ls i L-opaque)) h e
+
+pub resolved-decl : (limit : ℕ) (ds : List Decl) (ls : List Layout) (i : ℕ)
+    → Every (Resolved limit (unfold-name ds ls) fuel) (resolves (getD ls i L-opaque)) → decl-fault limit ds ls i ≡ 0
+unfolding decl-fault
+resolved-decl limit ds ls i h = resolved-fault limit (unfold-name ds ls) fuel (resolves (getD ls i L-opaque)) h
+
+-- ---- the left declaration
+module _ (res res′ : Cty → Cty) where
+  abbrev pub Same : Cty → Type 0
+  Same c = res c ≡ res′ c
+
+  fields-cong : (fs : List Field) → Fields Same fs → map (resolved-field res) fs ≡ map (resolved-field res′) fs
+  unfolding resolved-field
+  fields-cong [] h = refl
+  fields-cong (f ∷ fs) h =
+      ap₂ (λ (c : Cty) (gs : List Field). record { fd-name = f .fd-name; fd-type = c } ∷ gs) (h .0) (fields-cong fs (h .1))
+
+  ctors-cong : (cls : List CtorLayout) → Kept Same cls → map (resolved-ctor res) cls ≡ map (resolved-ctor res′) cls
+  unfolding resolved-ctor
+  ctors-cong [] h = refl
+  ctors-cong (cl ∷ cls) h =
+      ap₂ (λ (fs : List Field) (cs : List Ctor). record { ct-name = cl .cl-name; ct-fields = fs } ∷ cs) (fields-cong (cl .cl-fields) (h .0)) (ctors-cong cls (h .1))
+
+  struct-cong : (b : Body) (cls : List CtorLayout) → Kept Same cls → struct-body res b cls ≡ struct-body res′ b cls
+  unfolding struct-body
+  struct-cong TAbstract cls h = refl
+  struct-cong (TAbbrev c) cls h = refl
+  struct-cong (TRecord fs) [] h = refl
+  struct-cong (TRecord fs) (cl ∷ []) h = ap TRecord (fields-cong (cl .cl-fields) (h .0))
+  struct-cong (TRecord fs) (cl ∷ cm ∷ cls) h = refl
+  struct-cong (TVariant cs) cls h = ap TVariant (ctors-cong cls h)
+
+  -- the left declaration depends on what its types resolve to alone
+  pub rw-decl-cong : (d : Dtype) (l : Layout) → Every Same (resolves l) → rw-decl res d l ≡ rw-decl res′ d l
+  unfolding rw-decl resolves
+  rw-decl-cong d L-erased h = refl
+  rw-decl-cong d (L-newtype nt) h = ap (collapsed-abbrev d) (h .0)
+  rw-decl-cong d (L-struct cls) h =
+      ap (λ (b : Body). some (with-body d b)) (struct-cong (d .dt-body) cls (field-types-kept Same cls h))
+  rw-decl-cong d (L-abbrev c) h = ap (λ (t : Cty). some (with-body d (TAbbrev t))) (h .0)
+  rw-decl-cong d L-opaque h = refl
+
+-- on the names that are met alone
+pub rw-decl-local : (lay lay′ : ℕ → Unfold) (P : ℕ → Type 0) → Closed lay P → Agree lay lay′ P → (k : ℕ) (d : Dtype) (l : Layout) → Every (All P) (resolves l) → rw-decl (resolve lay k) d l ≡ rw-decl (resolve lay′ k) d l
+rw-decl-local lay lay′ P closed agree k d l h =
+    rw-decl-cong (resolve lay k) (resolve lay′ k) d l
+    (every-map (All P) (λ c. resolve lay k c ≡ resolve lay′ k c) (λ c a. resolve-local lay P closed lay′ agree k c a) (resolves l) h)
+
+-- Q of each type in a declaration
+abbrev pub Ctors : (Cty → Type 0) → List Ctor → Type 0
+Ctors Q [] = Unit {0}
+Ctors Q (c ∷ cs) = Fields Q (c .ct-fields) × Ctors Q cs
+
+abbrev pub BodyTypes : (Cty → Type 0) → Body → Type 0
+BodyTypes Q TAbstract = Unit {0}
+BodyTypes Q (TAbbrev c) = Q c
+BodyTypes Q (TRecord fs) = Fields Q fs
+BodyTypes Q (TVariant cs) = Ctors Q cs
+
+abbrev pub LeftTypes : (Cty → Type 0) → Option Dtype → Type 0
+LeftTypes Q none = Unit {0}
+LeftTypes Q (some d) = BodyTypes Q (d .dt-body)
+
+-- A layout that goes with a body: `rw-decl` then resolves all that it leaves.
+abbrev pub StructMatches : Body → List CtorLayout → Type 0
+StructMatches TAbstract cls = Unit {0}
+StructMatches (TAbbrev c) cls = ⊥
+StructMatches (TRecord fs) [] = ⊥
+StructMatches (TRecord fs) (cl ∷ []) = Unit {0}
+StructMatches (TRecord fs) (cl ∷ cm ∷ cls) = ⊥
+StructMatches (TVariant cs) cls = Unit {0}
+
+abbrev pub OpaqueMatches : Body → Type 0
+OpaqueMatches TAbstract = Unit {0}
+OpaqueMatches (TAbbrev c) = ⊥
+OpaqueMatches (TRecord fs) = ⊥
+OpaqueMatches (TVariant cs) = ⊥
+
+abbrev pub Matches : Body → Layout → Type 0
+Matches b L-erased = Unit {0}
+Matches b (L-newtype nt) = Unit {0}
+Matches b (L-struct cls) = StructMatches b cls
+Matches b (L-abbrev c) = Unit {0}
+Matches b L-opaque = OpaqueMatches b
+
+module _ (Q : Cty → Type 0) (res : Cty → Cty) where
+  abbrev pub Then : Cty → Type 0
+  Then c = Q (res c)
+
+  fields-left : (fs : List Field) → Fields Then fs → Fields Q (map (resolved-field res) fs)
+  unfolding resolved-field
+  fields-left [] h = tt
+  fields-left (f ∷ fs) h = (h .0, fields-left fs (h .1))
+
+  ctors-left : (cls : List CtorLayout) → Kept Then cls → Ctors Q (map (resolved-ctor res) cls)
+  unfolding resolved-ctor
+  ctors-left [] h = tt
+  ctors-left (cl ∷ cls) h = (fields-left (cl .cl-fields) (h .0), ctors-left cls (h .1))
+
+  struct-left : (b : Body) (cls : List CtorLayout) → StructMatches b cls → Kept Then cls → BodyTypes Q (struct-body res b cls)
+  unfolding struct-body
+  struct-left TAbstract cls m h = tt
+  struct-left (TAbbrev c) cls m h = absurd m
+  struct-left (TRecord fs) [] m h = absurd m
+  struct-left (TRecord fs) (cl ∷ []) m h = fields-left (cl .cl-fields) (h .0)
+  struct-left (TRecord fs) (cl ∷ cm ∷ cls) m h = absurd m
+  struct-left (TVariant cs) cls m h = ctors-left cls h
+
+  opaque-left : (b : Body) → OpaqueMatches b → BodyTypes Q b
+  opaque-left TAbstract m = tt
+  opaque-left (TAbbrev c) m = absurd m
+  opaque-left (TRecord fs) m = absurd m
+  opaque-left (TVariant cs) m = absurd m
+
+  -- every type of the left declaration is one that was resolved
+  pub left-types : (d : Dtype) (l : Layout) → Matches (d .dt-body) l → Every Then (resolves l) → LeftTypes Q (rw-decl res d l)
+  unfolding rw-decl resolves collapsed-abbrev
+  left-types d L-erased m h = tt
+  left-types d (L-newtype nt) m h =
+      go (all-in (d .dt-params) (cty-vars (res (nt .nt-ty))) && not (member (d .dt-name) (names-of-cty (res (nt .nt-ty)))))
+    where
+      go : (b : Bool) → LeftTypes Q (pick b (some (with-body d (TAbbrev (res (nt .nt-ty))))) none)
+      go true = h .0
+      go false = tt
+  left-types d (L-struct cls) m h = struct-left (d .dt-body) cls m (field-types-kept Then cls h)
+  left-types d (L-abbrev c) m h = h .0
+  left-types d L-opaque m h = opaque-left (d .dt-body) m
+
+-- the names of the left declaration all stay, and its types are small
+pub left-normal : (limit : ℕ) (lay : ℕ → Unfold) (k : ℕ) (d : Dtype) (l : Layout) → Matches (d .dt-body) l → Every (Resolved limit lay k) (resolves l)
+    → LeftTypes (λ t. Normal lay t × (size t ≤ limit)) (rw-decl (resolve lay k) d l)
+left-normal limit lay k d l m h =
+    left-types (λ t. Normal lay t × (size t ≤ limit)) (resolve lay k) d l m
+    (every-map (Resolved limit lay k) (λ c. Normal lay (resolve lay k c) × (size (resolve lay k c) ≤ limit)) (λ c r. (r .normal, r .small)) (resolves l) h)
+
+-- the same from the ranks, whether or not there is a fault
+pub left-done : (lay : ℕ → Unfold) (rank : ℕ → ℕ) → Ranked lay rank → (k : ℕ) (d : Dtype) (l : Layout) → Matches (d .dt-body) l → Every (All (Under lay rank k)) (resolves l)
+    → LeftTypes (Normal lay) (rw-decl (resolve lay (suc k)) d l)
+left-done lay rank ranked k d l m h =
+    left-types (Normal lay) (resolve lay (suc k)) d l m
+    (every-map (All (Under lay rank k)) (λ c. Normal lay (resolve lay (suc k) c)) (λ c u. resolve-done lay rank ranked k c u) (resolves l) h)
+
+-- the names of the left declaration are among those that are met
+pub left-all : (lay : ℕ → Unfold) (P : ℕ → Type 0) → Closed lay P → (k : ℕ) (d : Dtype) (l : Layout) → Matches (d .dt-body) l → Every (All P) (resolves l)
+    → LeftTypes (All P) (rw-decl (resolve lay k) d l)
+left-all lay P closed k d l m h =
+    left-types (All P) (resolve lay k) d l m
+    (every-map (All P) (λ c. All P (resolve lay k c)) (λ c a. resolve-all lay P closed k c a) (resolves l) h)
+
+-- ---- the layout of a local declaration goes with its body
+abbrev pub Newtype : Option Layout → Type 0
+Newtype none = Unit {0}
+Newtype (some L-erased) = ⊥
+Newtype (some (L-newtype nt)) = Unit {0}
+Newtype (some (L-struct cls)) = ⊥
+Newtype (some (L-abbrev c)) = ⊥
+Newtype (some L-opaque) = ⊥
+
+newtype-of-ctor-newtype : (n : ℕ) (bs : List Bool) (fs : List Field) → Newtype (newtype-of-ctor n bs fs)
+unfolding newtype-of-ctor
+newtype-of-ctor-newtype n bs [] = tt
+newtype-of-ctor-newtype n bs (f ∷ []) = tt
+newtype-of-ctor-newtype n bs (f ∷ g ∷ fs) = tt
+
+newtype-of-newtype : (cls : List CtorLayout) → Newtype (newtype-of cls)
+unfolding newtype-of
+newtype-of-newtype [] = tt
+newtype-of-newtype (cl ∷ []) = newtype-of-ctor-newtype (cl .cl-name) (cl .cl-slots) (cl .cl-fields)
+newtype-of-newtype (cl ∷ cm ∷ cls) = tt
+
+-- a candidate is a newtype
+pub candidate-newtype : (d : Dtype) (o : Origin) (e : Bool) (cls : List CtorLayout) → Newtype (candidate d o e cls)
+unfolding candidate
+candidate-newtype d (imported ti) e cls = tt
+candidate-newtype d here e cls = go (e || has-flag d NoNewtype)
+  where
+    go : (b : Bool) → Newtype (pick b none (newtype-of cls))
+    go true = tt
+    go false = newtype-of-newtype cls
+
+module _ (b : Body) (cls : List CtorLayout) (m : StructMatches b cls) where
+  collapse-matches : (drop : Bool) (cand : Option Layout) → Newtype cand → Matches b (collapse drop cand cls)
+  unfolding collapse
+  collapse-matches true cand h = m
+  collapse-matches false none h = m
+  collapse-matches false (some L-erased) h = absurd h
+  collapse-matches false (some (L-newtype nt)) h = tt
+  collapse-matches false (some (L-struct cms)) h = absurd h
+  collapse-matches false (some (L-abbrev c)) h = absurd h
+  collapse-matches false (some L-opaque) h = absurd h
+
+pub layout-matches : (er : ℕ → Bool) (d : Dtype) (e drop : Bool) (cand : Option Layout) → Newtype cand → Matches (d .dt-body) (layout-of d here e drop cand (ctor-layouts er d))
+unfolding layout-of layout-of-body ctor-layouts ctors-of
+layout-matches er d true drop cand h = tt
+layout-matches er d false drop cand h = go (d .dt-body)
+  where
+    go : (b : Body) → Matches b (layout-of-body b drop cand (map (λ c. ctor-layout c (slots er (c .ct-fields))) (ctors-of (d .dt-name) b)))
+    go TAbstract = tt
+    go (TAbbrev c) = tt
+    go (TRecord fs) = collapse-matches (TRecord fs) (map (λ c. ctor-layout c (slots er (c .ct-fields))) (ctors-of (d .dt-name) (TRecord fs))) tt drop cand h
+    go (TVariant cs) = collapse-matches (TVariant cs) (map (λ c. ctor-layout c (slots er (c .ct-fields))) (ctors-of (d .dt-name) (TVariant cs))) tt drop cand h
