@@ -9,3 +9,5 @@ pub mod Program
 pub mod Rows
 pub mod Output
 pub mod Answer
+pub mod OutputLaws
+pub mod WrittenLaws
