@@ -6,14 +6,16 @@ use mathlib.Core.List.{List, [], _∷_, _++_, map, append-assoc, append-nil, Lis
 use mathlib.Core.Bool.{Bool, true, false}
 use Prim.Native.Nat.{ℕ, zero, suc, _+_, _*_, _-_, _^_, _≤_, _<_}
 use native.Mathlib.Omega.{arith}
+use lib.Dec.{eqb}
 use native.Mathlib.Nat.{mul-suc, mul-le-mul-left}
 use lib.ListN.{length, getD, length-append, length-map}
 use Rattle.columns.specs.Column.{pick}
 use Rattle.sheet.specs.Format.{lineBytes, textBytes}
-use Rattle.sheet.specs.Line.{Line, named, row, bad, encode, letter, number}
-use Rattle.sheet.specs.LineLaws.{Fits, named-length, row-length}
-use Rattle.sheet.specs.Sheet.{encodes}
-use Rattle.custard.specs.Program.{name-line, arg-line, type-line, is, select}
+use Rattle.sheet.specs.Line.{Line, named, row, bad, lettered, encode, letter, number}
+use Rattle.sheet.specs.LineLaws.{AllBelow, Fits, named-length, row-length}
+use Rattle.sheet.specs.Sheet.{lines, encodes}
+use Rattle.sheet.specs.SheetLaws.{AllFit, lines-encodes}
+use Rattle.custard.specs.Program.{name-line, arg-line, type-line, local-line, param-line, ctor-line, field-line, verdict-line, is, select}
 use Rattle.custard.specs.Cty.{Cty, Ctys, TUnit, TAny, TExn, TVar, TInt, TFloat, TConst, TArrow, TApp, TTuple, TBuf, TRef, TInline, nil, cons, lengths, size, sizes}
 use Rattle.custard.specs.Decl.{Field, Ctor, Body, TAbstract, TAbbrev, TRecord, TVariant, Dtype}
 use Rattle.custard.specs.Output.{Written, put, last, Members, listed, first-arg, emit, emits, Lines, field-lines, ctor-lines, decl-frame, decl-lines, program-lines, left-lines}
@@ -126,6 +128,7 @@ adds-one n w v kind a b c h =
 
 mutual
   unfolding emit size lengths
+
   -- a type adds as many Y lines as it has nodes
   pub emit-adds : (c : Cty) (w : Written) → Adds 1 (size c) w (emit c w)
   emit-adds TUnit w = adds-put w 0 0 0 0
@@ -313,3 +316,310 @@ every-select P x (l ∷ ls) h = go (is x l) (every-select P x ls (h .1))
     go : (b : Bool) → Every P (select x ls) → Every P (pick b (l ∷ select x ls) (select x ls))
     go true k = (h .0, k)
     go false k = k
+
+-- ---- lines with five numbers
+-- the letter is one of L's, and each of the five numbers one of Q's
+abbrev pub Row : (ℕ → Type 0) → (ℕ → Type 0) → Line → Type 0
+Row L Q (named n t) = ⊥
+Row L Q (row x ns) = L x × (length ns ≡ 5) × Every Q ns
+Row L Q bad = ⊥
+
+-- Q holds of each number of a type
+module _ (Q : ℕ → Type 0) where
+  abbrev mutual
+    pub Each : Cty → Type 0
+    Each TUnit = Unit {0}
+    Each TAny = Unit {0}
+    Each TExn = Unit {0}
+    Each (TVar v) = Q v
+    Each (TInt s x) = Q s × Q x
+    Each (TFloat f) = Q f
+    Each (TConst c) = Q c
+    Each (TArrow a e b) = Each a × Q e × Each b
+    Each (TApp n ts) = Q n × Eachs ts
+    Each (TTuple ts) = Eachs ts
+    Each (TBuf t) = Each t
+    Each (TRef k t) = Q k × Each t
+    Each (TInline t) = Each t
+
+    pub Eachs : Ctys → Type 0
+    Eachs nil = Unit {0}
+    Eachs (cons t ts) = Each t × Eachs ts
+
+  -- and of those of a declaration that do not stand in its types
+  abbrev pub EachField : Field → Type 0
+  EachField f = Q (f .fd-name)
+
+  abbrev pub EachCtor : Ctor → Type 0
+  EachCtor c = Q (c .ct-name) × Q (length (c .ct-fields)) × Every EachField (c .ct-fields)
+
+  abbrev pub EachBody : Body → Type 0
+  EachBody TAbstract = Unit {0}
+  EachBody (TAbbrev c) = Unit {0}
+  EachBody (TRecord fs) = Q (length fs) × Every EachField fs
+  EachBody (TVariant cs) = Q (length cs) × Every EachCtor cs
+
+  pub record EachDtype (d : Dtype) : Type 0 where
+    pub name : Q (d .dt-name)
+    pub flags : Q (d .dt-flags)
+    pub arity : Q (length (d .dt-params))
+    pub params : Every Q (d .dt-params)
+    pub body : EachBody (d .dt-body)
+
+-- what holds of all numbers holds of these
+module _ (Q : ℕ → Type 0) (q : (n : ℕ) → Q n) where
+  pub every-all : (ns : List ℕ) → Every Q ns
+  every-all ns = mem-every Q ns (λ n m. q n)
+
+  mutual
+    pub each-all : (c : Cty) → Each Q c
+    each-all TUnit = tt
+    each-all TAny = tt
+    each-all TExn = tt
+    each-all (TVar v) = q v
+    each-all (TInt s x) = (q s, q x)
+    each-all (TFloat f) = q f
+    each-all (TConst c) = q c
+    each-all (TArrow a e b) = (each-all a, q e, each-all b)
+    each-all (TApp n ts) = (q n, eachs-all ts)
+    each-all (TTuple ts) = eachs-all ts
+    each-all (TBuf t) = each-all t
+    each-all (TRef k t) = (q k, each-all t)
+    each-all (TInline t) = each-all t
+
+    pub eachs-all : (ts : Ctys) → Eachs Q ts
+    eachs-all nil = tt
+    eachs-all (cons t ts) = (each-all t, eachs-all ts)
+
+  fields-all : (fs : List Field) → Every (EachField Q) fs
+  fields-all fs = mem-every (EachField Q) fs (λ f m. q (f .fd-name))
+
+  body-all : (b : Body) → EachBody Q b
+  body-all TAbstract = tt
+  body-all (TAbbrev c) = tt
+  body-all (TRecord fs) = (q (length fs), fields-all fs)
+  body-all (TVariant cs) = (q (length cs), mem-every (EachCtor Q) cs (λ c m. (q (c .ct-name), q (length (c .ct-fields)), fields-all (c .ct-fields))))
+
+  pub dtype-all : (d : Dtype) → EachDtype Q d
+  dtype-all d = record { name = q (d .dt-name); flags = q (d .dt-flags); arity = q (length (d .dt-params)); params = every-all (d .dt-params); body = body-all (d .dt-body) }
+
+-- Q holds of kinds, and of the numbers of lines up to T
+module _ (Q : ℕ → Type 0) (T : ℕ) (kind : (n : ℕ) → n ≤ 12 → Q n) (small : (n : ℕ) → n ≤ T → Q n) where
+  -- what is written has no more than T lines of a letter
+  pub record Room (w : Written) : Type 0 where
+    pub args-room : length (w .args) ≤ T
+    pub types-room : length (w .types) ≤ T
+
+  pub room-back : {w v : Written} → Grows w v → Room v → Room w
+  room-back g r = record { args-room = omega (arith, grows-args g, r .args-room); types-room = omega (arith, grows-types g, r .types-room) }
+
+  -- five numbers in each Y line, and Q holds of every number
+  pub record Good (w : Written) : Type 0 where
+    pub args-good : Every Q (w .args)
+    pub types-good : Every (λ ns. (length ns ≡ 5) × Every Q ns) (w .types)
+
+  good-put : (w : Written) (k a b c : ℕ) → k ≤ 12 → Q a → Q b → Q c → Good w → Good (put w k a b c)
+  unfolding put
+  good-put w k a b c h qa qb qc g =
+      record {
+        args-good = g .args-good;
+        types-good = every-append (λ ns. (length ns ≡ 5) × Every Q ns) (w .types) ((k ∷ a ∷ b ∷ c ∷ 0 ∷ []) ∷ []) (g .types-good) ((refl, (kind k h, (qa, (qb, (qc, (kind 0 (omega arith), tt)))))), tt);
+      }
+
+  none : Q 0
+  none = kind 0 (omega arith)
+
+  last-small : (w : Written) → Room w → Q (last w)
+  last-small w r = small (last w) (omega (arith, r .types-room))
+
+  first-small : (m : Members) → Room (m .written) → Q (first-arg m)
+  first-small m r = go (eqb (length (m .numbers)) 0)
+    where
+      go : (b : Bool) → Q (pick b 0 (length (m .written .args)))
+      go true = none
+      go false = small (length (m .written .args)) (r .args-room)
+
+  good-listed : (m : Members) → Good (m .written) → Every Q (m .numbers) → Good (listed m)
+  good-listed m g h = record { args-good = every-append Q (m .written .args) (m .numbers) (g .args-good) h; types-good = g .types-good }
+
+  count-small : (m : Members) → Room (listed m) → Q (length (m .numbers))
+  count-small m r = small (length (m .numbers)) (omega (arith, r .args-room, length-append (m .written .args) (m .numbers)))
+
+  mutual
+    unfolding emit
+
+    pub emit-good : (c : Cty) (w : Written) → Each Q c → Room (emit c w) → Good w → Good (emit c w)
+    emit-good TUnit w h r g = good-put w 0 0 0 0 (omega arith) none none none g
+    emit-good TAny w h r g = good-put w 1 0 0 0 (omega arith) none none none g
+    emit-good TExn w h r g = good-put w 2 0 0 0 (omega arith) none none none g
+    emit-good (TVar v) w h r g = good-put w 3 v 0 0 (omega arith) h none none g
+    emit-good (TInt s x) w h r g = good-put w 4 s x 0 (omega arith) (h .0) (h .1) none g
+    emit-good (TFloat f) w h r g = good-put w 5 f 0 0 (omega arith) h none none g
+    emit-good (TConst c) w h r g = good-put w 6 c 0 0 (omega arith) h none none g
+    emit-good (TArrow a e b) w h r g =
+        let x : Written = emit a w in
+        let y : Written = emit b x in
+        let ry : Room y = room-back (grows-put y 7 (last x) e (last y)) r in
+        let rx : Room x = room-back (emit-adds b x .grows) ry in
+        good-put y 7 (last x) e (last y) (omega arith) (last-small x rx) (h .1) (last-small y ry) (emit-good b x (h .2) ry (emit-good a w (h .0) rx g))
+    emit-good (TApp n ts) w h r g =
+        let m : Members = emits ts w in
+        let rl : Room (listed m) = room-back (grows-put (listed m) 8 n (first-arg m) (length (m .numbers))) r in
+        let rm : Room (m .written) = room-back (grows-listed m) rl in
+        let k = emits-good ts w (h .1) rm g in
+        good-put (listed m) 8 n (first-arg m) (length (m .numbers)) (omega arith) (h .0) (first-small m rm) (count-small m rl) (good-listed m (k .0) (k .1))
+    emit-good (TTuple ts) w h r g =
+        let m : Members = emits ts w in
+        let rl : Room (listed m) = room-back (grows-put (listed m) 9 (first-arg m) (length (m .numbers)) 0) r in
+        let rm : Room (m .written) = room-back (grows-listed m) rl in
+        let k = emits-good ts w h rm g in
+        good-put (listed m) 9 (first-arg m) (length (m .numbers)) 0 (omega arith) (first-small m rm) (count-small m rl) none (good-listed m (k .0) (k .1))
+    emit-good (TBuf t) w h r g =
+        let x : Written = emit t w in
+        let rx : Room x = room-back (grows-put x 10 (last x) 0 0) r in
+        good-put x 10 (last x) 0 0 (omega arith) (last-small x rx) none none (emit-good t w h rx g)
+    emit-good (TRef k t) w h r g =
+        let x : Written = emit t w in
+        let rx : Room x = room-back (grows-put x 11 k (last x) 0) r in
+        good-put x 11 k (last x) 0 (omega arith) (h .0) (last-small x rx) none (emit-good t w (h .1) rx g)
+    emit-good (TInline t) w h r g =
+        let x : Written = emit t w in
+        let rx : Room x = room-back (grows-put x 12 (last x) 0 0) r in
+        good-put x 12 (last x) 0 0 (omega arith) (last-small x rx) none none (emit-good t w h rx g)
+
+    pub emits-good : (ts : Ctys) (w : Written) → Eachs Q ts → Room (emits ts w .written) → Good w → Good (emits ts w .written) × Every Q (emits ts w .numbers)
+    emits-good nil w h r g = (g, tt)
+    emits-good (cons t ts) w h r g =
+        let x : Written = emit t w in
+        let rx : Room x = room-back (emits-adds ts x .0 .grows) r in
+        let k = emits-good ts x (h .1) r (emit-good t w (h .0) rx g) in
+        (k .0, (last-small x rx, k .1))
+
+  pub emit-all-good : (cs : List Cty) (w : Written) → Every (Each Q) cs → Room (emit-all cs w) → Good w → Good (emit-all cs w)
+  unfolding emit-all
+  emit-all-good [] w h r g = g
+  emit-all-good (c ∷ cs) w h r g =
+      emit-all-good cs (emit c w) (h .1) r (emit-good c w (h .0) (room-back (emit-all-adds cs (emit c w) .grows) r) g)
+
+  -- the letters of a declaration's lines
+  module _ (L : ℕ → Type 0) (ld : L local-line) (lp : L param-line) (lc : L ctor-line) (lf : L field-line) (lv : L verdict-line) where
+    pub field-rows : (fs : List Field) (w : Written) → Every (EachField Q) fs → Room (field-lines fs w .written) → Every (Row L Q) (field-lines fs w .lines)
+    unfolding field-lines
+    field-rows [] w h r = tt
+    field-rows (f ∷ fs) w h r =
+        let x : Written = emit (f .fd-type) w in
+        ((lf, refl, (h .0, (last-small x (room-back (field-adds fs x .grows) r), (none, (none, (none, tt)))))), field-rows fs x (h .1) r)
+
+    pub ctor-rows : (cs : List Ctor) (w : Written) → Every (EachCtor Q) cs → Room (ctor-lines cs w .written) → Every (Row L Q) (ctor-lines cs w .lines)
+    unfolding ctor-lines
+    ctor-rows [] w h r = tt
+    ctor-rows (c ∷ cs) w h r =
+        let x : Lines = field-lines (c .ct-fields) w in
+        let k = h .0 in (
+          (lc, refl, (k .0, (k .1, (none, (none, (none, tt)))))),
+          every-append (Row L Q) (x .lines) (ctor-lines cs (x .written) .lines) (field-rows (c .ct-fields) w (k .2) (room-back (ctor-adds cs (x .written) .grows) r)) (ctor-rows cs (x .written) (h .1) r),
+        )
+
+    pub frame-rows : (d : Dtype) (k end : ℕ) (ls : List Line) → EachDtype Q d → k ≤ 12 → Q end → Every (Row L Q) ls → Every (Row L Q) (decl-frame d k end ls)
+    unfolding decl-frame
+    frame-rows d k end ls h l q e =
+        let v : List Line = row verdict-line (0 ∷ 0 ∷ 0 ∷ 0 ∷ 0 ∷ []) ∷ [] in
+        let p : ℕ → Line = λ n. row param-line (n ∷ 0 ∷ 0 ∷ 0 ∷ 0 ∷ []) in (
+          (ld, refl, (h .name, (h .flags, (kind k l, (h .arity, (q, tt)))))),
+          every-append (Row L Q) (map p (d .dt-params) ++ ls) v
+              (every-append (Row L Q) (map p (d .dt-params)) ls (every-map (Row L Q) p (d .dt-params) (every-imp Q (λ n. Row L Q (p n)) (λ n m. (lp, refl, (m, (none, (none, (none, (none, tt))))))) (d .dt-params) (h .params))) e)
+              ((lv, refl, (none, (none, (none, (none, (none, tt)))))), tt),
+        )
+
+    pub decl-rows : (d : Dtype) (b : Body) (w : Written) → EachDtype Q d → EachBody Q b → Room (decl-lines d b w .written) → Every (Row L Q) (decl-lines d b w .lines)
+    unfolding decl-lines
+    decl-rows d TAbstract w h k r = frame-rows d 0 0 [] h (omega arith) none tt
+    decl-rows d (TAbbrev c) w h k r = frame-rows d 1 (last (emit c w)) [] h (omega arith) (last-small (emit c w) r) tt
+    decl-rows d (TRecord fs) w h k r = frame-rows d 2 (length fs) (field-lines fs w .lines) h (omega arith) (k .0) (field-rows fs w (k .1) r)
+    decl-rows d (TVariant cs) w h k r = frame-rows d 3 (length cs) (ctor-lines cs w .lines) h (omega arith) (k .0) (ctor-rows cs w (k .1) r)
+
+    pub program-rows : (ds : List Dtype) (w : Written) → Every (EachDtype Q) ds → Room (program-lines ds w .written) → Every (Row L Q) (program-lines ds w .lines)
+    unfolding program-lines
+    program-rows [] w h r = tt
+    program-rows (d ∷ ds) w h r =
+        let x : Lines = decl-lines d (d .dt-body) w in
+        every-append (Row L Q) (x .lines) (program-lines ds (x .written) .lines)
+        (decl-rows d (d .dt-body) w (h .0) (h .0 .body) (room-back (program-adds ds (x .written) .grows) r))
+        (program-rows ds (x .written) (h .1) r)
+
+    -- Every line of the left sheet is an N line of the input or a line of these letters, with five numbers of which Q holds.
+    pub left-rows : (ls : List Line) (ds : List Dtype) (P : Line → Type 0) → L arg-line → L type-line → ((l : Line) → Row L Q l → P l) → Every P (select name-line ls) →
+        Every (Each Q) (types-of ds) → Every (EachDtype Q) ds → total (types-of ds) ≤ T → Every P (left-lines ls ds)
+    unfolding left-lines
+    left-rows ls ds P la ly f hn ht hd t =
+        let r : Lines = program-lines ds nothing in
+        let a = program-adds ds nothing in
+        let room : Room (r .written) = record { args-room = omega (arith, a .args-count); types-room = omega (arith, a .types-count) } in
+        let good : Good (r .written) = rw (program-written ds nothing) (emit-all-good (types-of ds) nothing ht (rw (program-written ds nothing) at room) (record { args-good = tt; types-good = tt })) in
+        let x : ℕ → Line = λ n. row arg-line (n ∷ 0 ∷ 0 ∷ 0 ∷ 0 ∷ []) in
+        let ns = select name-line ls in
+        let xs = map x (r .written .args) in
+        let ys = map (row type-line) (r .written .types) in
+        every-append P (ns ++ xs ++ ys) (r .lines)
+        (every-append P (ns ++ xs) ys
+        (every-append P ns xs hn (every-map P x (r .written .args) (every-imp Q (λ n. P (x n)) (λ n m. f (x n) (la, refl, (m, (none, (none, (none, (none, tt))))))) (r .written .args) (good .args-good))))
+        (every-map P (row type-line) (r .written .types) (every-imp (λ ns. (length ns ≡ 5) × Every Q ns) (λ ns. P (row type-line ns)) (λ ns m. f (row type-line ns) (ly, m .0, m .1)) (r .written .types) (good .types-good))))
+        (every-imp (Row L Q) P f (r .lines) (program-rows ds nothing hd room))
+
+-- ---- every line of the left sheet is as long as the others
+row-sized : (w : ℕ) (L Q : ℕ → Type 0) (l : Line) → Row L Q l → Sized w l
+row-sized w L Q (named n t) h = absurd h
+row-sized w L Q (row x ns) h = h .1
+row-sized w L Q bad h = absurd h
+
+pub left-sized : (w : ℕ) (ls : List Line) (ds : List Dtype) → Every (Sized w) ls → Every (Sized w) (left-lines ls ds)
+left-sized w ls ds h =
+    let U : ℕ → Type 0 = λ n. Unit {0} in
+    left-rows U (total (types-of ds)) (λ n k. tt) (λ n k. tt) U tt tt tt tt tt ls ds (Sized w) tt tt (row-sized w U U) (every-select (Sized w) name-line ls h)
+    (mem-every (Each U) (types-of ds) (λ c m. each-all U (λ n. tt) c)) (mem-every (EachDtype U) ds (λ d m. dtype-all U (λ n. tt) d)) (omega arith)
+
+pub left-bytes : (w : ℕ) (ls : List Line) (ds : List Dtype) → Every (Sized w) ls → length (encodes w (left-lines ls ds)) ≡ lineBytes w * length (left-lines ls ds)
+left-bytes w ls ds h = encodes-sized w (left-lines ls ds) (left-sized w ls ds h)
+
+-- a prefix of the program has no more bytes in its left sheet
+pub left-bytes-prefix : (w : ℕ) (ls ms : List Line) (ds es : List Dtype) → Every (Sized w) ls → Every (Sized w) ms → select name-line ls ≡ select name-line ms →
+    length (encodes w (left-lines ls ds)) ≤ length (encodes w (left-lines ms (ds ++ es)))
+left-bytes-prefix w ls ms ds es h k e =
+    rw (left-bytes w ls ds h, left-bytes w ms (ds ++ es) k) (mul-le-mul-left (lineBytes w) (left-length-prefix ls ms ds es e))
+
+-- ---- every line of the left sheet fits
+below-every : (m : ℕ) (ns : List ℕ) → Every (λ n. n < m) ns → AllBelow m ns
+below-every m [] h = tt
+below-every m (n ∷ ns) h = (h .0, below-every m ns (h .1))
+
+row-fits : (w : ℕ) (l : Line) → Row (λ x. lettered x ≡ true) (λ n. n < 10 ^ w) l → Fits w l
+row-fits w (named n t) h = absurd h
+row-fits w (row x ns) h = (h .0, h .1, below-every (10 ^ w) ns (h .2))
+row-fits w bad h = absurd h
+
+pub allFit-every : (w : ℕ) (ls : List Line) → AllFit w ls → Every (Fits w) ls
+allFit-every w [] h = tt
+allFit-every w (l ∷ ls) h = (h .0, allFit-every w ls (h .1))
+
+pub every-allFit : (w : ℕ) (ls : List Line) → Every (Fits w) ls → AllFit w ls
+every-allFit w [] h = tt
+every-allFit w (l ∷ ls) h = (h .0, every-allFit w ls (h .1))
+
+-- every number of the program fits w columns, and so does the number of nodes of its types
+pub record ProgramFits (w : ℕ) (ds : List Dtype) : Type 0 where
+  pub kinds : 12 < 10 ^ w
+  pub nodes : total (types-of ds) < 10 ^ w
+  pub types : Every (Each (λ n. n < 10 ^ w)) (types-of ds)
+  pub decls : Every (EachDtype (λ n. n < 10 ^ w)) ds
+
+pub left-fits : (w : ℕ) (ls : List Line) (ds : List Dtype) → AllFit w ls → ProgramFits w ds → AllFit w (left-lines ls ds)
+unfolding lettered
+left-fits w ls ds h p =
+    let Q : ℕ → Type 0 = λ n. n < 10 ^ w in
+    let L : ℕ → Type 0 = λ x. lettered x ≡ true in
+    every-allFit w (left-lines ls ds)
+    (left-rows Q (total (types-of ds)) (λ n k. omega (arith, p .kinds)) (λ n k. omega (arith, p .nodes)) L refl refl refl refl refl ls ds (Fits w) refl refl (row-fits w) (every-select (Fits w) name-line ls (allFit-every w ls h)) (p .types) (p .decls) (omega arith))
+
+-- the lines of the left sheet's bytes
+pub left-round : (w : ℕ) (ls : List Line) (ds : List Dtype) → 0 < w → AllFit w ls → ProgramFits w ds → lines w (encodes w (left-lines ls ds)) ≡ left-lines ls ds
+left-round w ls ds z h p = lines-encodes w (left-lines ls ds) z (left-fits w ls ds h p)
