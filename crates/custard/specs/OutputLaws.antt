@@ -2,11 +2,12 @@
 -- that every line fits its columns. Assumes nothing.
 use mathlib.Core.Path.{_≡_, refl, ap, ap₂, sym, _∙_, subst}
 use mathlib.Core.Logic.{⊎-elim}
-use mathlib.Core.List.{List, [], _∷_, _++_, map, append-assoc, append-nil, List·Memᴰ, List·Memᴰ·head, List·Memᴰ·tail, List·Memᴰ·not-nil, List·Memᴰ·cases-cons, List·Memᴰ·append-cases}
+use mathlib.Core.List.{List, [], _∷_, _++_, map, append-assoc, append-nil, List·Memᴰ, List·Memᴰ·head, List·Memᴰ·tail, List·Memᴰ·not-nil, List·Memᴰ·cases-cons, Memᴰ·append-left, Memᴰ·append-right}
 use mathlib.Core.Bool.{Bool, true, false}
 use Prim.Native.Nat.{ℕ, zero, suc, _+_, _*_, _-_, _^_, _≤_, _<_}
 use native.Mathlib.Omega.{arith}
 use lib.Dec.{eqb}
+use borrow.Author.Tests.{eqb-true}
 use native.Mathlib.Nat.{mul-suc, mul-le-mul-left}
 use lib.ListN.{length, getD, length-append, length-map}
 use Rattle.columns.specs.Column.{pick}
@@ -16,7 +17,7 @@ use Rattle.sheet.specs.LineLaws.{AllBelow, Fits, named-length, row-length}
 use Rattle.sheet.specs.Sheet.{lines, encodes}
 use Rattle.sheet.specs.SheetLaws.{AllFit, lines-encodes}
 use Rattle.custard.specs.Program.{name-line, arg-line, type-line, local-line, param-line, ctor-line, field-line, verdict-line, is, select}
-use Rattle.custard.specs.Cty.{Cty, Ctys, TUnit, TAny, TExn, TVar, TInt, TFloat, TConst, TArrow, TApp, TTuple, TBuf, TRef, TInline, nil, cons, lengths, size, sizes}
+use Rattle.custard.specs.Cty.{Cty, Ctys, TUnit, TAny, TExn, TVar, TInt, TFloat, TConst, TArrow, TApp, TTuple, TBuf, TRef, TInline, nil, cons, gather, gathers, names-of-cty, lengths, size, sizes}
 use Rattle.custard.specs.Decl.{Field, Ctor, Body, TAbstract, TAbbrev, TRecord, TVariant, Dtype}
 use Rattle.custard.specs.Output.{Written, put, last, Members, listed, first-arg, emit, emits, Lines, field-lines, ctor-lines, decl-frame, decl-lines, program-lines, left-lines}
 
@@ -317,6 +318,31 @@ every-select P x (l ∷ ls) h = go (is x l) (every-select P x ls (h .1))
     go true k = (h .0, k)
     go false k = k
 
+pub select-letter : (x : ℕ) (ls : List Line) → Every (λ l. letter l ≡ x) (select x ls)
+unfolding select
+select-letter x [] = tt
+select-letter x (l ∷ ls) = go (is x l) refl (select-letter x ls)
+  where
+    go : (b : Bool) → is x l ≡ b → Every (λ m. letter m ≡ x) (select x ls) → Every (λ m. letter m ≡ x) (pick b (l ∷ select x ls) (select x ls))
+    go true e k = (eqb-true (letter l) x e, k)
+    go false e k = k
+
+-- what holds of each part of the left sheet
+pub left-every : (P : Line → Type 0) (ls : List Line) (ds : List Dtype) → Every P (select name-line ls) →
+    Every (λ n. P (row arg-line (n ∷ 0 ∷ 0 ∷ 0 ∷ 0 ∷ []))) (program-lines ds nothing .written .args) →
+    Every (λ ns. P (row type-line ns)) (program-lines ds nothing .written .types) →
+    Every P (program-lines ds nothing .lines) → Every P (left-lines ls ds)
+unfolding left-lines
+left-every P ls ds hn ha hy hl =
+    let r : Lines = program-lines ds nothing in
+    let x : ℕ → Line = λ n. row arg-line (n ∷ 0 ∷ 0 ∷ 0 ∷ 0 ∷ []) in
+    let ns = select name-line ls in
+    let xs = map x (r .written .args) in
+    let ys = map (row type-line) (r .written .types) in
+    every-append P (ns ++ xs ++ ys) (r .lines)
+    (every-append P (ns ++ xs) ys (every-append P ns xs hn (every-map P x (r .written .args) ha)) (every-map P (row type-line) (r .written .types) hy))
+    hl
+
 -- ---- lines with five numbers
 -- the letter is one of L's, and each of the five numbers one of Q's
 abbrev pub Row : (ℕ → Type 0) → (ℕ → Type 0) → Line → Type 0
@@ -550,20 +576,15 @@ module _ (Q : ℕ → Type 0) (T : ℕ) (kind : (n : ℕ) → n ≤ 12 → Q n) 
     -- Every line of the left sheet is an N line of the input or a line of these letters, with five numbers of which Q holds.
     pub left-rows : (ls : List Line) (ds : List Dtype) (P : Line → Type 0) → L arg-line → L type-line → ((l : Line) → Row L Q l → P l) → Every P (select name-line ls) →
         Every (Each Q) (types-of ds) → Every (EachDtype Q) ds → total (types-of ds) ≤ T → Every P (left-lines ls ds)
-    unfolding left-lines
     left-rows ls ds P la ly f hn ht hd t =
         let r : Lines = program-lines ds nothing in
         let a = program-adds ds nothing in
         let room : Room (r .written) = record { args-room = omega (arith, a .args-count); types-room = omega (arith, a .types-count) } in
         let good : Good (r .written) = rw (program-written ds nothing) (emit-all-good (types-of ds) nothing ht (rw (program-written ds nothing) at room) (record { args-good = tt; types-good = tt })) in
         let x : ℕ → Line = λ n. row arg-line (n ∷ 0 ∷ 0 ∷ 0 ∷ 0 ∷ []) in
-        let ns = select name-line ls in
-        let xs = map x (r .written .args) in
-        let ys = map (row type-line) (r .written .types) in
-        every-append P (ns ++ xs ++ ys) (r .lines)
-        (every-append P (ns ++ xs) ys
-        (every-append P ns xs hn (every-map P x (r .written .args) (every-imp Q (λ n. P (x n)) (λ n m. f (x n) (la, refl, (m, (none, (none, (none, (none, tt))))))) (r .written .args) (good .args-good))))
-        (every-map P (row type-line) (r .written .types) (every-imp (λ ns. (length ns ≡ 5) × Every Q ns) (λ ns. P (row type-line ns)) (λ ns m. f (row type-line ns) (ly, m .0, m .1)) (r .written .types) (good .types-good))))
+        left-every P ls ds hn
+        (every-imp Q (λ n. P (x n)) (λ n m. f (x n) (la, refl, (m, (none, (none, (none, (none, tt))))))) (r .written .args) (good .args-good))
+        (every-imp (λ ns. (length ns ≡ 5) × Every Q ns) (λ ns. P (row type-line ns)) (λ ns m. f (row type-line ns) (ly, m .0, m .1)) (r .written .types) (good .types-good))
         (every-imp (Row L Q) P f (r .lines) (program-rows ds nothing hd room))
 
 -- ---- every line of the left sheet is as long as the others
@@ -623,3 +644,99 @@ left-fits w ls ds h p =
 -- the lines of the left sheet's bytes
 pub left-round : (w : ℕ) (ls : List Line) (ds : List Dtype) → 0 < w → AllFit w ls → ProgramFits w ds → lines w (encodes w (left-lines ls ds)) ≡ left-lines ls ds
 left-round w ls ds z h p = lines-encodes w (left-lines ls ds) z (left-fits w ls ds h p)
+
+-- types of at most m nodes each
+pub total-bound : (m : ℕ) (cs : List Cty) → Every (λ c. size c ≤ m) cs → total cs ≤ m * length cs
+unfolding total
+total-bound m [] h = omega arith
+total-bound m (c ∷ cs) h = omega (arith, h .0, total-bound m cs (h .1), mul-suc m (length cs))
+
+-- ---- names in the left sheet's types
+-- P holds of each name of a type
+abbrev pub NamesIn : (ℕ → Type 0) → Cty → Type 0
+NamesIn P c = (n : ℕ) → List·Memᴰ n (names-of-cty c) → P n
+
+-- P holds of the name of a Y line of kind `TApp`
+abbrev pub AppName : (ℕ → Type 0) → List ℕ → Type 0
+AppName P ns = getD ns 0 0 ≡ 8 → P (getD ns 1 0)
+
+module _ (P : ℕ → Type 0) where
+  put-names : (w : Written) (k a b c : ℕ) → (k ≡ 8 → P a) → Every (AppName P) (w .types) → Every (AppName P) (put w k a b c .types)
+  unfolding put
+  put-names w k a b c p h = every-append (AppName P) (w .types) ((k ∷ a ∷ b ∷ c ∷ 0 ∷ []) ∷ []) h (p, tt)
+
+  mutual
+    unfolding emit names-of-cty gather
+
+    pub emit-names : (c : Cty) (w : Written) → NamesIn P c → Every (AppName P) (w .types) → Every (AppName P) (emit c w .types)
+    emit-names TUnit w h k = put-names w 0 0 0 0 (λ e. absurd (omega arith)) k
+    emit-names TAny w h k = put-names w 1 0 0 0 (λ e. absurd (omega arith)) k
+    emit-names TExn w h k = put-names w 2 0 0 0 (λ e. absurd (omega arith)) k
+    emit-names (TVar v) w h k = put-names w 3 v 0 0 (λ e. absurd (omega arith)) k
+    emit-names (TInt s x) w h k = put-names w 4 s x 0 (λ e. absurd (omega arith)) k
+    emit-names (TFloat f) w h k = put-names w 5 f 0 0 (λ e. absurd (omega arith)) k
+    emit-names (TConst c) w h k = put-names w 6 c 0 0 (λ e. absurd (omega arith)) k
+    emit-names (TArrow a e b) w h k =
+        let x : Written = emit a w in
+        let y : Written = emit b x in
+        put-names y 7 (last x) e (last y) (λ e. absurd (omega arith))
+        (emit-names b x (λ n m. h n (Memᴰ·append-right (names-of-cty a) m)) (emit-names a w (λ n m. h n (Memᴰ·append-left (names-of-cty b) m)) k))
+    emit-names (TApp n ts) w h k =
+        let m : Members = emits ts w in
+        put-names (listed m) 8 n (first-arg m) (length (m .numbers)) (λ e. h n (List·Memᴰ·head refl)) (emits-names ts w (λ i j. h i (List·Memᴰ·tail j)) k)
+    emit-names (TTuple ts) w h k =
+        let m : Members = emits ts w in
+        put-names (listed m) 9 (first-arg m) (length (m .numbers)) 0 (λ e. absurd (omega arith)) (emits-names ts w h k)
+    emit-names (TBuf t) w h k = put-names (emit t w) 10 (last (emit t w)) 0 0 (λ e. absurd (omega arith)) (emit-names t w h k)
+    emit-names (TRef j t) w h k = put-names (emit t w) 11 j (last (emit t w)) 0 (λ e. absurd (omega arith)) (emit-names t w h k)
+    emit-names (TInline t) w h k = put-names (emit t w) 12 (last (emit t w)) 0 0 (λ e. absurd (omega arith)) (emit-names t w h k)
+
+    pub emits-names : (ts : Ctys) (w : Written) → ((n : ℕ) → List·Memᴰ n (gathers (λ v. []) (λ m. m ∷ []) ts) → P n) → Every (AppName P) (w .types) → Every (AppName P) (emits ts w .written .types)
+    emits-names nil w h k = k
+    emits-names (cons t ts) w h k =
+        emits-names ts (emit t w) (λ n m. h n (Memᴰ·append-right (names-of-cty t) m))
+        (emit-names t w (λ n m. h n (Memᴰ·append-left (gathers (λ v. []) (λ m. m ∷ []) ts) m)) k)
+
+  pub emit-all-names : (cs : List Cty) (w : Written) → Every (NamesIn P) cs → Every (AppName P) (w .types) → Every (AppName P) (emit-all cs w .types)
+  unfolding emit-all
+  emit-all-names [] w h k = k
+  emit-all-names (c ∷ cs) w h k = emit-all-names cs (emit c w) (h .1) (emit-names c w (h .0) k)
+
+  -- P holds of the name of each written line that is a Y line of kind `TApp`
+  abbrev pub AppLine : Line → Type 0
+  AppLine l = letter l ≡ type-line → number l 0 ≡ 8 → P (number l 1)
+
+  other-letter : (l : Line) → (letter l ≡ type-line → ⊥) → AppLine l
+  other-letter l n e k = absurd (n e)
+
+  select-app : (ls : List Line) → Every AppLine (select name-line ls)
+  select-app ls = every-imp (λ l. letter l ≡ name-line) AppLine (λ l e. other-letter l (λ k. omega arith)) (select name-line ls) (select-letter name-line ls)
+
+  row-app : (l : Line) → Row (λ x. x ≡ type-line → ⊥) (λ n. Unit {0}) l → AppLine l
+  row-app (named n t) h = absurd h
+  row-app (row x ns) h = other-letter (row x ns) (h .0)
+  row-app bad h = absurd h
+
+  left-apps : (ls : List Line) (ds : List Dtype) → Every (NamesIn P) (types-of ds) → Every AppLine (left-lines ls ds)
+  left-apps ls ds h =
+      let r : Lines = program-lines ds nothing in
+      let U : ℕ → Type 0 = λ n. Unit {0} in
+      let L : ℕ → Type 0 = λ x. x ≡ type-line → ⊥ in
+      let T : ℕ = length (r .written .args) + length (r .written .types) in
+      let names : Every (AppName P) (r .written .types) = rw (program-written ds nothing) (emit-all-names (types-of ds) nothing h tt) in
+      left-every AppLine ls ds (select-app ls)
+      (mem-every (λ n. AppLine (row arg-line (n ∷ 0 ∷ 0 ∷ 0 ∷ 0 ∷ []))) (r .written .args) (λ n k e. absurd (omega arith)))
+      (every-imp (AppName P) (λ ns. AppLine (row type-line ns)) (λ ns k e. k) (r .written .types) names)
+      (every-imp (Row L U) AppLine row-app (r .lines)
+      (program-rows U T (λ n k. tt) (λ n k. tt) L (λ e. omega arith) (λ e. omega arith) (λ e. omega arith) (λ e. omega arith) (λ e. omega arith) ds nothing (mem-every (EachDtype U) ds (λ d m. dtype-all U (λ n. tt) d)) (record { args-room = omega arith; types-room = omega arith })))
+
+  -- What holds of all names of the program's types holds of the name of each `TApp` line of its left sheet.
+  pub left-names : (ls : List Line) (ds : List Dtype) → Every (NamesIn P) (types-of ds) → (l : Line) → List·Memᴰ l (left-lines ls ds) → letter l ≡ type-line → number l 0 ≡ 8 → P (number l 1)
+  left-names ls ds h l m = every-mem AppLine (left-lines ls ds) (left-apps ls ds h) l m
+
+-- each such name occurs in a type of the program
+pub left-names-occur : (ls : List Line) (ds : List Dtype) (l : Line) → List·Memᴰ l (left-lines ls ds) → letter l ≡ type-line → number l 0 ≡ 8 →
+    (c : Cty) × List·Memᴰ c (types-of ds) × List·Memᴰ (number l 1) (names-of-cty c)
+left-names-occur ls ds l m =
+    let P : ℕ → Type 0 = λ n. (c : Cty) × List·Memᴰ c (types-of ds) × List·Memᴰ n (names-of-cty c) in
+    left-names P ls ds (mem-every (NamesIn P) (types-of ds) (λ c j n k. (c, j, k))) l m
