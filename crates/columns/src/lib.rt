@@ -1,4 +1,9 @@
 // Numbers in columns.
+ghost use mathlib.Core.Path.{_≡_};
+ghost use Prim.Native.Nat.{ℕ, _≤_, _<_};
+ghost use lib.ListN.{length};
+ghost use Rattle.columns.specs.Column as col;
+ghost use Rattle.columns.specs.ColumnLaws.{Below};
 
 // What has been read of a number so far.
 pub enum Scan {
@@ -12,4 +17,87 @@ pub enum Scan {
 pub enum Number {
     Value(u32),
     Bad,
+}
+
+// One column more. Eight columns have been read at most, so that the ninth's digit still fits.
+fn step(st: Scan, b: u8) -> Scan
+    requires { ⌜ Below 8 st ⌝ }
+    ensures { λ r. ⌜ r ≡ col.step st b ⌝ }
+{
+    match st {
+        Scan::Blank => {
+            if b == 32 {
+                return Scan::Blank;
+            }
+            if b == 48 {
+                return Scan::Zero;
+            }
+            if 48 <= b {
+                if b <= 57 {
+                    return Scan::In((b - 48) as u32);
+                }
+            }
+            Scan::Broken
+        }
+        Scan::In(v) => {
+            if 48 <= b {
+                if b <= 57 {
+                    return Scan::In(v * 10 + (b - 48) as u32);
+                }
+            }
+            Scan::Broken
+        }
+        Scan::Zero => Scan::Broken,
+        Scan::Broken => Scan::Broken,
+    }
+}
+
+fn told(st: Scan) -> Number
+    ensures { λ r. ⌜ r ≡ col.told st ⌝ }
+{
+    match st {
+        Scan::Blank => Number::Bad,
+        Scan::Zero => Number::Value(0),
+        Scan::In(v) => Number::Value(v),
+        Scan::Broken => Number::Bad,
+    }
+}
+
+// The number in the columns s. Nine columns at most: a u32 holds every number of nine digits.
+pub fn read_number(s: &[u8]) -> Number
+    requires { ⌜ length (now s) ≤ 9 ⌝ }
+    ensures { λ r. ⌜ r ≡ col.read (now (s .entry)) ⌝ }
+{
+    let mut st = Scan::Blank;
+    let mut i = 0;
+    while i < s.len() {
+        st = step(st, s[i]);
+        i += 1;
+    }
+    told(st)
+}
+
+// The column of a digit that is not the last: a space where nothing is left of the number.
+fn column(m: u32) -> u8
+    ensures { λ r. ⌜ r ≡ col.mark m ⌝ }
+{
+    if m == 0 { 32 } else { 48 + (m % 10) as u8 }
+}
+
+// Writes n into the columns, from the right; of a number that does not fit, its last digits.
+pub fn write_number(out: &mut [u8], n: u32)
+    ensures { λ _. ⌜ now (out .exit) ≡ col.write (length (now (out .entry))) n ⌝ }
+{
+    let mut i = out.len();
+    if i == 0 {
+        return;
+    }
+    i -= 1;
+    out[i] = 48 + (n % 10) as u8;
+    let mut m = n / 10;
+    while 0 < i {
+        i -= 1;
+        out[i] = column(m);
+        m = m / 10;
+    }
 }
