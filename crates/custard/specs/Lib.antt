@@ -9,5 +9,6 @@ pub mod Program
 pub mod Rows
 pub mod Output
 pub mod Answer
+pub mod ProgramLaws
 pub mod OutputLaws
 pub mod WrittenLaws
