@@ -1,6 +1,9 @@
 pub mod Cty
 pub mod Decl
 pub mod Erasure
+pub mod RoundsLaws
+pub mod Names
+pub mod NamesLaws
 pub mod Reach
 pub mod Layout
 pub mod Resolve

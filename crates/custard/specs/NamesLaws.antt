@@ -1,0 +1,113 @@
+-- Laws of a name's position, and of programs that agree on a set of names. Assumes nothing.
+use mathlib.Core.Logic.{_≢_, ⊎-elim}
+use mathlib.Core.Path.{_≡_, refl, ap, sym, _∙_, subst}
+use mathlib.Core.List.{List, [], _∷_, _++_, List·Memᴰ}
+use mathlib.Core.Bool.{Bool, true, false}
+use Prim.Native.Nat.{ℕ, zero, suc, _+_, _≤_, _<_}
+use native.Mathlib.Omega.{arith}
+use lib.Dec.{T, eqb, eqb→eq, eqb-refl}
+use lib.ListN.{length, getD}
+use Rattle.columns.specs.Column.{pick}
+use Rattle.custard.specs.Decl.{Dtype, TypeInfo, Decl, dtype-at, origin-at, position}
+use Rattle.custard.specs.Names.{dtype-names, Declared, Distinct, Agree, Pinned}
+
+-- ---- position
+pub position-le : (ds : List Decl) (n : ℕ) → position ds n ≤ length ds
+unfolding position
+position-le [] n = omega arith
+position-le (d ∷ ds) n = go (position-le ds n) (eqb (d .dtype .dt-name) n)
+  where
+    go : position ds n ≤ length ds → (b : Bool) → pick b 0 (suc (position ds n)) ≤ suc (length ds)
+    go ih true = omega arith
+    go ih false = omega arith
+
+-- the declaration at a name's position has that name
+pub position-name : (ds : List Decl) (n : ℕ) → Declared ds n → dtype-at ds (position ds n) .dt-name ≡ n
+unfolding position
+position-name [] n h = absurd (omega arith)
+position-name (d ∷ ds) n h = go (position-name ds n) (eqb (d .dtype .dt-name) n) refl h
+  where
+    go : (Declared ds n → dtype-at ds (position ds n) .dt-name ≡ n)
+        → (b : Bool) → eqb (d .dtype .dt-name) n ≡ b → pick b 0 (suc (position ds n)) < suc (length ds)
+        → dtype-at (d ∷ ds) (pick b 0 (suc (position ds n))) .dt-name ≡ n
+    go ih true e q = eqb→eq (d .dtype .dt-name) n (rw e tt)
+    go ih false e q = ih (omega arith)
+
+-- no declaration before it has
+pub position-first : (ds : List Decl) (n i : ℕ) → i < length ds → dtype-at ds i .dt-name ≡ n → position ds n ≤ i
+unfolding position
+position-first [] n i h e = absurd (omega arith)
+position-first (d ∷ ds) n zero h e = go (eqb (d .dtype .dt-name) n) (rw e (eqb-refl n))
+  where
+    go : (b : Bool) → T b → pick b 0 (suc (position ds n)) ≤ 0
+    go true t = omega arith
+    go false t = absurd t
+position-first (d ∷ ds) n (suc i) h e = go (position-first ds n i (omega arith) e) (eqb (d .dtype .dt-name) n)
+  where
+    go : position ds n ≤ i → (b : Bool) → pick b 0 (suc (position ds n)) ≤ suc i
+    go ih true = omega arith
+    go ih false = omega arith
+
+-- the name of a declaration is declared
+pub position-declared : (ds : List Decl) (i : ℕ) → i < length ds → Declared ds (dtype-at ds i .dt-name)
+position-declared ds i h = omega (arith, position-first ds (dtype-at ds i .dt-name) i h refl)
+
+-- in a program that declares no name twice, at its own place
+pub position-distinct : (ds : List Decl) → Distinct ds → (i : ℕ) → i < length ds → position ds (dtype-at ds i .dt-name) ≡ i
+position-distinct ds u i h =
+    let q : Declared ds (dtype-at ds i .dt-name) = position-declared ds i h in
+    u (position ds (dtype-at ds i .dt-name)) i q h (position-name ds (dtype-at ds i .dt-name) q)
+
+-- a name that no declaration has is foreign
+pub position-foreign : (ds : List Decl) (n : ℕ) → ((i : ℕ) → i < length ds → dtype-at ds i .dt-name ≢ n) → position ds n ≡ length ds
+unfolding position
+position-foreign [] n f = refl
+position-foreign (d ∷ ds) n f =
+    go (position-foreign ds n (λ i h. f (suc i) (omega arith))) (eqb (d .dtype .dt-name) n) refl
+  where
+    go : position ds n ≡ length ds → (b : Bool) → eqb (d .dtype .dt-name) n ≡ b → pick b 0 (suc (position ds n)) ≡ suc (length ds)
+    go ih true e = absurd (f 0 (omega arith) (eqb→eq (d .dtype .dt-name) n (rw e tt)))
+    go ih false e = ap suc ih
+
+-- in an append: where the first part declares it, else behind the first part
+pub position-append-left : (ds es : List Decl) (n : ℕ) → Declared ds n → position (ds ++ es) n ≡ position ds n
+unfolding position
+position-append-left [] es n h = absurd (omega arith)
+position-append-left (d ∷ ds) es n h = go (position-append-left ds es n) (eqb (d .dtype .dt-name) n) h
+  where
+    go : (Declared ds n → position (ds ++ es) n ≡ position ds n) → (b : Bool) → pick b 0 (suc (position ds n)) < suc (length ds)
+        → pick b 0 (suc (position (ds ++ es) n)) ≡ pick b 0 (suc (position ds n))
+    go ih true q = refl
+    go ih false q = ap suc (ih (omega arith))
+
+pub position-append-right : (ds es : List Decl) (n : ℕ) → position ds n ≡ length ds → position (ds ++ es) n ≡ length ds + position es n
+unfolding position
+position-append-right [] es n h = omega arith
+position-append-right (d ∷ ds) es n h = go (position-append-right ds es n) (eqb (d .dtype .dt-name) n) h
+  where
+    go : (position ds n ≡ length ds → position (ds ++ es) n ≡ length ds + position es n) → (b : Bool) → pick b 0 (suc (position ds n)) ≡ suc (length ds)
+        → pick b 0 (suc (position (ds ++ es) n)) ≡ suc (length ds) + position es n
+    go ih true q = absurd (omega arith)
+    go ih false q = omega (arith, ih (omega arith))
+
+-- equal dtypes, place by place, have equal positions
+pub position-same : (ds ds' : List Decl) (n : ℕ) → length ds ≡ length ds'
+    → ((i : ℕ) → i < length ds → dtype-at ds i ≡ dtype-at ds' i) → position ds n ≡ position ds' n
+unfolding position
+position-same [] [] n e f = refl
+position-same [] (d' ∷ ds') n e f = absurd (omega arith)
+position-same (d ∷ ds) [] n e f = absurd (omega arith)
+position-same (d ∷ ds) (d' ∷ ds') n e f =
+    rw (f 0 (omega arith), position-same ds ds' n (omega arith) (λ i h. f (suc i) (omega arith)))
+
+pub position-pinned : {P : ℕ → TypeInfo → Type 0} (ds ds' : List Decl) (n : ℕ) → Pinned P ds ds' → position ds n ≡ position ds' n
+position-pinned ds ds' n h = position-same ds ds' n (h .same-length) (h .same-dtypes)
+
+-- ---- programs that agree
+pub agree-sym : (S : ℕ → Bool) (ds ds' : List Decl) → Agree S ds ds' → Agree S ds' ds
+agree-sym S ds ds' g = record {
+  declared = λ n s. (g .declared n s .1, g .declared n s .0);
+  same-dtype = λ n s h. sym (g .same-dtype n s (g .declared n s .1 h));
+  same-origin = λ n s h. sym (g .same-origin n s (g .declared n s .1 h));
+  closed = λ n s h m k. g .closed n s (g .declared n s .1 h) m (rw (g .same-dtype n s (g .declared n s .1 h)) k);
+}
