@@ -15,11 +15,13 @@ use Rattle.sheet.specs.Format.{lineBytes, textBytes}
 use Rattle.sheet.specs.Line.{Line, named, row, bad, lettered, encode, letter, number}
 use Rattle.sheet.specs.LineLaws.{AllBelow, Fits, named-length, row-length}
 use Rattle.sheet.specs.Sheet.{lines, encodes}
-use Rattle.sheet.specs.SheetLaws.{AllFit, lines-encodes}
-use Rattle.custard.specs.Program.{name-line, arg-line, type-line, local-line, param-line, ctor-line, field-line, verdict-line, is, select}
+use Rattle.sheet.specs.SheetLaws.{AllFit, length-encodes, lines-encodes}
+use Rattle.custard.specs.Program.{name-line, arg-line, type-line, local-line, param-line, ctor-line, field-line, verdict-line, import-line, is, is-head, select, before, Group, groups}
 use Rattle.custard.specs.Cty.{Cty, Ctys, TUnit, TAny, TExn, TVar, TInt, TFloat, TConst, TArrow, TApp, TTuple, TBuf, TRef, TInline, nil, cons, gather, gathers, names-of-cty, lengths, size, sizes}
-use Rattle.custard.specs.Decl.{Field, Ctor, Body, TAbstract, TAbbrev, TRecord, TVariant, Dtype}
-use Rattle.custard.specs.Output.{Written, put, last, Members, listed, first-arg, emit, emits, Lines, field-lines, ctor-lines, decl-frame, decl-lines, program-lines, left-lines}
+use Rattle.custard.specs.Decl.{Field, Ctor, Body, TAbstract, TAbbrev, TRecord, TVariant, Dtype, CtorLayout, Layout, L-erased, L-newtype, L-struct, L-abbrev, L-opaque, layout-number, TypeInfo}
+use Rattle.custard.specs.Output.{bit, fill-keeps, fill-verdict, all-slots, fill, fill-all, verdict-lines, Written, put, last, Members, listed, first-arg, emit, emits, Lines, field-lines, ctor-lines, decl-frame, decl-lines, program-lines, left-lines}
+use Rattle.custard.specs.Names.{fields-names, ctors-names, body-names, dtype-names}
+use Rattle.custard.specs.ProgramLaws.{flat, before-flat}
 
 -- ---- lists
 -- P holds of every element
@@ -46,6 +48,14 @@ every-mem P (y ∷ xs) h x m = ⊎-elim (λ e. rw e (h .0)) (λ k. every-mem P x
 pub mem-every : {A : Type 0} (P : A → Type 0) (xs : List A) → ((x : A) → List·Memᴰ x xs → P x) → Every P xs
 mem-every P [] h = tt
 mem-every P (x ∷ xs) h = (h x (List·Memᴰ·head refl), mem-every P xs (λ y m. h y (List·Memᴰ·tail m)))
+
+pub every-left : {A : Type 0} (P : A → Type 0) (xs ys : List A) → Every P (xs ++ ys) → Every P xs
+every-left P [] ys h = tt
+every-left P (x ∷ xs) ys h = (h .0, every-left P xs ys (h .1))
+
+pub every-right : {A : Type 0} (P : A → Type 0) (xs ys : List A) → Every P (xs ++ ys) → Every P ys
+every-right P [] ys h = h
+every-right P (x ∷ xs) ys h = every-right P xs ys (h .1)
 
 -- ---- what is written is added at the ends
 pub record Grows (w v : Written) : Type 0 where
@@ -740,3 +750,164 @@ pub left-names-occur : (ls : List Line) (ds : List Dtype) (l : Line) → List·M
 left-names-occur ls ds l m =
     let P : ℕ → Type 0 = λ n. (c : Cty) × List·Memᴰ c (types-of ds) × List·Memᴰ n (names-of-cty c) in
     left-names P ls ds (mem-every (NamesIn P) (types-of ds) (λ c j n k. (c, j, k))) l m
+
+-- the same, by the names of each declaration
+fields-in : (P : ℕ → Type 0) (fs : List Field) → ((n : ℕ) → List·Memᴰ n (fields-names fs) → P n) → Every (NamesIn P) (types-of-fields fs)
+unfolding fields-names types-of-fields
+fields-in P [] h = tt
+fields-in P (f ∷ fs) h =
+    (λ n m. h n (Memᴰ·append-left (fields-names fs) m), fields-in P fs (λ n m. h n (Memᴰ·append-right (names-of-cty (f .fd-type)) m)))
+
+ctors-in : (P : ℕ → Type 0) (cs : List Ctor) → ((n : ℕ) → List·Memᴰ n (ctors-names cs) → P n) → Every (NamesIn P) (types-of-ctors cs)
+unfolding ctors-names types-of-ctors
+ctors-in P [] h = tt
+ctors-in P (c ∷ cs) h =
+    every-append (NamesIn P) (types-of-fields (c .ct-fields)) (types-of-ctors cs)
+    (fields-in P (c .ct-fields) (λ n m. h n (Memᴰ·append-left (ctors-names cs) m)))
+    (ctors-in P cs (λ n m. h n (Memᴰ·append-right (fields-names (c .ct-fields)) m)))
+
+body-in : (P : ℕ → Type 0) (b : Body) → ((n : ℕ) → List·Memᴰ n (body-names b) → P n) → Every (NamesIn P) (types-of-body b)
+unfolding body-names types-of-body
+body-in P TAbstract h = tt
+body-in P (TAbbrev c) h = (h, tt)
+body-in P (TRecord fs) h = fields-in P fs h
+body-in P (TVariant cs) h = ctors-in P cs h
+
+pub names-in-types : (P : ℕ → Type 0) (ds : List Dtype) → Every (λ d. (n : ℕ) → List·Memᴰ n (dtype-names d) → P n) ds → Every (NamesIn P) (types-of ds)
+unfolding types-of dtype-names
+names-in-types P [] h = tt
+names-in-types P (d ∷ ds) h =
+    every-append (NamesIn P) (types-of-body (d .dt-body)) (types-of ds) (body-in P (d .dt-body) (h .0)) (names-in-types P ds (h .1))
+
+-- ---- the verdict sheet
+pow-pos : (w : ℕ) → 0 < 10 ^ w
+pow-pos zero = omega arith
+pow-pos (suc w) = omega (arith, pow-pos w)
+
+-- any column holds a digit
+pub ten : (w : ℕ) → 0 < w → 4 < 10 ^ w
+ten zero h = absurd (omega arith)
+ten (suc w) h = omega (arith, pow-pos w)
+
+-- every line that is filled in fits where the lines do
+module _ (w : ℕ) (four : 4 < 10 ^ w) where
+  getD-below : (ns : List ℕ) (k : ℕ) → AllBelow (10 ^ w) ns → getD ns k 0 < 10 ^ w
+  getD-below [] k h = omega arith
+  getD-below (n ∷ ns) zero h = h .0
+  getD-below (n ∷ ns) (suc k) h = getD-below ns k (h .1)
+
+  pub number-fits : (l : Line) (k : ℕ) → Fits w l → number l k < 10 ^ w
+  number-fits (named n t) k h = getD-below (n ∷ []) k (h .0, tt)
+  number-fits (row x ns) k h = getD-below ns k (h .2)
+  number-fits bad k h = absurd h
+
+  bit-fits : (b : Bool) → bit b < 10 ^ w
+  bit-fits true = omega arith
+  bit-fits false = omega arith
+
+  layout-fits : (l : Layout) → layout-number l < 10 ^ w
+  unfolding layout-number
+  layout-fits L-erased = omega arith
+  layout-fits (L-newtype nt) = omega arith
+  layout-fits (L-struct cls) = omega arith
+  layout-fits (L-abbrev c) = omega arith
+  layout-fits L-opaque = omega arith
+
+  zero-fits : 0 < 10 ^ w
+  zero-fits = omega arith
+
+  keeps-fit : (bs : List Bool) (ls : List Line) → Every (Fits w) ls → Every (Fits w) (fill-keeps bs ls)
+  unfolding fill-keeps lettered
+  keeps-fit bs [] h = tt
+  keeps-fit [] (l ∷ ls) h = (h .0, keeps-fit [] ls (h .1))
+  keeps-fit (b ∷ bs) (l ∷ ls) h = go (is field-line l) (keeps-fit bs ls (h .1)) (keeps-fit (b ∷ bs) ls (h .1))
+    where
+      go : (c : Bool) → Every (Fits w) (fill-keeps bs ls) → Every (Fits w) (fill-keeps (b ∷ bs) ls) →
+          Every (Fits w) (elim c [ true ↦ row field-line (number l 0 ∷ number l 1 ∷ bit b ∷ 0 ∷ 0 ∷ []) ∷ fill-keeps bs ls | false ↦ l ∷ fill-keeps (b ∷ bs) ls ])
+      go true i j = ((refl, refl, (number-fits l 0 (h .0), (number-fits l 1 (h .0), (bit-fits b, (zero-fits, (zero-fits, tt)))))), i)
+      go false i j = (h .0, j)
+
+  verdict-fit : (ti : TypeInfo) (ls : List Line) → Every (Fits w) ls → Every (Fits w) (fill-verdict ti ls)
+  unfolding fill-verdict lettered
+  verdict-fit ti ls h =
+      let v : Line = row verdict-line (bit (ti .ti-erased) ∷ layout-number (ti .ti-layout) ∷ bit (ti .ti-record) ∷ 0 ∷ 0 ∷ []) in
+      every-map (Fits w) (λ l. pick (is verdict-line l) v l) ls (every-imp (Fits w) (λ l. Fits w (pick (is verdict-line l) v l)) (λ l k. go l (is verdict-line l) k) ls h)
+    where
+      go : (l : Line) (c : Bool) → Fits w l → Fits w (pick c (row verdict-line (bit (ti .ti-erased) ∷ layout-number (ti .ti-layout) ∷ bit (ti .ti-record) ∷ 0 ∷ 0 ∷ [])) l)
+      go l true k = (refl, refl, (bit-fits (ti .ti-erased), (layout-fits (ti .ti-layout), (bit-fits (ti .ti-record), (zero-fits, (zero-fits, tt))))))
+      go l false k = k
+
+  fill-fits : (g : Group) (ti : TypeInfo) → Every (Fits w) (g .head ∷ g .rest) → Every (Fits w) (fill g ti)
+  unfolding fill lettered
+  fill-fits g ti h = go (is import-line (g .head))
+    where
+      go : (c : Bool) → Every (Fits w) (elim c [
+        | true ↦ g .head ∷ g .rest
+        | false ↦ row import-line (map (number (g .head)) (0 ∷ 1 ∷ 2 ∷ 3 ∷ 4 ∷ [])) ∷ fill-verdict ti (fill-keeps (all-slots (ti .ti-ctors)) (g .rest))
+      ])
+      go true = h
+      go false =
+          let f : (k : ℕ) → number (g .head) k < 10 ^ w = λ k. number-fits (g .head) k (h .0) in
+          ((refl, refl, (f 0, (f 1, (f 2, (f 3, (f 4, tt)))))), verdict-fit ti (fill-keeps (all-slots (ti .ti-ctors)) (g .rest)) (keeps-fit (all-slots (ti .ti-ctors)) (g .rest) (h .1)))
+
+  fill-all-fits : (gs : List Group) (tis : List TypeInfo) → Every (Fits w) (flat gs) → Every (Fits w) (fill-all gs tis)
+  unfolding fill-all flat
+  fill-all-fits [] tis h = tt
+  fill-all-fits (g ∷ gs) [] h = tt
+  fill-all-fits (g ∷ gs) (ti ∷ tis) h =
+      every-append (Fits w) (fill g ti) (fill-all gs tis)
+      (fill-fits g ti (every-left (Fits w) (g .head ∷ g .rest) (flat gs) h))
+      (fill-all-fits gs tis (every-right (Fits w) (g .head ∷ g .rest) (flat gs) h))
+
+  -- the lines of the verdict sheet fit where the input's do
+  pub verdict-fits : (ls : List Line) (tis : List TypeInfo) → AllFit w ls → AllFit w (verdict-lines ls tis)
+  unfolding verdict-lines
+  verdict-fits ls tis h =
+      let p = before is-head ls in
+      let q = flat (groups is-head ls) in
+      let k : Every (Fits w) (p ++ q) = rw (before-flat is-head ls) (allFit-every w ls h) in
+      every-allFit w (p ++ fill-all (groups is-head ls) tis)
+      (every-append (Fits w) p (fill-all (groups is-head ls) tis) (every-left (Fits w) p q k) (fill-all-fits (groups is-head ls) tis (every-right (Fits w) p q k)))
+
+-- ---- its length
+length-keeps : (bs : List Bool) (ls : List Line) → length (fill-keeps bs ls) ≡ length ls
+unfolding fill-keeps
+length-keeps bs [] = refl
+length-keeps [] (l ∷ ls) = ap suc (length-keeps [] ls)
+length-keeps (b ∷ bs) (l ∷ ls) = go (is field-line l) (length-keeps bs ls) (length-keeps (b ∷ bs) ls)
+  where
+    go : (c : Bool) → length (fill-keeps bs ls) ≡ length ls → length (fill-keeps (b ∷ bs) ls) ≡ length ls →
+        length {A = Line} (elim c [ true ↦ row field-line (number l 0 ∷ number l 1 ∷ bit b ∷ 0 ∷ 0 ∷ []) ∷ fill-keeps bs ls | false ↦ l ∷ fill-keeps (b ∷ bs) ls ]) ≡ suc (length ls)
+    go true i j = ap suc i
+    go false i j = ap suc j
+
+length-fill : (g : Group) (ti : TypeInfo) → length (fill g ti) ≡ suc (length (g .rest))
+unfolding fill fill-verdict
+length-fill g ti = go (is import-line (g .head))
+  where
+    go : (c : Bool) → length {A = Line} (elim c [
+      | true ↦ g .head ∷ g .rest
+      | false ↦ row import-line (map (number (g .head)) (0 ∷ 1 ∷ 2 ∷ 3 ∷ 4 ∷ [])) ∷ fill-verdict ti (fill-keeps (all-slots (ti .ti-ctors)) (g .rest))
+    ]) ≡ suc (length (g .rest))
+    go true = refl
+    go false = ap suc (simp length-map (length-keeps (all-slots (ti .ti-ctors)) (g .rest)))
+
+length-fill-all : (gs : List Group) (tis : List TypeInfo) → length gs ≡ length tis → length (fill-all gs tis) ≡ length (flat gs)
+unfolding fill-all flat
+length-fill-all [] tis e = refl
+length-fill-all (g ∷ gs) [] e = absurd (omega arith)
+length-fill-all (g ∷ gs) (ti ∷ tis) e =
+    rw (length-append (fill g ti) (fill-all gs tis), length-append (g .head ∷ g .rest) (flat gs), length-fill g ti, length-fill-all gs tis (omega arith))
+
+-- one line for each line of the input
+pub verdict-lines-length : (ls : List Line) (tis : List TypeInfo) → length (groups is-head ls) ≡ length tis → length (verdict-lines ls tis) ≡ length ls
+unfolding verdict-lines
+verdict-lines-length ls tis e =
+    rw (length-append, length-fill-all (groups is-head ls) tis e) (sym (length-append (before is-head ls) (flat (groups is-head ls))) ∙ ap length (before-flat is-head ls))
+
+pub verdict-bytes : (w : ℕ) (ls : List Line) (tis : List TypeInfo) → 4 < 10 ^ w → AllFit w ls → length (groups is-head ls) ≡ length tis →
+    length (encodes w (verdict-lines ls tis)) ≡ lineBytes w * length ls
+verdict-bytes w ls tis f h e = rw (length-encodes w (verdict-lines ls tis) (verdict-fits w f ls tis h), verdict-lines-length ls tis e)
+
+pub verdict-round : (w : ℕ) (ls : List Line) (tis : List TypeInfo) → 0 < w → AllFit w ls → lines w (encodes w (verdict-lines ls tis)) ≡ verdict-lines ls tis
+verdict-round w ls tis z h = lines-encodes w (verdict-lines ls tis) z (verdict-fits w (ten w z) ls tis h)
