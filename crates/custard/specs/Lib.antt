@@ -23,3 +23,6 @@ pub mod ResolveLaws
 pub mod RunLaws
 pub mod OwnLaws
 pub mod Locality
+pub mod ProgramLaws
+pub mod OutputLaws
+pub mod WrittenLaws
