@@ -26,3 +26,4 @@ pub mod Locality
 pub mod ProgramLaws
 pub mod OutputLaws
 pub mod WrittenLaws
+pub mod Pinning

@@ -14,21 +14,70 @@ use borrow.Author.Tests.{ltb-true, ltb-false}
 use Rattle.columns.specs.Column.{pick}
 use Rattle.custard.specs.Cty.{Cty, names-of-cty}
 use Rattle.custard.specs.Decl.{
-  Field, Body, TAbstract, TAbbrev, TRecord, TVariant, Dtype, Realized, NoUnfold, has-flag, CtorLayout, Layout, L-erased, L-newtype, L-struct, L-abbrev, L-opaque, TypeInfo, Origin, here, imported, Decl, dtype-at, origin-at, position
+  Field,
+  Body,
+  TAbstract,
+  TAbbrev,
+  TRecord,
+  TVariant,
+  Dtype,
+  Realized,
+  NoUnfold,
+  has-flag,
+  CtorLayout,
+  Layout,
+  L-erased,
+  L-newtype,
+  L-struct,
+  L-abbrev,
+  L-opaque,
+  TypeInfo,
+  Origin,
+  here,
+  imported,
+  Decl,
+  dtype-at,
+  origin-at,
+  position,
 }
 use Rattle.custard.specs.Erasure.{marked, erasure-fixpoint}
 use Rattle.custard.specs.Layout.{ctor-layouts, candidate, dropped, names-in, layout-of, compute-layouts}
 use Rattle.custard.specs.Reach.{Reach, cyclic}
 use Rattle.custard.specs.Resolve.{Unfold, gone, newtype, abbreviation, stays, unfold-body, unfold-dtype, unfold-of, unfolds, unfold-name, resolve, resolve-checked}
 use Rattle.custard.specs.Run.{
-  fuel, resolved-field, resolved-ctor, struct-body, rw-decl, record-of, info, layouts-of, unfold-names, unfold-next, returns, field-types, resolves, fault-code, decl-fault
+  fuel,
+  resolved-field,
+  resolved-ctor,
+  struct-body,
+  rw-decl,
+  record-of,
+  info,
+  layouts-of,
+  unfold-names,
+  unfold-next,
+  returns,
+  field-types,
+  resolves,
+  fault-code,
+  decl-fault,
 }
 use Rattle.custard.specs.Names.{fields-names, dtype-names, body-names, Declared, Agree}
 use Rattle.custard.specs.NamesLaws.{position-le, agree-sym}
 use Rattle.custard.specs.ErasureLaws.{erasure-local, ctor-layouts-local}
 use Rattle.custard.specs.ReachLaws.{cyclic-iff, reach-loop}
 use Rattle.custard.specs.LayoutLaws.{
-  candidates-of, getD-table, getD-table-past, getD-layouts, getD-candidates, layout-same, Alike, Places, places-only, Placed, names-in-iff, unfold-below
+  candidates-of,
+  getD-table,
+  getD-table-past,
+  getD-layouts,
+  getD-candidates,
+  layout-same,
+  Alike,
+  Places,
+  places-only,
+  Placed,
+  names-in-iff,
+  unfold-below,
 }
 use Rattle.custard.specs.CtyLaws.{Every, All, names-all, all-names}
 use Rattle.custard.specs.ResolveLaws.{BodyAll, Fields, Kept, kept-field-types, rw-decl-local, decl-fault-local}
@@ -48,8 +97,10 @@ layouts-own ds own i h =
   where
     s : List Bool
     s = erasure-fixpoint ds .marks
+
     er : ℕ → Bool
     er = marked ds s
+
     go : (drop : Bool) (cand : Option Layout) (o : Origin) → origin-at ds i ≡ o
         → cand ≡ candidate (dtype-at ds i) (origin-at ds i) (getD s i false) (ctor-layouts er (dtype-at ds i))
         → Among (layout-names (layout-of (dtype-at ds i) o (getD s i false) drop cand (ctor-layouts er (dtype-at ds i)))) (dtype-names (dtype-at ds i))
@@ -175,23 +226,27 @@ module _ (S : ℕ → Bool) (ds ds' : List Decl) (agree : Agree S ds ds') (own :
     where
       er : ℕ → Bool
       er = marked ds (erasure-fixpoint ds .marks)
+
       er' : ℕ → Bool
       er' = marked ds' (erasure-fixpoint ds' .marks)
+
       t : Dtype
       t = dtype-at ds (position ds n)
+
       cls : ctor-layouts er t ≡ ctor-layouts er' t
       cls = ctor-layouts-local er er' t (λ m k. erasure-local S ds ds' agree m (agree .closed n h d m k))
+
       go : (o : Origin) → info er t o (getD (erasure-fixpoint ds .marks) (position ds n) false) (layout-of-decl ds (position ds n)) (left-at ds (position ds n))
           ≡ info er' t o (getD (erasure-fixpoint ds .marks) (position ds n) false) (layout-of-decl ds (position ds n)) (left-at ds (position ds n))
       go here =
           ap
           (λ (x : List CtorLayout).
-            record {
-              ti-erased = getD (erasure-fixpoint ds .marks) (position ds n) false;
-              ti-layout = layout-of-decl ds (position ds n);
-              ti-ctors = x;
-              ti-record = record-of (left-at ds (position ds n));
-            })
+          record {
+            ti-erased = getD (erasure-fixpoint ds .marks) (position ds n) false;
+            ti-layout = layout-of-decl ds (position ds n);
+            ti-ctors = x;
+            ti-record = record-of (left-at ds (position ds n));
+          })
           cls
       go (imported ti) = refl
 
@@ -202,10 +257,11 @@ module _ (S : ℕ → Bool) (ds ds' : List Decl) (agree : Agree S ds ds') (own :
       let n : ℕ = q .name in
       let h : S n ≡ true = all-names In c a n (q .named) in
       let d : Declared ds n = rw (q .placed) (q .below) in
-      let d' : Declared ds' n = agree .declared n h .0 d in
-      (position ds' n,
-      names-in-iff ds' c (position ds' n) .1 (record { name = n; named = q .named; placed = refl; below = d' }),
-      record { name = n; member = h; declared = d; first = q .placed; second = refl })
+      let d' : Declared ds' n = agree .declared n h .0 d in (
+        position ds' n,
+        names-in-iff ds' c (position ds' n) .1 (record { name = n; named = q .named; placed = refl; below = d' }),
+        record { name = n; member = h; declared = d; first = q .placed; second = refl },
+      )
 
   unfold-names-match : (u : Unfold) → BodyAll In u → (j : ℕ) → List·Memᴰ j (unfold-names ds u) → (j' : ℕ) × List·Memᴰ j' (unfold-names ds' u) × Places S ds ds' j j'
   unfolding unfold-names

@@ -3,7 +3,19 @@
 use mathlib.Core.Logic.{_⊎_, inl, inr, ⊎-elim}
 use mathlib.Core.Path.{_≡_, refl, sym, _∙_, ap, subst}
 use mathlib.Core.List.{
-  List, [], _∷_, _++_, map, List·Memᴰ, List·Memᴰ·head, List·Memᴰ·tail, List·Memᴰ·not-nil, List·Memᴰ·cases-cons, List·Memᴰ·append-cases, Memᴰ·append-left, Memᴰ·append-right
+  List,
+  [],
+  _∷_,
+  _++_,
+  map,
+  List·Memᴰ,
+  List·Memᴰ·head,
+  List·Memᴰ·tail,
+  List·Memᴰ·not-nil,
+  List·Memᴰ·cases-cons,
+  List·Memᴰ·append-cases,
+  Memᴰ·append-left,
+  Memᴰ·append-right,
 }
 use mathlib.Core.Bool.{Bool, true, false, _||_}
 use mathlib.Core.Option.{Option, none, some}
@@ -12,10 +24,48 @@ use lib.Dec.{eqb}
 use Rattle.columns.specs.Column.{pick, _⇒_∥_}
 use Rattle.sheet.specs.Line.{Line}
 use Rattle.custard.specs.Cty.{
-  Cty, TUnit, TAny, TExn, TVar, TInt, TFloat, TConst, TArrow, TApp, TTuple, TBuf, TRef, TInline, gather, names-of-cty, uninline
+  Cty,
+  TUnit,
+  TAny,
+  TExn,
+  TVar,
+  TInt,
+  TFloat,
+  TConst,
+  TArrow,
+  TApp,
+  TTuple,
+  TBuf,
+  TRef,
+  TInline,
+  gather,
+  names-of-cty,
+  uninline,
 }
 use Rattle.custard.specs.Decl.{
-  Field, Ctor, Body, TAbstract, TAbbrev, TRecord, TVariant, Dtype, ctors-of, ctors-of-tydef, has-flag, NoNewtype, CtorLayout, Layout, L-erased, L-newtype, L-struct, L-abbrev, L-opaque, TypeInfo, Origin, here, imported
+  Field,
+  Ctor,
+  Body,
+  TAbstract,
+  TAbbrev,
+  TRecord,
+  TVariant,
+  Dtype,
+  ctors-of,
+  ctors-of-tydef,
+  has-flag,
+  NoNewtype,
+  CtorLayout,
+  Layout,
+  L-erased,
+  L-newtype,
+  L-struct,
+  L-abbrev,
+  L-opaque,
+  TypeInfo,
+  Origin,
+  here,
+  imported,
 }
 use Rattle.custard.specs.Layout.{kept, ctor-layout, ctor-layouts, newtype-of-ctor, newtype-of, candidate, collapse, layout-of-body, layout-of}
 use Rattle.custard.specs.Run.{field-types, resolves}
@@ -150,11 +200,14 @@ layout-own er d false drop = go (d .dt-body) refl
   where
     cls : List CtorLayout
     cls = ctor-layouts er d
+
     cand : Option Layout
     cand = candidate d here false cls
+
     struct : Among (layout-names (collapse drop cand cls)) (body-names (d .dt-body))
     struct =
         collapse-own (body-names (d .dt-body)) drop cand cls (ctor-layouts-own er d) (option-weaken (cls-names cls) (body-names (d .dt-body)) cand (ctor-layouts-own er d) (candidate-own d here false cls))
+
     go : (b : Body) → d .dt-body ≡ b → Among (layout-names (layout-of-body b drop cand cls)) (body-names (d .dt-body))
     go TAbstract q n m = absurd (List·Memᴰ·not-nil m)
     go (TAbbrev c) q n m = subst (λ (x : Body). List·Memᴰ n (body-names x)) (sym q) m
@@ -181,12 +234,15 @@ layout-by-own d k cls f = go0 (eqb k 0)
     go3 : (b : Bool) → Among (layout-names (pick b (abbreviated (d .dt-body)) L-opaque)) (body-names (d .dt-body))
     go3 true = abbreviated-own (d .dt-body)
     go3 false = λ n m. absurd (List·Memᴰ·not-nil m)
+
     go2 : (b : Bool) → Among (layout-names (pick b (L-struct cls) (eqb k 3 ⇒ abbreviated (d .dt-body) ∥ L-opaque))) (body-names (d .dt-body))
     go2 true = f
     go2 false = go3 (eqb k 3)
+
     go1 : (b : Bool) → Among (layout-names (pick b (or-struct (newtype-of cls) cls) (eqb k 2 ⇒ L-struct cls ∥ eqb k 3 ⇒ abbreviated (d .dt-body) ∥ L-opaque))) (body-names (d .dt-body))
     go1 true = or-struct-own _ (newtype-of cls) cls f (option-weaken (cls-names cls) (body-names (d .dt-body)) (newtype-of cls) f (newtype-own cls))
     go1 false = go2 (eqb k 2)
+
     go0 : (b : Bool)
         → Among (layout-names (pick b L-erased (eqb k 1 ⇒ or-struct (newtype-of cls) cls ∥ eqb k 2 ⇒ L-struct cls ∥ eqb k 3 ⇒ abbreviated (d .dt-body) ∥ L-opaque))) (body-names (d .dt-body))
     go0 true = λ n m. absurd (List·Memᴰ·not-nil m)
