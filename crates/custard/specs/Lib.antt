@@ -12,6 +12,8 @@ pub mod Program
 pub mod Rows
 pub mod Output
 pub mod Answer
+pub mod CtyLaws
+pub mod ResolveLaws
 pub mod ProgramLaws
 pub mod OutputLaws
 pub mod WrittenLaws
