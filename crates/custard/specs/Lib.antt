@@ -27,3 +27,4 @@ pub mod ProgramLaws
 pub mod OutputLaws
 pub mod WrittenLaws
 pub mod Pinning
+pub mod FuelLaws

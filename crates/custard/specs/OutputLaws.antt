@@ -18,36 +18,20 @@ use Rattle.sheet.specs.Sheet.{lines, encodes}
 use Rattle.sheet.specs.SheetLaws.{AllFit, length-encodes, lines-encodes}
 use Rattle.custard.specs.Program.{name-line, arg-line, type-line, local-line, param-line, ctor-line, field-line, verdict-line, import-line, is, is-head, select, before, Group, groups}
 use Rattle.custard.specs.Cty.{Cty, Ctys, TUnit, TAny, TExn, TVar, TInt, TFloat, TConst, TArrow, TApp, TTuple, TBuf, TRef, TInline, nil, cons, gather, gathers, names-of-cty, lengths, size, sizes}
+use Rattle.custard.specs.CtyLaws.{Every, every-mem, mem-every, every-map, size-positive}
 use Rattle.custard.specs.Decl.{Field, Ctor, Body, TAbstract, TAbbrev, TRecord, TVariant, Dtype, CtorLayout, Layout, L-erased, L-newtype, L-struct, L-abbrev, L-opaque, layout-number, TypeInfo}
 use Rattle.custard.specs.Output.{bit, fill-keeps, fill-verdict, all-slots, fill, fill-all, verdict-lines, Written, put, last, Members, listed, first-arg, emit, emits, Lines, field-lines, ctor-lines, decl-frame, decl-lines, program-lines, left-lines}
 use Rattle.custard.specs.Names.{fields-names, ctors-names, body-names, dtype-names}
 use Rattle.custard.specs.ProgramLaws.{flat, before-flat}
 
 -- ---- lists
--- P holds of every element
-abbrev pub Every : {A : Type 0} → (A → Type 0) → List A → Type 0
-Every P [] = Unit {0}
-Every P (x ∷ xs) = P x × Every P xs
-
 pub every-append : {A : Type 0} (P : A → Type 0) (xs ys : List A) → Every P xs → Every P ys → Every P (xs ++ ys)
 every-append P [] ys h k = k
 every-append P (x ∷ xs) ys h k = (h .0, every-append P xs ys (h .1) k)
 
-pub every-map : {A B : Type 0} (P : B → Type 0) (f : A → B) (xs : List A) → Every (λ x. P (f x)) xs → Every P (map f xs)
-every-map P f [] h = tt
-every-map P f (x ∷ xs) h = (h .0, every-map P f xs (h .1))
-
-pub every-imp : {A : Type 0} (P Q : A → Type 0) → ((x : A) → P x → Q x) → (xs : List A) → Every P xs → Every Q xs
-every-imp P Q f [] h = tt
-every-imp P Q f (x ∷ xs) h = (f x (h .0), every-imp P Q f xs (h .1))
-
-pub every-mem : {A : Type 0} (P : A → Type 0) (xs : List A) → Every P xs → (x : A) → List·Memᴰ x xs → P x
-every-mem P [] h x m = absurd (List·Memᴰ·not-nil m)
-every-mem P (y ∷ xs) h x m = ⊎-elim (λ e. rw e (h .0)) (λ k. every-mem P xs (h .1) x k) (List·Memᴰ·cases-cons m)
-
-pub mem-every : {A : Type 0} (P : A → Type 0) (xs : List A) → ((x : A) → List·Memᴰ x xs → P x) → Every P xs
-mem-every P [] h = tt
-mem-every P (x ∷ xs) h = (h x (List·Memᴰ·head refl), mem-every P xs (λ y m. h y (List·Memᴰ·tail m)))
+pub every-over : {A B : Type 0} (P : B → Type 0) (f : A → B) (xs : List A) → Every (λ x. P (f x)) xs → Every P (map f xs)
+every-over P f [] h = tt
+every-over P f (x ∷ xs) h = (h .0, every-over P f xs (h .1))
 
 pub every-left : {A : Type 0} (P : A → Type 0) (xs ys : List A) → Every P (xs ++ ys) → Every P xs
 every-left P [] ys h = tt
@@ -106,22 +90,6 @@ unfolding put
 adds-put w kind a b c =
     record { grows = grows-put w kind a b c; types-count = length-append (w .types) ((kind ∷ a ∷ b ∷ c ∷ 0 ∷ []) ∷ []); args-count = omega arith }
 
-pub size-pos : (c : Cty) → 0 < size c
-unfolding size
-size-pos TUnit = omega arith
-size-pos TAny = omega arith
-size-pos TExn = omega arith
-size-pos (TVar v) = omega arith
-size-pos (TInt s x) = omega arith
-size-pos (TFloat f) = omega arith
-size-pos (TConst c) = omega arith
-size-pos (TArrow a e b) = omega arith
-size-pos (TApp n ts) = omega arith
-size-pos (TTuple ts) = omega arith
-size-pos (TBuf t) = omega arith
-size-pos (TRef k t) = omega arith
-size-pos (TInline t) = omega arith
-
 -- the members of a list, with their A lines
 adds-listed : (k n : ℕ) (w : Written) (m : Members) → Adds k n w (m .written) → length (m .numbers) ≡ k → Adds 0 n w (listed m)
 adds-listed k n w m a e =
@@ -175,7 +143,7 @@ mutual
 
 -- the type that was written last has the last number, and there is one
 pub emit-last : (c : Cty) (w : Written) → suc (last (emit c w)) ≡ length (emit c w .types)
-emit-last c w = let h = emit-adds c w in omega (arith, h .types-count, size-pos c)
+emit-last c w = let h = emit-adds c w in omega (arith, h .types-count, size-positive c)
 
 -- ---- the types of a program, in the order in which they are written
 unfoldable pub types-of-fields : List Field → List Cty
@@ -350,94 +318,94 @@ left-every P ls ds hn ha hy hl =
     let xs = map x (r .written .args) in
     let ys = map (row type-line) (r .written .types) in
     every-append P (ns ++ xs ++ ys) (r .lines)
-    (every-append P (ns ++ xs) ys (every-append P ns xs hn (every-map P x (r .written .args) ha)) (every-map P (row type-line) (r .written .types) hy))
+    (every-append P (ns ++ xs) ys (every-append P ns xs hn (every-over P x (r .written .args) ha)) (every-over P (row type-line) (r .written .types) hy))
     hl
 
 -- ---- lines with five numbers
 -- the letter is one of L's, and each of the five numbers one of Q's
-abbrev pub Row : (ℕ → Type 0) → (ℕ → Type 0) → Line → Type 0
-Row L Q (named n t) = ⊥
-Row L Q (row x ns) = L x × (length ns ≡ 5) × Every Q ns
-Row L Q bad = ⊥
+abbrev pub RowOf : (ℕ → Type 0) → (ℕ → Type 0) → Line → Type 0
+RowOf L Q (named n t) = ⊥
+RowOf L Q (row x ns) = L x × (length ns ≡ 5) × Every Q ns
+RowOf L Q bad = ⊥
 
 -- Q holds of each number of a type
 module _ (Q : ℕ → Type 0) where
   abbrev mutual
-    pub Each : Cty → Type 0
-    Each TUnit = Unit {0}
-    Each TAny = Unit {0}
-    Each TExn = Unit {0}
-    Each (TVar v) = Q v
-    Each (TInt s x) = Q s × Q x
-    Each (TFloat f) = Q f
-    Each (TConst c) = Q c
-    Each (TArrow a e b) = Each a × Q e × Each b
-    Each (TApp n ts) = Q n × Eachs ts
-    Each (TTuple ts) = Eachs ts
-    Each (TBuf t) = Each t
-    Each (TRef k t) = Q k × Each t
-    Each (TInline t) = Each t
+    pub TypeNumbers : Cty → Type 0
+    TypeNumbers TUnit = Unit {0}
+    TypeNumbers TAny = Unit {0}
+    TypeNumbers TExn = Unit {0}
+    TypeNumbers (TVar v) = Q v
+    TypeNumbers (TInt s x) = Q s × Q x
+    TypeNumbers (TFloat f) = Q f
+    TypeNumbers (TConst c) = Q c
+    TypeNumbers (TArrow a e b) = TypeNumbers a × Q e × TypeNumbers b
+    TypeNumbers (TApp n ts) = Q n × TypesNumbers ts
+    TypeNumbers (TTuple ts) = TypesNumbers ts
+    TypeNumbers (TBuf t) = TypeNumbers t
+    TypeNumbers (TRef k t) = Q k × TypeNumbers t
+    TypeNumbers (TInline t) = TypeNumbers t
 
-    pub Eachs : Ctys → Type 0
-    Eachs nil = Unit {0}
-    Eachs (cons t ts) = Each t × Eachs ts
+    pub TypesNumbers : Ctys → Type 0
+    TypesNumbers nil = Unit {0}
+    TypesNumbers (cons t ts) = TypeNumbers t × TypesNumbers ts
 
   -- and of those of a declaration that do not stand in its types
-  abbrev pub EachField : Field → Type 0
-  EachField f = Q (f .fd-name)
+  abbrev pub FieldNumbers : Field → Type 0
+  FieldNumbers f = Q (f .fd-name)
 
-  abbrev pub EachCtor : Ctor → Type 0
-  EachCtor c = Q (c .ct-name) × Q (length (c .ct-fields)) × Every EachField (c .ct-fields)
+  abbrev pub CtorNumbers : Ctor → Type 0
+  CtorNumbers c = Q (c .ct-name) × Q (length (c .ct-fields)) × Every FieldNumbers (c .ct-fields)
 
-  abbrev pub EachBody : Body → Type 0
-  EachBody TAbstract = Unit {0}
-  EachBody (TAbbrev c) = Unit {0}
-  EachBody (TRecord fs) = Q (length fs) × Every EachField fs
-  EachBody (TVariant cs) = Q (length cs) × Every EachCtor cs
+  abbrev pub BodyNumbers : Body → Type 0
+  BodyNumbers TAbstract = Unit {0}
+  BodyNumbers (TAbbrev c) = Unit {0}
+  BodyNumbers (TRecord fs) = Q (length fs) × Every FieldNumbers fs
+  BodyNumbers (TVariant cs) = Q (length cs) × Every CtorNumbers cs
 
-  pub record EachDtype (d : Dtype) : Type 0 where
+  pub record DtypeNumbers (d : Dtype) : Type 0 where
     pub name : Q (d .dt-name)
     pub flags : Q (d .dt-flags)
     pub arity : Q (length (d .dt-params))
     pub params : Every Q (d .dt-params)
-    pub body : EachBody (d .dt-body)
+    pub body : BodyNumbers (d .dt-body)
 
 -- what holds of all numbers holds of these
 module _ (Q : ℕ → Type 0) (q : (n : ℕ) → Q n) where
-  pub every-all : (ns : List ℕ) → Every Q ns
-  every-all ns = mem-every Q ns (λ n m. q n)
+  pub numbers-every : (ns : List ℕ) → Every Q ns
+  numbers-every ns = mem-every Q ns (λ n m. q n)
 
   mutual
-    pub each-all : (c : Cty) → Each Q c
-    each-all TUnit = tt
-    each-all TAny = tt
-    each-all TExn = tt
-    each-all (TVar v) = q v
-    each-all (TInt s x) = (q s, q x)
-    each-all (TFloat f) = q f
-    each-all (TConst c) = q c
-    each-all (TArrow a e b) = (each-all a, q e, each-all b)
-    each-all (TApp n ts) = (q n, eachs-all ts)
-    each-all (TTuple ts) = eachs-all ts
-    each-all (TBuf t) = each-all t
-    each-all (TRef k t) = (q k, each-all t)
-    each-all (TInline t) = each-all t
+    pub numbers-all : (c : Cty) → TypeNumbers Q c
+    numbers-all TUnit = tt
+    numbers-all TAny = tt
+    numbers-all TExn = tt
+    numbers-all (TVar v) = q v
+    numbers-all (TInt s x) = (q s, q x)
+    numbers-all (TFloat f) = q f
+    numbers-all (TConst c) = q c
+    numbers-all (TArrow a e b) = (numbers-all a, q e, numbers-all b)
+    numbers-all (TApp n ts) = (q n, types-numbers-all ts)
+    numbers-all (TTuple ts) = types-numbers-all ts
+    numbers-all (TBuf t) = numbers-all t
+    numbers-all (TRef k t) = (q k, numbers-all t)
+    numbers-all (TInline t) = numbers-all t
 
-    pub eachs-all : (ts : Ctys) → Eachs Q ts
-    eachs-all nil = tt
-    eachs-all (cons t ts) = (each-all t, eachs-all ts)
+    pub types-numbers-all : (ts : Ctys) → TypesNumbers Q ts
+    types-numbers-all nil = tt
+    types-numbers-all (cons t ts) = (numbers-all t, types-numbers-all ts)
 
-  fields-all : (fs : List Field) → Every (EachField Q) fs
-  fields-all fs = mem-every (EachField Q) fs (λ f m. q (f .fd-name))
+  fields-all : (fs : List Field) → Every (FieldNumbers Q) fs
+  fields-all fs = mem-every (FieldNumbers Q) fs (λ f m. q (f .fd-name))
 
-  body-all : (b : Body) → EachBody Q b
+  body-all : (b : Body) → BodyNumbers Q b
   body-all TAbstract = tt
   body-all (TAbbrev c) = tt
   body-all (TRecord fs) = (q (length fs), fields-all fs)
-  body-all (TVariant cs) = (q (length cs), mem-every (EachCtor Q) cs (λ c m. (q (c .ct-name), q (length (c .ct-fields)), fields-all (c .ct-fields))))
+  body-all (TVariant cs) = (q (length cs), mem-every (CtorNumbers Q) cs (λ c m. (q (c .ct-name), q (length (c .ct-fields)), fields-all (c .ct-fields))))
 
-  pub dtype-all : (d : Dtype) → EachDtype Q d
-  dtype-all d = record { name = q (d .dt-name); flags = q (d .dt-flags); arity = q (length (d .dt-params)); params = every-all (d .dt-params); body = body-all (d .dt-body) }
+  pub dtype-all : (d : Dtype) → DtypeNumbers Q d
+  dtype-all d = record { name = q (d .dt-name); flags = q (d .dt-flags); arity = q (length (d .dt-params)); params = numbers-every (d .dt-params); body = body-all (d .dt-body) }
 
 -- Q holds of kinds, and of the numbers of lines up to T
 module _ (Q : ℕ → Type 0) (T : ℕ) (kind : (n : ℕ) → n ≤ 12 → Q n) (small : (n : ℕ) → n ≤ T → Q n) where
@@ -484,7 +452,7 @@ module _ (Q : ℕ → Type 0) (T : ℕ) (kind : (n : ℕ) → n ≤ 12 → Q n) 
   mutual
     unfolding emit
 
-    pub emit-good : (c : Cty) (w : Written) → Each Q c → Room (emit c w) → Good w → Good (emit c w)
+    pub emit-good : (c : Cty) (w : Written) → TypeNumbers Q c → Room (emit c w) → Good w → Good (emit c w)
     emit-good TUnit w h r g = good-put w 0 0 0 0 (omega arith) none none none g
     emit-good TAny w h r g = good-put w 1 0 0 0 (omega arith) none none none g
     emit-good TExn w h r g = good-put w 2 0 0 0 (omega arith) none none none g
@@ -523,7 +491,7 @@ module _ (Q : ℕ → Type 0) (T : ℕ) (kind : (n : ℕ) → n ≤ 12 → Q n) 
         let rx : Room x = room-back (grows-put x 12 (last x) 0 0) r in
         good-put x 12 (last x) 0 0 (omega arith) (last-small x rx) none none (emit-good t w h rx g)
 
-    pub emits-good : (ts : Ctys) (w : Written) → Eachs Q ts → Room (emits ts w .written) → Good w → Good (emits ts w .written) × Every Q (emits ts w .numbers)
+    pub emits-good : (ts : Ctys) (w : Written) → TypesNumbers Q ts → Room (emits ts w .written) → Good w → Good (emits ts w .written) × Every Q (emits ts w .numbers)
     emits-good nil w h r g = (g, tt)
     emits-good (cons t ts) w h r g =
         let x : Written = emit t w in
@@ -531,7 +499,7 @@ module _ (Q : ℕ → Type 0) (T : ℕ) (kind : (n : ℕ) → n ≤ 12 → Q n) 
         let k = emits-good ts x (h .1) r (emit-good t w (h .0) rx g) in
         (k .0, (last-small x rx, k .1))
 
-  pub emit-all-good : (cs : List Cty) (w : Written) → Every (Each Q) cs → Room (emit-all cs w) → Good w → Good (emit-all cs w)
+  pub emit-all-good : (cs : List Cty) (w : Written) → Every (TypeNumbers Q) cs → Room (emit-all cs w) → Good w → Good (emit-all cs w)
   unfolding emit-all
   emit-all-good [] w h r g = g
   emit-all-good (c ∷ cs) w h r g =
@@ -539,53 +507,53 @@ module _ (Q : ℕ → Type 0) (T : ℕ) (kind : (n : ℕ) → n ≤ 12 → Q n) 
 
   -- the letters of a declaration's lines
   module _ (L : ℕ → Type 0) (ld : L local-line) (lp : L param-line) (lc : L ctor-line) (lf : L field-line) (lv : L verdict-line) where
-    pub field-rows : (fs : List Field) (w : Written) → Every (EachField Q) fs → Room (field-lines fs w .written) → Every (Row L Q) (field-lines fs w .lines)
+    pub field-rows : (fs : List Field) (w : Written) → Every (FieldNumbers Q) fs → Room (field-lines fs w .written) → Every (RowOf L Q) (field-lines fs w .lines)
     unfolding field-lines
     field-rows [] w h r = tt
     field-rows (f ∷ fs) w h r =
         let x : Written = emit (f .fd-type) w in
         ((lf, refl, (h .0, (last-small x (room-back (field-adds fs x .grows) r), (none, (none, (none, tt)))))), field-rows fs x (h .1) r)
 
-    pub ctor-rows : (cs : List Ctor) (w : Written) → Every (EachCtor Q) cs → Room (ctor-lines cs w .written) → Every (Row L Q) (ctor-lines cs w .lines)
+    pub ctor-rows : (cs : List Ctor) (w : Written) → Every (CtorNumbers Q) cs → Room (ctor-lines cs w .written) → Every (RowOf L Q) (ctor-lines cs w .lines)
     unfolding ctor-lines
     ctor-rows [] w h r = tt
     ctor-rows (c ∷ cs) w h r =
         let x : Lines = field-lines (c .ct-fields) w in
         let k = h .0 in (
           (lc, refl, (k .0, (k .1, (none, (none, (none, tt)))))),
-          every-append (Row L Q) (x .lines) (ctor-lines cs (x .written) .lines) (field-rows (c .ct-fields) w (k .2) (room-back (ctor-adds cs (x .written) .grows) r)) (ctor-rows cs (x .written) (h .1) r),
+          every-append (RowOf L Q) (x .lines) (ctor-lines cs (x .written) .lines) (field-rows (c .ct-fields) w (k .2) (room-back (ctor-adds cs (x .written) .grows) r)) (ctor-rows cs (x .written) (h .1) r),
         )
 
-    pub frame-rows : (d : Dtype) (k end : ℕ) (ls : List Line) → EachDtype Q d → k ≤ 12 → Q end → Every (Row L Q) ls → Every (Row L Q) (decl-frame d k end ls)
+    pub frame-rows : (d : Dtype) (k end : ℕ) (ls : List Line) → DtypeNumbers Q d → k ≤ 12 → Q end → Every (RowOf L Q) ls → Every (RowOf L Q) (decl-frame d k end ls)
     unfolding decl-frame
     frame-rows d k end ls h l q e =
         let v : List Line = row verdict-line (0 ∷ 0 ∷ 0 ∷ 0 ∷ 0 ∷ []) ∷ [] in
         let p : ℕ → Line = λ n. row param-line (n ∷ 0 ∷ 0 ∷ 0 ∷ 0 ∷ []) in (
           (ld, refl, (h .name, (h .flags, (kind k l, (h .arity, (q, tt)))))),
-          every-append (Row L Q) (map p (d .dt-params) ++ ls) v
-              (every-append (Row L Q) (map p (d .dt-params)) ls (every-map (Row L Q) p (d .dt-params) (every-imp Q (λ n. Row L Q (p n)) (λ n m. (lp, refl, (m, (none, (none, (none, (none, tt))))))) (d .dt-params) (h .params))) e)
+          every-append (RowOf L Q) (map p (d .dt-params) ++ ls) v
+              (every-append (RowOf L Q) (map p (d .dt-params)) ls (every-over (RowOf L Q) p (d .dt-params) (every-map Q (λ n. RowOf L Q (p n)) (λ n m. (lp, refl, (m, (none, (none, (none, (none, tt))))))) (d .dt-params) (h .params))) e)
               ((lv, refl, (none, (none, (none, (none, (none, tt)))))), tt),
         )
 
-    pub decl-rows : (d : Dtype) (b : Body) (w : Written) → EachDtype Q d → EachBody Q b → Room (decl-lines d b w .written) → Every (Row L Q) (decl-lines d b w .lines)
+    pub decl-rows : (d : Dtype) (b : Body) (w : Written) → DtypeNumbers Q d → BodyNumbers Q b → Room (decl-lines d b w .written) → Every (RowOf L Q) (decl-lines d b w .lines)
     unfolding decl-lines
     decl-rows d TAbstract w h k r = frame-rows d 0 0 [] h (omega arith) none tt
     decl-rows d (TAbbrev c) w h k r = frame-rows d 1 (last (emit c w)) [] h (omega arith) (last-small (emit c w) r) tt
     decl-rows d (TRecord fs) w h k r = frame-rows d 2 (length fs) (field-lines fs w .lines) h (omega arith) (k .0) (field-rows fs w (k .1) r)
     decl-rows d (TVariant cs) w h k r = frame-rows d 3 (length cs) (ctor-lines cs w .lines) h (omega arith) (k .0) (ctor-rows cs w (k .1) r)
 
-    pub program-rows : (ds : List Dtype) (w : Written) → Every (EachDtype Q) ds → Room (program-lines ds w .written) → Every (Row L Q) (program-lines ds w .lines)
+    pub program-rows : (ds : List Dtype) (w : Written) → Every (DtypeNumbers Q) ds → Room (program-lines ds w .written) → Every (RowOf L Q) (program-lines ds w .lines)
     unfolding program-lines
     program-rows [] w h r = tt
     program-rows (d ∷ ds) w h r =
         let x : Lines = decl-lines d (d .dt-body) w in
-        every-append (Row L Q) (x .lines) (program-lines ds (x .written) .lines)
+        every-append (RowOf L Q) (x .lines) (program-lines ds (x .written) .lines)
         (decl-rows d (d .dt-body) w (h .0) (h .0 .body) (room-back (program-adds ds (x .written) .grows) r))
         (program-rows ds (x .written) (h .1) r)
 
     -- Every line of the left sheet is an N line of the input or a line of these letters, with five numbers of which Q holds.
-    pub left-rows : (ls : List Line) (ds : List Dtype) (P : Line → Type 0) → L arg-line → L type-line → ((l : Line) → Row L Q l → P l) → Every P (select name-line ls) →
-        Every (Each Q) (types-of ds) → Every (EachDtype Q) ds → total (types-of ds) ≤ T → Every P (left-lines ls ds)
+    pub left-rows : (ls : List Line) (ds : List Dtype) (P : Line → Type 0) → L arg-line → L type-line → ((l : Line) → RowOf L Q l → P l) → Every P (select name-line ls) →
+        Every (TypeNumbers Q) (types-of ds) → Every (DtypeNumbers Q) ds → total (types-of ds) ≤ T → Every P (left-lines ls ds)
     left-rows ls ds P la ly f hn ht hd t =
         let r : Lines = program-lines ds nothing in
         let a = program-adds ds nothing in
@@ -593,12 +561,12 @@ module _ (Q : ℕ → Type 0) (T : ℕ) (kind : (n : ℕ) → n ≤ 12 → Q n) 
         let good : Good (r .written) = rw (program-written ds nothing) (emit-all-good (types-of ds) nothing ht (rw (program-written ds nothing) at room) (record { args-good = tt; types-good = tt })) in
         let x : ℕ → Line = λ n. row arg-line (n ∷ 0 ∷ 0 ∷ 0 ∷ 0 ∷ []) in
         left-every P ls ds hn
-        (every-imp Q (λ n. P (x n)) (λ n m. f (x n) (la, refl, (m, (none, (none, (none, (none, tt))))))) (r .written .args) (good .args-good))
-        (every-imp (λ ns. (length ns ≡ 5) × Every Q ns) (λ ns. P (row type-line ns)) (λ ns m. f (row type-line ns) (ly, m .0, m .1)) (r .written .types) (good .types-good))
-        (every-imp (Row L Q) P f (r .lines) (program-rows ds nothing hd room))
+        (every-map Q (λ n. P (x n)) (λ n m. f (x n) (la, refl, (m, (none, (none, (none, (none, tt))))))) (r .written .args) (good .args-good))
+        (every-map (λ ns. (length ns ≡ 5) × Every Q ns) (λ ns. P (row type-line ns)) (λ ns m. f (row type-line ns) (ly, m .0, m .1)) (r .written .types) (good .types-good))
+        (every-map (RowOf L Q) P f (r .lines) (program-rows ds nothing hd room))
 
 -- ---- every line of the left sheet is as long as the others
-row-sized : (w : ℕ) (L Q : ℕ → Type 0) (l : Line) → Row L Q l → Sized w l
+row-sized : (w : ℕ) (L Q : ℕ → Type 0) (l : Line) → RowOf L Q l → Sized w l
 row-sized w L Q (named n t) h = absurd h
 row-sized w L Q (row x ns) h = h .1
 row-sized w L Q bad h = absurd h
@@ -607,7 +575,7 @@ pub left-sized : (w : ℕ) (ls : List Line) (ds : List Dtype) → Every (Sized w
 left-sized w ls ds h =
     let U : ℕ → Type 0 = λ n. Unit {0} in
     left-rows U (total (types-of ds)) (λ n k. tt) (λ n k. tt) U tt tt tt tt tt ls ds (Sized w) tt tt (row-sized w U U) (every-select (Sized w) name-line ls h)
-    (mem-every (Each U) (types-of ds) (λ c m. each-all U (λ n. tt) c)) (mem-every (EachDtype U) ds (λ d m. dtype-all U (λ n. tt) d)) (omega arith)
+    (mem-every (TypeNumbers U) (types-of ds) (λ c m. numbers-all U (λ n. tt) c)) (mem-every (DtypeNumbers U) ds (λ d m. dtype-all U (λ n. tt) d)) (omega arith)
 
 pub left-bytes : (w : ℕ) (ls : List Line) (ds : List Dtype) → Every (Sized w) ls → length (encodes w (left-lines ls ds)) ≡ lineBytes w * length (left-lines ls ds)
 left-bytes w ls ds h = encodes-sized w (left-lines ls ds) (left-sized w ls ds h)
@@ -623,7 +591,7 @@ below-every : (m : ℕ) (ns : List ℕ) → Every (λ n. n < m) ns → AllBelow 
 below-every m [] h = tt
 below-every m (n ∷ ns) h = (h .0, below-every m ns (h .1))
 
-row-fits : (w : ℕ) (l : Line) → Row (λ x. lettered x ≡ true) (λ n. n < 10 ^ w) l → Fits w l
+row-fits : (w : ℕ) (l : Line) → RowOf (λ x. lettered x ≡ true) (λ n. n < 10 ^ w) l → Fits w l
 row-fits w (named n t) h = absurd h
 row-fits w (row x ns) h = (h .0, h .1, below-every (10 ^ w) ns (h .2))
 row-fits w bad h = absurd h
@@ -640,8 +608,8 @@ every-allFit w (l ∷ ls) h = (h .0, every-allFit w ls (h .1))
 pub record ProgramFits (w : ℕ) (ds : List Dtype) : Type 0 where
   pub kinds : 12 < 10 ^ w
   pub nodes : total (types-of ds) < 10 ^ w
-  pub types : Every (Each (λ n. n < 10 ^ w)) (types-of ds)
-  pub decls : Every (EachDtype (λ n. n < 10 ^ w)) ds
+  pub types : Every (TypeNumbers (λ n. n < 10 ^ w)) (types-of ds)
+  pub decls : Every (DtypeNumbers (λ n. n < 10 ^ w)) ds
 
 pub left-fits : (w : ℕ) (ls : List Line) (ds : List Dtype) → AllFit w ls → ProgramFits w ds → AllFit w (left-lines ls ds)
 unfolding lettered
@@ -720,9 +688,9 @@ module _ (P : ℕ → Type 0) where
   other-letter l n e k = absurd (n e)
 
   select-app : (ls : List Line) → Every AppLine (select name-line ls)
-  select-app ls = every-imp (λ l. letter l ≡ name-line) AppLine (λ l e. other-letter l (λ k. omega arith)) (select name-line ls) (select-letter name-line ls)
+  select-app ls = every-map (λ l. letter l ≡ name-line) AppLine (λ l e. other-letter l (λ k. omega arith)) (select name-line ls) (select-letter name-line ls)
 
-  row-app : (l : Line) → Row (λ x. x ≡ type-line → ⊥) (λ n. Unit {0}) l → AppLine l
+  row-app : (l : Line) → RowOf (λ x. x ≡ type-line → ⊥) (λ n. Unit {0}) l → AppLine l
   row-app (named n t) h = absurd h
   row-app (row x ns) h = other-letter (row x ns) (h .0)
   row-app bad h = absurd h
@@ -736,9 +704,9 @@ module _ (P : ℕ → Type 0) where
       let names : Every (AppName P) (r .written .types) = rw (program-written ds nothing) (emit-all-names (types-of ds) nothing h tt) in
       left-every AppLine ls ds (select-app ls)
       (mem-every (λ n. AppLine (row arg-line (n ∷ 0 ∷ 0 ∷ 0 ∷ 0 ∷ []))) (r .written .args) (λ n k e. absurd (omega arith)))
-      (every-imp (AppName P) (λ ns. AppLine (row type-line ns)) (λ ns k e. k) (r .written .types) names)
-      (every-imp (Row L U) AppLine row-app (r .lines)
-      (program-rows U T (λ n k. tt) (λ n k. tt) L (λ e. omega arith) (λ e. omega arith) (λ e. omega arith) (λ e. omega arith) (λ e. omega arith) ds nothing (mem-every (EachDtype U) ds (λ d m. dtype-all U (λ n. tt) d)) (record { args-room = omega arith; types-room = omega arith })))
+      (every-map (AppName P) (λ ns. AppLine (row type-line ns)) (λ ns k e. k) (r .written .types) names)
+      (every-map (RowOf L U) AppLine row-app (r .lines)
+      (program-rows U T (λ n k. tt) (λ n k. tt) L (λ e. omega arith) (λ e. omega arith) (λ e. omega arith) (λ e. omega arith) (λ e. omega arith) ds nothing (mem-every (DtypeNumbers U) ds (λ d m. dtype-all U (λ n. tt) d)) (record { args-room = omega arith; types-room = omega arith })))
 
   -- What holds of all names of the program's types holds of the name of each `TApp` line of its left sheet.
   pub left-names : (ls : List Line) (ds : List Dtype) → Every (NamesIn P) (types-of ds) → (l : Line) → List·Memᴰ l (left-lines ls ds) → letter l ≡ type-line → number l 0 ≡ 8 → P (number l 1)
@@ -831,7 +799,7 @@ module _ (w : ℕ) (four : 4 < 10 ^ w) where
   unfolding fill-verdict lettered
   verdict-fit ti ls h =
       let v : Line = row verdict-line (bit (ti .ti-erased) ∷ layout-number (ti .ti-layout) ∷ bit (ti .ti-record) ∷ 0 ∷ 0 ∷ []) in
-      every-map (Fits w) (λ l. pick (is verdict-line l) v l) ls (every-imp (Fits w) (λ l. Fits w (pick (is verdict-line l) v l)) (λ l k. go l (is verdict-line l) k) ls h)
+      every-over (Fits w) (λ l. pick (is verdict-line l) v l) ls (every-map (Fits w) (λ l. Fits w (pick (is verdict-line l) v l)) (λ l k. go l (is verdict-line l) k) ls h)
     where
       go : (l : Line) (c : Bool) → Fits w l → Fits w (pick c (row verdict-line (bit (ti .ti-erased) ∷ layout-number (ti .ti-layout) ∷ bit (ti .ti-record) ∷ 0 ∷ 0 ∷ [])) l)
       go l true k = (refl, refl, (bit-fits (ti .ti-erased), (layout-fits (ti .ti-layout), (bit-fits (ti .ti-record), (zero-fits, (zero-fits, tt))))))

@@ -1,0 +1,88 @@
+-- Fuel: in a program of which no unfolded name returns to itself, the fuel of the resolution is not
+-- spent. Assumes nothing.
+use mathlib.Core.Path.{_≡_, refl, sym, _∙_, ap, subst}
+use mathlib.Core.List.{List, List·Memᴰ}
+use mathlib.Core.Bool.{Bool, true, false}
+use Prim.Native.Nat.{ℕ, zero, suc, _≤_, _<_}
+use native.Mathlib.Omega.{arith}
+use lib.Dec.{ltb}
+use lib.ListN.{length, getD}
+use borrow.Author.Tests.{ltb-true, ltb-false}
+use Rattle.custard.specs.Cty.{Cty, names-of-cty}
+use Rattle.custard.specs.Decl.{Decl, Layout, position}
+use Rattle.custard.specs.Layout.{names-in}
+use Rattle.custard.specs.Reach.{Reach, cyclic}
+use Rattle.custard.specs.Resolve.{Unfold, gone, newtype, abbreviation, stays, unfold-name, unfolds, resolve, resolve-checked}
+use Rattle.custard.specs.Run.{layouts-of, unfold-names, unfold-next, returns}
+use Rattle.custard.specs.Names.{Declared}
+use Rattle.custard.specs.ReachLaws.{cyclic-complete, rank, rank-less, rank-bound}
+use Rattle.custard.specs.LayoutLaws.{Placed, names-in-iff, unfold-below}
+use Rattle.custard.specs.CtyLaws.{All, names-all}
+use Rattle.custard.specs.ResolveLaws.{Unspent, Unfolds, BodyAll, Normal, Under, Ranked, resolve-done, resolve-more, checked-unspent, checked-more}
+use Rattle.custard.specs.RunLaws.{lay}
+use Rattle.custard.specs.Locality.{lay-foreign}
+
+-- no unfolded name returns to itself: row 8
+abbrev pub NoReturn : List Decl → Type 0
+NoReturn ds = (i : ℕ) → i < length ds → returns ds (layouts-of ds) i ≡ false
+
+module _ (ds : List Decl) (clear : NoReturn ds) where
+  abbrev next : ℕ → List ℕ
+  next = unfold-next ds (layouts-of ds)
+
+  -- how many unfolded declarations a name reaches
+  unfoldable pub rank-of : ℕ → ℕ
+  rank-of n = rank next (length ds) (position ds n)
+
+  no-loop : (i : ℕ) → i < length ds → Reach next i i → ⊥
+  unfolding returns
+  no-loop i h r =
+      let e : returns ds (layouts-of ds) i ≡ true = cyclic-complete next (length ds) i (unfold-below ds (layouts-of ds)) r in
+      let f : returns ds (layouts-of ds) i ≡ false = clear i h in
+      let z : _≡_ {A = ℕ} 0 1 = cc in
+      omega arith
+
+  unfolds-declared : (n : ℕ) → Unfolds (lay ds n) → Declared ds n
+  unfolds-declared n u = go (ltb (position ds n) (length ds)) refl
+    where
+      go : (b : Bool) → ltb (position ds n) (length ds) ≡ b → Declared ds n
+      go true e = ltb-true (position ds n) (length ds) e
+      go false e = absurd (subst Unfolds (lay-foreign ds n (ltb-false (position ds n) (length ds) e)) u)
+
+  -- an unfolded name in the body of another has a lower rank
+  lower : (n m : ℕ) (c : Cty) → unfold-names ds (lay ds n) ≡ names-in ds c → List·Memᴰ m (names-of-cty c) → Unfolds (lay ds m) → rank-of m < rank-of n
+  unfolding rank-of unfold-next unfold-name
+  lower n m c e k u =
+      let d : Declared ds m = unfolds-declared m u in
+      let p : List·Memᴰ (position ds m) (names-in ds c) = names-in-iff ds c (position ds m) .1 (record { name = m; named = k; placed = refl; below = d }) in
+      rank-less next (length ds) (unfold-below ds (layouts-of ds)) (position ds n) (position ds m) (rw e p) (no-loop (position ds m) d)
+
+  pub ranked : Ranked (lay ds) rank-of
+  unfolding unfold-names
+  ranked n = go (lay ds n) refl
+    where
+      go : (u : Unfold) → lay ds n ≡ u → BodyAll (Under (lay ds) rank-of (rank-of n)) u
+      go gone e = tt
+      go (newtype ps c) e = names-all (Under (lay ds) rank-of (rank-of n)) c (λ m k u. lower n m c (ap (unfold-names ds) e) k u)
+      go (abbreviation ps c) e = names-all (Under (lay ds) rank-of (rank-of n)) c (λ m k u. lower n m c (ap (unfold-names ds) e) k u)
+      go stays e = tt
+
+  pub under-all : (c : Cty) → All (Under (lay ds) rank-of (length ds)) c
+  unfolding rank-of
+  under-all c =
+      names-all (Under (lay ds) rank-of (length ds)) c
+      (λ m k u. let d : Declared ds m = unfolds-declared m u in rank-bound next (length ds) (unfold-below ds (layouts-of ds)) (position ds m) d (no-loop (position ds m) d))
+
+  -- With more fuel than there are declarations, none is spent, nothing is left to unfold, and more fuel gives the same.
+  module _ (k : ℕ) (enough : length ds ≤ k) where
+    pub fuel-unspent : (limit : ℕ) (c : Cty) → Unspent (resolve-checked limit (lay ds) (suc k) c)
+    fuel-unspent limit c =
+        subst Unspent (checked-more (lay ds) rank-of ranked limit (length ds) k enough c (under-all c)) (checked-unspent (lay ds) rank-of ranked limit (length ds) c (under-all c))
+
+    pub fuel-normal : (c : Cty) → Normal (lay ds) (resolve (lay ds) (suc k) c)
+    fuel-normal c =
+        subst (Normal (lay ds)) (resolve-more (lay ds) rank-of ranked (length ds) k enough c (under-all c)) (resolve-done (lay ds) rank-of ranked (length ds) c (under-all c))
+
+    pub fuel-more : (m : ℕ) → k ≤ m → (c : Cty) → resolve (lay ds) (suc k) c ≡ resolve (lay ds) (suc m) c
+    fuel-more m h c =
+        sym (resolve-more (lay ds) rank-of ranked (length ds) k enough c (under-all c)) ∙ resolve-more (lay ds) rank-of ranked (length ds) m (omega arith) c (under-all c)
