@@ -29,3 +29,5 @@ pub mod WrittenLaws
 pub mod Pinning
 pub mod FuelLaws
 pub mod PassLaws
+pub mod RowsLaws
+pub mod StepLaws

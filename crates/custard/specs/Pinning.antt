@@ -8,8 +8,8 @@ use mathlib.Core.Option.{Option, none, some}
 use Prim.Native.Nat.{ℕ, zero, suc, _+_, _-_, _≤_, _<_}
 use native.Mathlib.Omega.{arith}
 use lib.Dec.{ltb}
-use lib.ListN.{length, getD, length-append, List·getD-append}
-use lib.Seq.{getD-append-add}
+use lib.ListN.{length, getD, take, drop, take-append-drop, length-append, List·getD-append}
+use lib.Seq.{getD-append-add, getD-take, length-take-le, ext-getD}
 use borrow.Author.Tests.{ltb-true, ltb-false, lt-ltb, le-ltb}
 use Rattle.columns.specs.Column.{pick}
 use Rattle.custard.specs.Decl.{
@@ -30,12 +30,12 @@ use Rattle.custard.specs.Decl.{
 }
 use Rattle.custard.specs.Erasure.{marked, rule, rule-of, erasure-fixpoint}
 use Rattle.custard.specs.Layout.{ctor-layouts, dropped, layout-of, compute-layouts}
-use Rattle.custard.specs.Run.{info, layouts-of, run, returns, decl-fault}
+use Rattle.custard.specs.Run.{info, layouts-of, somes, run, returns, decl-fault}
 use Rattle.custard.specs.Names.{dtype-names, Declared, undeclared, Distinct, Agree, Pin, Pinned}
 use Rattle.custard.specs.NamesLaws.{position-le, position-name, position-distinct, position-declared, position-append-left, position-append-right, agree-prefix, undeclared-of}
 use Rattle.custard.specs.ErasureLaws.{erasure-solves, erasure-pinned}
-use Rattle.custard.specs.LayoutLaws.{Placed, candidates-of, layout-at, PinnedLayouts, pinned-layouts, getD-layouts, table-cong}
-use Rattle.custard.specs.RunLaws.{lay, layout-of-decl, left-at, info-at, run-infos, getD-infos, length-infos, places-same, left-same, program-same, fault-same, returns-same}
+use Rattle.custard.specs.LayoutLaws.{length-table, getD-table, Placed, candidates-of, layout-at, PinnedLayouts, pinned-layouts, getD-layouts, table-cong}
+use Rattle.custard.specs.RunLaws.{lay, layout-of-decl, left-at, info-at, run-program, run-infos, getD-infos, length-infos, places-same, left-same, program-same, fault-same, returns-same}
 use Rattle.custard.specs.ProgramLaws.{pins}
 use Rattle.custard.specs.Locality.{OwnImports, info-local, left-local, fault-local, returns-local}
 
@@ -71,6 +71,12 @@ at-right ds ds' es i e h =
     let k' : length ds' + (i - length ds) ≡ i = omega arith in
     subst (λ (j : ℕ). getD (ds ++ es) j no-decl ≡ getD es (i - length ds) no-decl) k (getD-append-add ds es (i - length ds) no-decl)
     ∙ sym (subst (λ (j : ℕ). getD (ds' ++ es) j no-decl ≡ getD es (i - length ds) no-decl) k' (getD-append-add ds' es (i - length ds) no-decl))
+
+somes-append : (xs ys : List (Option Dtype)) → somes (xs ++ ys) ≡ somes xs ++ somes ys
+unfolding somes
+somes-append [] ys = refl
+somes-append (none ∷ xs) ys = somes-append xs ys
+somes-append (some d ∷ xs) ys = ap (λ (r : List Dtype). d ∷ r) (somes-append xs ys)
 
 -- the first part names nothing that the second declares
 abbrev pub Apart : List Decl → List Decl → Type 0
@@ -138,6 +144,43 @@ module _ (ds es : List Decl) (distinct : Distinct (ds ++ es)) (apart : Apart ds 
         ∙ (returns-local (undeclared es) ds (ds ++ es) (apart-agree ds es apart) own own' (dtype-at ds i .dt-name) (distinct-undeclared ds es distinct i h) (position-declared ds i h)
         ∙ ap (returns (ds ++ es) (layouts-of (ds ++ es))) (place-whole i h))
 
+    -- the whole's verdicts begin with those of the first part
+    pub prefix-infos : run (ds ++ es) .infos ≡ run ds .infos ++ drop (length ds) (run (ds ++ es) .infos)
+    prefix-infos =
+        sym (take-append-drop (length ds) (run (ds ++ es) .infos))
+        ∙ ap (λ (xs : List TypeInfo). xs ++ drop (length ds) (run (ds ++ es) .infos))
+        (ext-getD no-info (take (length ds) (run (ds ++ es) .infos)) (run ds .infos) (same-count ∙ sym (length-infos ds)) (λ i h. at i (omega (arith, same-count))))
+      where
+        no-info : TypeInfo
+        no-info = record { ti-erased = false; ti-layout = L-opaque; ti-ctors = []; ti-record = false }
+        same-count : length (take (length ds) (run (ds ++ es) .infos)) ≡ length ds
+        same-count = length-take-le (length ds) (run (ds ++ es) .infos) (rw (length-infos, length-append) (omega arith))
+        at : (i : ℕ) → i < length ds → getD (take (length ds) (run (ds ++ es) .infos)) i no-info ≡ getD (run ds .infos) i no-info
+        at i h =
+            getD-take (length ds) (run (ds ++ es) .infos) i no-info h
+            ∙ (getD-infos (ds ++ es) i no-info (rw length-append (omega arith)) ∙ (sym (prefix-info i h) ∙ sym (getD-infos ds i no-info h)))
+
+    -- and so does what is left
+    pub prefix-program : (xs : List (Option Dtype)) × (run (ds ++ es) .program ≡ run ds .program ++ somes xs)
+    prefix-program =
+        (drop (length ds) whole,
+        run-program (ds ++ es)
+        ∙ (ap somes (sym (take-append-drop (length ds) whole))
+        ∙ (somes-append (take (length ds) whole) (drop (length ds) whole)
+        ∙ ap (λ (x : List Dtype). x ++ somes (drop (length ds) whole)) (ap somes same ∙ sym (run-program ds)))))
+      where
+        whole : List (Option Dtype)
+        whole = table (left-at (ds ++ es)) (length (ds ++ es))
+        same-count : length (take (length ds) whole) ≡ length ds
+        same-count = length-take-le (length ds) whole (rw (length-table (left-at (ds ++ es)) (length (ds ++ es)), length-append) (omega arith))
+        at : (i : ℕ) → i < length ds → getD (take (length ds) whole) i none ≡ getD (table (left-at ds) (length ds)) i none
+        at i h =
+            getD-take (length ds) whole i none h
+            ∙ (getD-table (left-at (ds ++ es)) (length (ds ++ es)) i none (rw length-append (omega arith))
+            ∙ (sym (prefix-left i h) ∙ sym (getD-table (left-at ds) (length ds) i none h)))
+        same : take (length ds) whole ≡ table (left-at ds) (length ds)
+        same = ext-getD none (take (length ds) whole) (table (left-at ds) (length ds)) (same-count ∙ sym (length-table (left-at ds) (length ds))) (λ i h. at i (omega (arith, same-count)))
+
     -- ---- the first part imported
     abbrev pub imported-first : List Decl
     imported-first = pins ds (run ds .infos) ++ es
@@ -145,7 +188,7 @@ module _ (ds es : List Decl) (distinct : Distinct (ds ++ es)) (apart : Apart ds 
     pins-length : length (pins ds (run ds .infos)) ≡ length ds
     pins-length = pin-length ds (run ds .infos) (length-infos ds)
 
-    first-length : length (ds ++ es) ≡ length imported-first
+    pub first-length : length (ds ++ es) ≡ length imported-first
     first-length = rw (length-append, length-append, pins-length)
 
     first-dtype : (i : ℕ) → i < length (ds ++ es) → dtype-at (ds ++ es) i ≡ dtype-at imported-first i
