@@ -31,3 +31,4 @@ pub mod FuelLaws
 pub mod PassLaws
 pub mod RowsLaws
 pub mod StepLaws
+pub mod BuildLaws
