@@ -10,3 +10,4 @@ pub mod Rows
 pub mod Output
 pub mod Answer
 pub mod ProgramLaws
+pub mod RowsLaws
