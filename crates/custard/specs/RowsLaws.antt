@@ -12,7 +12,12 @@ use lib.Seq.{take-append-le, take-append-add, getD-append-add, take-length}
 use borrow.Author.Tests.{eqb-true, eqb-false, eq-eqb, ltb-true, ltb-false, lt-ltb, le-ltb, leb-true, leb-false, lt-leb, not-true, not-false}
 use Rattle.columns.specs.Column.{pick, _⇒_∥_}
 use Rattle.sheet.specs.Format.{Format, lineBytes}
+<<<<<<< HEAD
 use Rattle.sheet.specs.FirstLaws.{first-congr, first-none, none-first}
+=======
+use Rattle.sheet.specs.FirstLaws.{first-le, first-congr, none-first}
+use Rattle.sheet.specs.LineLaws.{both}
+>>>>>>> program
 use Rattle.sheet.specs.Line.{Line, named, row, bad, letter, number, text}
 use Rattle.sheet.specs.Sheet.{first}
 use Rattle.custard.specs.Decl.{TypeInfo, table}
@@ -198,6 +203,22 @@ row3-past : (ls : List Line) (i : ℕ) → length ls ≤ i → row3 ls i ≡ is-
 unfolding row3
 row3-past ls i h = rw (le-ltb i (length ls) h, row3)
 
+<<<<<<< HEAD
+=======
+-- row 3 at line i sees the lines only by what is due after them
+row3-same : (ls ms : List Line) (i : ℕ) → length ls ≡ length ms → due-after (Header 0) (take (suc i) ls) ≡ due-after (Header 0) (take (suc i) ms)
+    → due-after (Header 0) ls ≡ due-after (Header 0) ms → row3 ls i ≡ row3 ms i
+row3-same ls ms i n e d = go (ltb i (length ls)) refl
+  where
+    go : (c : Bool) → ltb i (length ls) ≡ c → row3 ls i ≡ row3 ms i
+    go true q =
+        let h : i < length ls = ltb-true i (length ls) q in
+        row3-inside ls i h ∙ ap is-broken e ∙ sym (row3-inside ms i (omega arith))
+    go false q =
+        let h : length ls ≤ i = ltb-false i (length ls) q in
+        row3-past ls i h ∙ ap is-within d ∙ sym (row3-past ms i (omega arith))
+
+>>>>>>> program
 -- row 3 applies nowhere exactly if the lines end well
 pub row3-ends : (ls : List Line) → ((i : ℕ) → i ≤ length ls → row3 ls i ≡ false) → Ends ls
 unfolding due-after
@@ -603,8 +624,15 @@ due-after-plain q [] = refl
 due-after-plain q (l ∷ ls) = ap (λ (d : Due). due-after d (map plain ls)) (due-plain q l) ∙ due-after-plain (due q l) ls
 
 pub row3-plain : (ls : List Line) (i : ℕ) → row3 (map plain ls) i ≡ row3 ls i
+<<<<<<< HEAD
 unfolding row3
 row3-plain ls i = rw (length-map ls plain, take-map plain (suc i) ls, due-after-plain (Header 0) (take (suc i) ls), due-after-plain (Header 0) ls)
+=======
+row3-plain ls i =
+    row3-same (map plain ls) ls i (length-map ls plain)
+    (ap (due-after (Header 0)) (take-map plain (suc i) ls) ∙ due-after-plain (Header 0) (take (suc i) ls))
+    (due-after-plain (Header 0) ls)
+>>>>>>> program
 
 line-plain : (ls : List Line) (i : ℕ) → line-at (map plain ls) i ≡ plain (line-at ls i)
 unfolding plain
@@ -655,3 +683,226 @@ row4-plain f ls i =
       count-plain ctor-line refl refl (take i ls),
       count-plain field-line refl refl (take i ls),
     )
+<<<<<<< HEAD
+=======
+
+-- row 5, letter by letter
+zeros-field : (l : Line) → zeros-from 3 (row field-line (number l 0 ∷ number l 1 ∷ 0 ∷ number l 3 ∷ number l 4 ∷ [])) ≡ zeros-from 3 l
+unfolding zeros-from first
+zeros-field l = refl
+
+zeros-verdict : (l : Line) → zeros-from 3 (row verdict-line (0 ∷ 0 ∷ 0 ∷ number l 3 ∷ number l 4 ∷ [])) ≡ zeros-from 3 l
+unfolding zeros-from first
+zeros-verdict l = refl
+
+good-head-plain : (names types : ℕ) (l : Line) → good-head names types (row import-line (five l)) ≡ good-head names types l
+unfolding good-head
+good-head-plain names types l = refl
+
+-- line l as it should be, by the counts of the sheet
+good-line : ℕ → ℕ → List ℕ → ℕ → ℕ → Line → Bool
+good-line names types xs n y l =
+    is name-line l ⇒ eqb (number l 0) n ∥
+    is arg-line l ⇒ ltb (number l 0) types && zeros-from 1 l ∥
+    is type-line l ⇒ good-type names xs y l ∥
+    is-head l ⇒ good-head names types l ∥
+    is param-line l ⇒ ltb (number l 0) names && zeros-from 1 l ∥
+    is ctor-line l ⇒ ltb (number l 0) names && zeros-from 2 l ∥
+    is field-line l ⇒ ltb (number l 0) names && ltb (number l 1) types && zeros-from 3 l ∥
+    zeros-from 3 l
+
+good-numbers-line : (ls : List Line) (i : ℕ)
+    → good-numbers ls i
+    ≡ good-line (count-of name-line ls) (count-of type-line ls) (map (λ a. number a 0) (select arg-line ls)) (count-before name-line ls i) (count-before type-line ls i) (line-at ls i)
+unfolding good-numbers good-line
+good-numbers-line ls i = refl
+
+good-line-plain : (names types : ℕ) (xs : List ℕ) (n y : ℕ) (l : Line) → good-line names types xs n y (plain l) ≡ good-line names types xs n y l
+unfolding good-line
+good-line-plain names types xs n y l = go (kind l)
+  where
+    go : Kind l → good-line names types xs n y (plain l) ≡ good-line names types xs n y l
+    go (a-head h e) = rw e (good-head-plain names types l ∙ ⊎-elim (λ k. rw k) (λ k. rw k) (head-cases l h))
+    go (a-field h e) = rw (e, h, zeros-field l)
+    go (a-verdict h e) = rw (e, h, zeros-verdict l)
+    go (another h f v e) = rw e
+
+pub row5-plain : (ls : List Line) (i : ℕ) → row5 (map plain ls) i ≡ row5 ls i
+unfolding row5
+row5-plain ls i =
+    rw (
+      good-numbers-line (map plain ls) i,
+      good-numbers-line ls i,
+      line-plain ls i,
+      select-plain name-line refl refl refl refl ls,
+      select-plain arg-line refl refl refl refl ls,
+      select-plain type-line refl refl refl refl ls,
+      take-map plain i ls,
+      select-plain name-line refl refl refl refl (take i ls),
+      select-plain type-line refl refl refl refl (take i ls),
+    )
+    (ap not (good-line-plain (count-of name-line ls) (count-of type-line ls) (map (λ a. number a 0) (select arg-line ls)) (count-before name-line ls i) (count-before type-line ls i) (line-at ls i)))
+
+-- row 6: what it compares of two lines
+text-row : (l : Line) → is name-line l ≡ false → text l ≡ []
+text-row (named n t) e = false-true (sym e)
+text-row (row x ns) e = refl
+text-row bad e = refl
+
+text-plain : (l : Line) → text (plain l) ≡ text l
+text-plain l = go (kind l)
+  where
+    go : Kind l → text (plain l) ≡ text l
+    go (a-head h e) = rw e (sym (text-row l (⊎-elim (λ k. rw k) (λ k. rw k) (head-cases l h))))
+    go (a-field h e) = rw e (sym (text-row l (rw h)))
+    go (a-verdict h e) = rw e (sym (text-row l (rw h)))
+    go (another h f v e) = rw e
+
+is-ctor-plain : (l : Line) → is-ctor (plain l) ≡ is-ctor l
+is-ctor-plain l = go (kind l)
+  where
+    go : Kind l → is-ctor (plain l) ≡ is-ctor l
+    go (a-head h e) = rw e (⊎-elim (λ k. rw k) (λ k. rw k) (head-cases l h))
+    go (a-field h e) = rw (e, h)
+    go (a-verdict h e) = rw (e, h)
+    go (another h f v e) = rw e
+
+first-number-plain : (l : Line) → is verdict-line l ≡ false → number (plain l) 0 ≡ number l 0
+first-number-plain l n = go (kind l)
+  where
+    go : Kind l → number (plain l) 0 ≡ number l 0
+    go (a-head h e) = rw e
+    go (a-field h e) = rw e
+    go (a-verdict h e) = contrary (is verdict-line l) (rw h) n
+    go (another h f v e) = rw e
+
+-- lines k and l are of one kind that may not repeat a number; d and c: of one declaration, of one constructor
+alike : Bool → Bool → Line → Line → Bool
+alike d c k l =
+    (is-head k && is-head l)
+    || (is param-line k && is param-line l && d)
+    || (is field-line k && is field-line l && c)
+    || (is-ctor k && is-ctor l)
+
+repeats-by : (ls : List Line) (i j : ℕ)
+    → repeats ls i j
+    ≡ ((is name-line (line-at ls j) && is name-line (line-at ls i) && equal (text (line-at ls j)) (text (line-at ls i)))
+    || (eqb (number (line-at ls j) 0) (number (line-at ls i) 0) && alike (same-decl ls j i) (same-ctor ls j i) (line-at ls j) (line-at ls i)))
+unfolding repeats alike
+repeats-by ls i j = refl
+
+alike-plain : (d c : Bool) (k l : Line) → alike d c (plain k) (plain l) ≡ alike d c k l
+unfolding alike
+alike-plain d c k l =
+    rw (
+      is-ctor-plain k,
+      is-ctor-plain l,
+      plain-head k,
+      plain-head l,
+      plain-is param-line refl refl k,
+      plain-is param-line refl refl l,
+      plain-is field-line refl refl k,
+      plain-is field-line refl refl l,
+    )
+
+alike-left : (d c : Bool) (k l : Line) → is verdict-line k ≡ true → alike d c k l ≡ false
+unfolding alike
+alike-left d c k l e = rw (eqb-true (letter k) 86 e)
+
+alike-right : (d c : Bool) (k l : Line) → is verdict-line l ≡ true → alike d c k l ≡ false
+unfolding alike
+alike-right d c k l e = rw (eqb-true (letter l) 86 e, and-false (is-head k), and-false (is param-line k), and-false (is field-line k), and-false (is-ctor k))
+
+-- the first numbers of two lines that may not repeat one
+numbers-alike : (d c : Bool) (k l : Line)
+    → (eqb (number (plain k) 0) (number (plain l) 0) && alike d c k l) ≡ (eqb (number k 0) (number l 0) && alike d c k l)
+numbers-alike d c k l = go (is verdict-line k) (is verdict-line l) refl refl
+  where
+    go : (a b : Bool) → is verdict-line k ≡ a → is verdict-line l ≡ b
+        → (eqb (number (plain k) 0) (number (plain l) 0) && alike d c k l) ≡ (eqb (number k 0) (number l 0) && alike d c k l)
+    go true b p q = rw (alike-left d c k l p, and-false (eqb (number (plain k) 0) (number (plain l) 0)), and-false (eqb (number k 0) (number l 0)))
+    go false true p q = rw (alike-right d c k l q, and-false (eqb (number (plain k) 0) (number (plain l) 0)), and-false (eqb (number k 0) (number l 0)))
+    go false false p q = rw (first-number-plain k p, first-number-plain l q)
+
+repeats-plain : (ls : List Line) (i j : ℕ) → repeats (map plain ls) i j ≡ repeats ls i j
+repeats-plain ls i j =
+    rw (
+      repeats-by (map plain ls) i j,
+      repeats-by ls i j,
+      line-plain ls i,
+      line-plain ls j,
+      plain-is name-line refl refl (line-at ls i),
+      plain-is name-line refl refl (line-at ls j),
+      text-plain (line-at ls i),
+      text-plain (line-at ls j),
+      heads-before-plain ls i,
+      heads-before-plain ls j,
+      count-before-plain ctor-line refl refl ls i,
+      count-before-plain ctor-line refl refl ls j,
+      alike-plain (same-decl ls j i) (same-ctor ls j i) (line-at ls j) (line-at ls i),
+      numbers-alike (same-decl ls j i) (same-ctor ls j i) (line-at ls j) (line-at ls i),
+    )
+
+pub row6-plain : (ls : List Line) (i : ℕ) → row6 (map plain ls) i ≡ row6 ls i
+unfolding row6
+row6-plain ls i = rw (first-congr (repeats (map plain ls) i) (repeats ls i) i (λ j k. repeats-plain ls i j))
+
+zeros-ended : (l : Line) → zeros-from 3 l ≡ true → (number l 3 ≡ 0) × (number l 4 ≡ 0)
+unfolding zeros-from
+zeros-ended l e =
+    let p : ℕ → Bool = λ i. leb 3 i && not (eqb (number l i) 0) in
+    let f : first p 5 ≡ 5 = omega (arith, first-le p 5, ltb-false (first p 5) 5 (not-true (ltb (first p 5) 5) e)) in (
+      eqb-true (number l 3) 0 (not-false (eqb (number l 3) 0) (none-first p 5 f 3 (omega arith))),
+      eqb-true (number l 4) 0 (not-false (eqb (number l 4) 0) (none-first p 5 f 4 (omega arith))),
+    )
+
+-- ---- rows 3 to 6 of a prefix's verdict sheet
+module _ (ls qs : List Line) (tis : List TypeInfo) (n : length tis ≡ length (groups is-head ls)) (h : AllEnded ls) where
+  plain-cut : map plain (verdict-lines ls tis ++ qs) ≡ map plain (ls ++ qs)
+  plain-cut =
+      map-append plain (verdict-lines ls tis) qs
+      ∙ ap (λ (r : List Line). r ++ map plain qs) (plain-verdict-lines ls tis n h)
+      ∙ sym (map-append plain ls qs)
+
+  pub row3-verdict : (i : ℕ) → row3 (verdict-lines ls tis ++ qs) i ≡ row3 (ls ++ qs) i
+  row3-verdict i = sym (row3-plain (verdict-lines ls tis ++ qs) i) ∙ ap (λ (r : List Line). row3 r i) plain-cut ∙ row3-plain (ls ++ qs) i
+
+  pub row4-verdict : (f : Format) (i : ℕ) → row4 f (verdict-lines ls tis ++ qs) i ≡ row4 f (ls ++ qs) i
+  row4-verdict f i = sym (row4-plain f (verdict-lines ls tis ++ qs) i) ∙ ap (λ (r : List Line). row4 f r i) plain-cut ∙ row4-plain f (ls ++ qs) i
+
+  pub row5-verdict : (i : ℕ) → row5 (verdict-lines ls tis ++ qs) i ≡ row5 (ls ++ qs) i
+  row5-verdict i = sym (row5-plain (verdict-lines ls tis ++ qs) i) ∙ ap (λ (r : List Line). row5 r i) plain-cut ∙ row5-plain (ls ++ qs) i
+
+  pub row6-verdict : (i : ℕ) → row6 (verdict-lines ls tis ++ qs) i ≡ row6 (ls ++ qs) i
+  row6-verdict i = sym (row6-plain (verdict-lines ls tis ++ qs) i) ∙ ap (λ (r : List Line). row6 r i) plain-cut ∙ row6-plain (ls ++ qs) i
+
+  -- and the declarations begin at the same lines
+  pub head-verdict : (i : ℕ) → is-head (line-at (verdict-lines ls tis ++ qs) i) ≡ is-head (line-at (ls ++ qs) i)
+  head-verdict i =
+      sym (plain-head (line-at (verdict-lines ls tis ++ qs) i))
+      ∙ ap is-head (sym (line-plain (verdict-lines ls tis ++ qs) i) ∙ ap (λ (r : List Line). line-at r i) plain-cut ∙ line-plain (ls ++ qs) i)
+      ∙ plain-head (line-at (ls ++ qs) i)
+
+  pub heads-before-verdict : (i : ℕ) → heads-before (verdict-lines ls tis ++ qs) i ≡ heads-before (ls ++ qs) i
+  heads-before-verdict i =
+      sym (heads-before-plain (verdict-lines ls tis ++ qs) i) ∙ ap (λ (r : List Line). heads-before r i) plain-cut ∙ heads-before-plain (ls ++ qs) i
+
+-- row 5 gives the zeros at the end of F and V lines
+ended-line : (names types : ℕ) (xs : List ℕ) (n y : ℕ) (l : Line) → good-line names types xs n y l ≡ true → Ended l
+unfolding good-line
+ended-line names types xs n y l e q = zeros-ended l (go (is field-line l) refl q)
+  where
+    go : (c : Bool) → is field-line l ≡ c → (c || is verdict-line l) ≡ true → zeros-from 3 l ≡ true
+    go true k t = both (ltb (number l 0) names && ltb (number l 1) types) (zeros-from 3 l) (rw (eqb-true (letter l) 70 k) at e) .1
+    go false k t = rw (eqb-true (letter l) 86 t) at e
+
+ended-all : (ls : List Line) → ((i : ℕ) → i < length ls → Ended (line-at ls i)) → AllEnded ls
+ended-all [] h = tt
+ended-all (l ∷ ls) h = (h 0 (omega arith), ended-all ls (λ i k. h (suc i) (omega arith)))
+
+pub ended-row5 : (ls : List Line) → ((i : ℕ) → i < length ls → row5 ls i ≡ false) → AllEnded ls
+unfolding row5
+ended-row5 ls h =
+    ended-all ls (λ i k. ended-line (count-of name-line ls) (count-of type-line ls) (map (λ a. number a 0) (select arg-line ls)) (count-before name-line ls i) (count-before type-line ls i) (line-at ls i)
+    (sym (good-numbers-line ls i) ∙ not-false (good-numbers ls i) (h i k)))
+>>>>>>> program
