@@ -28,3 +28,4 @@ pub mod OutputLaws
 pub mod WrittenLaws
 pub mod Pinning
 pub mod FuelLaws
+pub mod NumbersLaws
