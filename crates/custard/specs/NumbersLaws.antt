@@ -13,7 +13,8 @@ use borrow.Author.Tests.{ltb-true, ltb-false}
 use Rattle.columns.specs.Column.{pick, _⇒_∥_}
 use Rattle.sheet.specs.Line.{Line, row, bad, letter, number}
 use Rattle.sheet.specs.LineLaws.{Fits}
-use Rattle.sheet.specs.SheetLaws.{AllFit}
+use Rattle.sheet.specs.Sheet.{lines, encodes}
+use Rattle.sheet.specs.SheetLaws.{AllFit, lines-encodes}
 use Rattle.custard.specs.Cty.{
   Cty,
   Ctys,
@@ -82,17 +83,52 @@ use Rattle.custard.specs.Decl.{
   position,
   member,
   close,
+  close-field,
+  close-body,
+  close-fields,
 }
 use Rattle.custard.specs.Erasure.{marked, erasure-fixpoint}
 use Rattle.custard.specs.Layout.{slots, kept, ctor-layout, ctor-layouts, newtype-of-ctor, newtype-of, candidate, dropped, collapse, layout-of-body, layout-of, compute-layouts}
 use Rattle.custard.specs.Run.{fuel, with-body, all-in, collapsed-abbrev, resolved-field, resolved-ctor, struct-body, rw-decl, somes, layouts-of, Ran, run}
-use Rattle.custard.specs.Program.{type-line}
+use Rattle.custard.specs.Program.{
+  arg-line,
+  type-line,
+  import-line,
+  param-line,
+  ctor-line,
+  field-line,
+  is,
+  is-head,
+  select,
+  before,
+  Group,
+  groups,
+  list-of,
+  tree,
+  trees-after,
+  trees,
+  field-of,
+  ctor-of,
+  body-of,
+  dtype-of,
+  keeps-of,
+  ctor-layouts-by,
+  abbreviated,
+  or-struct,
+  layout-by,
+  info-of,
+  verdict-of,
+  decl-of,
+  program,
+}
+use Rattle.custard.specs.Rows.{count-of}
+use Rattle.custard.specs.ProgramLaws.{select-append, flat, before-flat, heads, length-groups}
 use Rattle.custard.specs.Output.{left-lines}
 use Rattle.custard.specs.CtyLaws.{Every, every-mem, mem-every, every-map, all-names}
 use Rattle.custard.specs.ResolveLaws.{Stays, Normal, Fields, Ctors, BodyTypes, LeftTypes}
 use Rattle.custard.specs.LayoutLaws.{getD-table, getD-table-past, candidates-of, getD-candidates, getD-layouts, getD-layouts-past}
 use Rattle.custard.specs.RunLaws.{lay, left-at, run-program}
-use Rattle.custard.specs.OutputLaws.{every-append, every-over, types-of-fields, types-of-ctors, types-of-body, types-of, TypeNumbers, TypesNumbers, FieldNumbers, CtorNumbers, BodyNumbers, DtypeNumbers, total, total-bound, ProgramFits, NamesIn, left-names}
+use Rattle.custard.specs.OutputLaws.{every-append, every-over, types-of-fields, types-of-ctors, types-of-body, types-of, TypeNumbers, TypesNumbers, FieldNumbers, CtorNumbers, BodyNumbers, DtypeNumbers, total, total-bound, ProgramFits, every-select, number-fits, allFit-every, left-fits, NamesIn, left-names}
 
 -- ---- the numbers of types
 module _ (Q : ℕ → Type 0) where
@@ -675,3 +711,319 @@ run-fits w limit ds small h t b =
     let c : length (types-of (run ds .program)) ≤ weights ds = run-count Q kind (below-down (10 ^ w)) ds h in
     let n : total (types-of (run ds .program)) ≤ limit * length (types-of (run ds .program)) = total-bound limit (types-of (run ds .program)) (run-types (λ t. size t ≤ limit) ds t) in
     record { kinds = small; nodes = omega (arith, n, mul-le-mul-left limit c); types = f .1; decls = f .0 }
+
+-- ---- parts of a list of lines
+length-select : (x : ℕ) (ls : List Line) → length (select x ls) ≤ length ls
+unfolding select
+length-select x [] = omega arith
+length-select x (l ∷ ls) = go (is x l) (length-select x ls)
+  where
+    go : (c : Bool) → length (select x ls) ≤ length ls → length (pick c (l ∷ select x ls) (select x ls)) ≤ suc (length ls)
+    go true k = omega arith
+    go false k = omega arith
+
+select-one : (x : ℕ) (l : Line) (ls : List Line) → length (select x ls) ≤ length (select x (l ∷ ls))
+unfolding select
+select-one x l ls = go (is x l)
+  where
+    go : (c : Bool) → length (select x ls) ≤ length (pick c (l ∷ select x ls) (select x ls))
+    go true = omega arith
+    go false = omega arith
+
+every-before : (P : Line → Type 0) (p : Line → Bool) (ls : List Line) → Every P ls → Every P (before p ls)
+unfolding before
+every-before P p [] h = tt
+every-before P p (l ∷ ls) h = go (p l) (every-before P p ls (h .1))
+  where
+    go : (c : Bool) → Every P (before p ls) → Every P (pick c [] (l ∷ before p ls))
+    go true k = tt
+    go false k = (h .0, k)
+
+length-before : (p : Line → Bool) (ls : List Line) → length (before p ls) ≤ length ls
+unfolding before
+length-before p [] = omega arith
+length-before p (l ∷ ls) = go (p l) (length-before p ls)
+  where
+    go : (c : Bool) → length (before p ls) ≤ length ls → length {A = Line} (pick c [] (l ∷ before p ls)) ≤ suc (length ls)
+    go true k = omega arith
+    go false k = omega arith
+
+-- a group of at most n lines after its first, of all of which P holds
+pub record Held (P : Line → Type 0) (n : ℕ) (g : Group) : Type 0 where
+  pub head-held : P (g .head)
+  pub rest-held : Every P (g .rest)
+  pub rest-length : length (g .rest) ≤ n
+
+every-groups : (P : Line → Type 0) (n : ℕ) (p : Line → Bool) (ls : List Line) → Every P ls → length ls ≤ n → Every (Held P n) (groups p ls) × (length (groups p ls) ≤ length ls)
+unfolding groups
+every-groups P n p [] h b = (tt, omega arith)
+every-groups P n p (l ∷ ls) h b = go (p l) (every-groups P n p ls (h .1) (omega arith))
+  where
+    g : Group
+    g = record { head = l; rest = before p ls }
+
+    go : (c : Bool) → Every (Held P n) (groups p ls) × (length (groups p ls) ≤ length ls) →
+        Every (Held P n) (pick c (g ∷ groups p ls) (groups p ls)) × (length (pick c (g ∷ groups p ls) (groups p ls)) ≤ suc (length ls))
+    go true k = ((record { head-held = h .0; rest-held = every-before P p ls (h .1); rest-length = omega (arith, length-before p ls) }, k .0), omega (arith, k .1))
+    go false k = (k .0, omega (arith, k .1))
+
+-- the lines of a letter in groups, but for the lines that begin them
+unfoldable rests : ℕ → List Group → ℕ
+rests x [] = 0
+rests x (g ∷ gs) = count-of x (g .rest) + rests x gs
+
+rests-flat : (x : ℕ) (gs : List Group) → rests x gs ≤ count-of x (flat gs)
+unfolding rests flat
+rests-flat x [] = omega arith
+rests-flat x (g ∷ gs) =
+    rw (select-append x (g .head ∷ g .rest) (flat gs), length-append) (omega (arith, select-one x (g .head) (g .rest), rests-flat x gs))
+
+rests-groups : (x : ℕ) (p : Line → Bool) (ls : List Line) → rests x (groups p ls) ≤ count-of x ls
+rests-groups x p ls =
+    let e : count-of x (before p ls ++ flat (groups p ls)) ≡ count-of x ls = ap (λ (r : List Line). count-of x r) (before-flat p ls) in
+    omega (arith, rests-flat x (groups p ls), e, ap length (select-append x (before p ls) (flat (groups p ls))), length-append (select x (before p ls)) (select x (flat (groups p ls))))
+
+-- ---- the program of a sheet
+-- Q holds of every number of a line
+abbrev pub Numbered : (ℕ → Type 0) → Line → Type 0
+Numbered Q l = (k : ℕ) → Q (number l k)
+
+module _ (Q : ℕ → Type 0) (kind : (n : ℕ) → n ≤ 12 → Q n) (down : (m n : ℕ) → m ≤ n → Q n → Q m) where
+  getD-numbers : (ts : List Cty) (i : ℕ) → Every (TypeNumbers Q) ts → TypeNumbers Q (getD ts i TUnit)
+  getD-numbers [] i h = tt
+  getD-numbers (t ∷ ts) zero h = h .0
+  getD-numbers (t ∷ ts) (suc i) h = getD-numbers ts i (h .1)
+
+  list-numbers : (ts : List Cty) (xs : List ℕ) (i k : ℕ) → Every (TypeNumbers Q) ts → TypesNumbers Q (list-of ts xs i k)
+  unfolding list-of
+  list-numbers ts xs i zero h = tt
+  list-numbers ts xs i (suc k) h = (getD-numbers ts (getD xs i 0) h, list-numbers ts xs (suc i) k h)
+
+  tree-numbers : (ts : List Cty) (xs : List ℕ) (k a b c : ℕ) → Every (TypeNumbers Q) ts → Q a → Q b → Q c → TypeNumbers Q (tree ts xs k a b c)
+  unfolding tree
+  tree-numbers ts xs k a b c h qa qb qc = go (eqb k 1) (eqb k 2) (eqb k 3) (eqb k 4) (eqb k 5) (eqb k 6) (eqb k 7) (eqb k 8) (eqb k 9) (eqb k 10) (eqb k 11) (eqb k 12)
+    where
+      go : (x1 x2 x3 x4 x5 x6 x7 x8 x9 x10 x11 x12 : Bool) → TypeNumbers Q (
+          x1 ⇒ TAny ∥
+          x2 ⇒ TExn ∥
+          x3 ⇒ TVar a ∥
+          x4 ⇒ TInt a b ∥
+          x5 ⇒ TFloat a ∥
+          x6 ⇒ TConst a ∥
+          x7 ⇒ TArrow (getD ts a TUnit) b (getD ts c TUnit) ∥
+          x8 ⇒ TApp a (list-of ts xs b c) ∥
+          x9 ⇒ TTuple (list-of ts xs a b) ∥
+          x10 ⇒ TBuf (getD ts a TUnit) ∥
+          x11 ⇒ TRef a (getD ts b TUnit) ∥
+          x12 ⇒ TInline (getD ts a TUnit) ∥
+          TUnit)
+      go true x2 x3 x4 x5 x6 x7 x8 x9 x10 x11 x12 = tt
+      go false true x3 x4 x5 x6 x7 x8 x9 x10 x11 x12 = tt
+      go false false true x4 x5 x6 x7 x8 x9 x10 x11 x12 = qa
+      go false false false true x5 x6 x7 x8 x9 x10 x11 x12 = (qa, qb)
+      go false false false false true x6 x7 x8 x9 x10 x11 x12 = qa
+      go false false false false false true x7 x8 x9 x10 x11 x12 = qa
+      go false false false false false false true x8 x9 x10 x11 x12 = (getD-numbers ts a h, qb, getD-numbers ts c h)
+      go false false false false false false false true x9 x10 x11 x12 = (qa, list-numbers ts xs b c h)
+      go false false false false false false false false true x10 x11 x12 = list-numbers ts xs a b h
+      go false false false false false false false false false true x11 x12 = getD-numbers ts a h
+      go false false false false false false false false false false true x12 = (qa, getD-numbers ts b h)
+      go false false false false false false false false false false false true = getD-numbers ts a h
+      go false false false false false false false false false false false false = tt
+
+  trees-after-numbers : (xs : List ℕ) (ts : List Cty) (ls : List Line) → Every (TypeNumbers Q) ts → Every (Numbered Q) ls → Every (TypeNumbers Q) (trees-after xs ts ls)
+  unfolding trees-after
+  trees-after-numbers xs ts [] h k = h
+  trees-after-numbers xs ts (l ∷ ls) h k =
+      let t : Cty = tree ts xs (number l 0) (number l 1) (number l 2) (number l 3) in
+      trees-after-numbers xs (ts ++ (t ∷ [])) ls
+      (every-append (TypeNumbers Q) ts (t ∷ []) h (tree-numbers ts xs (number l 0) (number l 1) (number l 2) (number l 3) h (k .0 1) (k .0 2) (k .0 3), tt)) (k .1)
+
+  pub trees-numbers : (ls : List Line) → Every (Numbered Q) ls → Every (TypeNumbers Q) (trees ls)
+  unfolding trees
+  trees-numbers ls h = trees-after-numbers (map (λ l. number l 0) (select arg-line ls)) [] (select type-line ls) tt (every-select (Numbered Q) type-line ls h)
+
+  module _ (ts : List Cty) (ht : Every (TypeNumbers Q) ts) (n : ℕ) (qn : Q n) where
+    few : (m : ℕ) → m ≤ n → Q m
+    few m h = down m n h qn
+
+    fields-full : (ls : List Line) → Every (Numbered Q) ls → Every (FullField Q) (map (field-of ts) (select field-line ls))
+    unfolding field-of
+    fields-full ls h =
+        every-over (FullField Q) (field-of ts) (select field-line ls)
+        (every-map (Numbered Q) (λ l. FullField Q (field-of ts l)) (λ l k. (k 0, getD-numbers ts (number l 1) ht)) (select field-line ls) (every-select (Numbered Q) field-line ls h))
+
+    ctor-full : (g : Group) → Held (Numbered Q) n g → FullCtor Q (ctor-of ts g)
+    unfolding ctor-of
+    ctor-full g h = (h .head-held 0, rw length-map (few (length (select field-line (g .rest))) (omega (arith, length-select field-line (g .rest), h .rest-length))), fields-full (g .rest) (h .rest-held))
+
+    body-of-full : (k last : ℕ) (ls : List Line) → Every (Numbered Q) ls → length ls ≤ n → FullBody Q (body-of ts k last ls)
+    unfolding body-of
+    body-of-full k last ls h b = go (eqb k 1) (eqb k 2) (eqb k 3)
+      where
+        go : (x y z : Bool) → FullBody Q (
+            x ⇒ TAbbrev (getD ts last TUnit) ∥
+            y ⇒ TRecord (map (field-of ts) (select field-line ls)) ∥
+            z ⇒ TVariant (map (ctor-of ts) (groups (is ctor-line) ls)) ∥
+            TAbstract)
+        go true y z = getD-numbers ts last ht
+        go false true z = (rw length-map (few (length (select field-line ls)) (omega (arith, length-select field-line ls))), fields-full ls h)
+        go false false true =
+            let gs = every-groups (Numbered Q) n (is ctor-line) ls h b in
+            (rw length-map (few (length (groups (is ctor-line) ls)) (omega (arith, gs .1))), every-over (FullCtor Q) (ctor-of ts) (groups (is ctor-line) ls) (every-map (Held (Numbered Q) n) (λ g. FullCtor Q (ctor-of ts g)) ctor-full (groups (is ctor-line) ls) (gs .0)))
+        go false false false = tt
+
+    dtype-of-full : (g : Group) → Held (Numbered Q) n g → FullDtype Q (dtype-of ts g)
+    unfolding dtype-of
+    dtype-of-full g h =
+        record {
+          name = h .head-held 0;
+          flags = h .head-held 1;
+          arity = rw length-map (few (length (select param-line (g .rest))) (omega (arith, length-select param-line (g .rest), h .rest-length)));
+          params =
+              every-over Q (λ l. number l 0) (select param-line (g .rest))
+              (every-map (Numbered Q) (λ l. Q (number l 0)) (λ l k. k 0) (select param-line (g .rest)) (every-select (Numbered Q) param-line (g .rest) (h .rest-held)));
+          body = body-of-full (number (g .head) 2) (number (g .head) 4) (g .rest) (h .rest-held) (h .rest-length);
+        }
+
+    close-fields-full : (ps : List ℕ) (fs : List Field) → Every (FullField Q) fs → Every (FullField Q) (map (close-field ps) fs)
+    unfolding close-field
+    close-fields-full ps [] h = tt
+    close-fields-full ps (f ∷ fs) h = ((h .0 .0, close-numbers Q ps (f .fd-type) (h .0 .1)), close-fields-full ps fs (h .1))
+
+    close-ctors-full : (ps : List ℕ) (cs : List Ctor) → Every (FullCtor Q) cs → Every (FullCtor Q) (map (λ c. record { ct-name = c .ct-name; ct-fields = map (close-field ps) (c .ct-fields) }) cs)
+    close-ctors-full ps [] h = tt
+    close-ctors-full ps (c ∷ cs) h = ((h .0 .0, rw length-map (h .0 .1), close-fields-full ps (c .ct-fields) (h .0 .2)), close-ctors-full ps cs (h .1))
+
+    close-body-full : (ps : List ℕ) (b : Body) → FullBody Q b → FullBody Q (close-body ps b)
+    unfolding close-body
+    close-body-full ps TAbstract h = tt
+    close-body-full ps (TAbbrev c) h = close-numbers Q ps c h
+    close-body-full ps (TRecord fs) h = (rw length-map (h .0), close-fields-full ps fs (h .1))
+    close-body-full ps (TVariant cs) h = (rw length-map (h .0), close-ctors-full ps cs (h .1))
+
+    close-full : (d : Dtype) → FullDtype Q d → FullDtype Q (close-fields d)
+    unfolding close-fields
+    close-full d h = record { name = h .name; flags = h .flags; arity = h .arity; params = h .params; body = close-body-full (d .dt-params) (d .dt-body) (h .body) }
+
+    -- an import's layout, by its keep numbers
+    by-full : (cs : List Ctor) (bss : List (List Bool)) → Every (FullCtor Q) cs →
+        Every (FullLayouts Q) (ctor-layouts-by cs bss) × (kept-fields (ctor-layouts-by cs bss) ≤ ctor-fields cs) × (length (ctor-layouts-by cs bss) ≤ length cs)
+    unfolding ctor-layouts-by kept-fields ctor-fields ctor-layout
+    by-full [] bss h = (tt, omega arith, omega arith)
+    by-full (c ∷ cs) [] h = (tt, omega arith, omega arith)
+    by-full (c ∷ cs) (bs ∷ bss) h =
+        let k = by-full cs bss (h .1) in
+        ((ctor-layout-full Q kind down c bs (h .0), k .0), omega (arith, k .1, length-kept bs (c .ct-fields)), omega (arith, k .2))
+
+    or-struct-full : (b : ℕ) (o : Option Layout) (cls : List CtorLayout) → FullOption Q b o → FullKept Q b cls → FullLayout Q b (or-struct o cls)
+    or-struct-full b none cls h k = k
+    or-struct-full b (some l) cls h k = h
+
+    abbreviated-full : (m : ℕ) (b : Body) → FullBody Q b → FullLayout Q m (abbreviated b)
+    abbreviated-full m TAbstract h = tt
+    abbreviated-full m (TAbbrev c) h = h
+    abbreviated-full m (TRecord fs) h = tt
+    abbreviated-full m (TVariant cs) h = tt
+
+    layout-by-full : (m k : ℕ) (b : Body) (cls : List CtorLayout) → FullBody Q b → FullKept Q m cls → FullLayout Q m (layout-by k b cls)
+    unfolding layout-by
+    layout-by-full m k b cls h c = go (eqb k 0) (eqb k 1) (eqb k 2) (eqb k 3)
+      where
+        go : (x y z v : Bool) → FullLayout Q m (x ⇒ L-erased ∥ y ⇒ or-struct (newtype-of cls) cls ∥ z ⇒ L-struct cls ∥ v ⇒ abbreviated b ∥ L-opaque)
+        go true y z v = tt
+        go false true z v = or-struct-full m (newtype-of cls) cls (newtype-full Q kind down m cls (c .1)) c
+        go false false true v = c
+        go false false false true = abbreviated-full m b h
+        go false false false false = tt
+
+    info-full : (d : Dtype) (ls : List Line) (v : Line) → FullDtype Q d → FullLayout Q (body-fields (d .dt-body)) (info-of d ls v .ti-layout)
+    unfolding info-of
+    info-full d ls v h =
+        let k = ctors-full Q kind down (d .dt-name) (d .dt-body) (h .name) (h .body) in
+        let bss : List (List Bool) = keeps-of (d .dt-body) ls in
+        let r = by-full (ctors-of-tydef d) bss (k .1) in
+        layout-by-full (body-fields (d .dt-body)) (number v 1) (d .dt-body) (ctor-layouts-by (ctors-of-tydef d) bss) (h .body)
+        (down (length (ctor-layouts-by (ctors-of-tydef d) bss)) (length (ctors-of-tydef d)) (r .2) (k .0), r .0, omega (arith, r .1, k .2))
+
+    decl-of-full : (g : Group) → Held (Numbered Q) n g → FullDecl Q (decl-of ts g)
+    unfolding decl-of
+    decl-of-full g h =
+        let d : Dtype = close-fields (dtype-of ts g) in
+        let f : FullDtype Q d = close-full (dtype-of ts g) (dtype-of-full g h) in
+        record { dtype-full = f; origin-full = go d f (is import-line (g .head)) }
+      where
+        go : (d : Dtype) → FullDtype Q d → (c : Bool) → FullOrigin Q (body-fields (d .dt-body)) (pick c (imported (info-of d (g .rest) (verdict-of (g .rest)))) here)
+        go d f true = info-full d (g .rest) (verdict-of (g .rest)) f
+        go d f false = tt
+
+  -- What holds of every number of the lines, and of their count, holds of every number of the program.
+  pub program-full : (ls : List Line) → Every (Numbered Q) ls → Q (length ls) → Every (FullDecl Q) (program ls)
+  unfolding program
+  program-full ls h q =
+      let gs = every-groups (Numbered Q) (length ls) is-head ls h (omega arith) in
+      every-over (FullDecl Q) (decl-of (trees ls)) (groups is-head ls)
+      (every-map (Held (Numbered Q) (length ls)) (λ g. FullDecl Q (decl-of (trees ls) g)) (decl-of-full (trees ls) (trees-numbers ls h) (length ls) q) (groups is-head ls) (gs .0))
+
+-- ---- one type for each declaration and each F line
+groups-fields : (ts : List Cty) (gs : List Group) → ctor-fields (map (ctor-of ts) gs) ≡ rests field-line gs
+unfolding ctor-fields rests ctor-of
+groups-fields ts [] = refl
+groups-fields ts (g ∷ gs) = rw (length-map, groups-fields ts gs)
+
+body-of-fields : (ts : List Cty) (k last : ℕ) (ls : List Line) → body-fields (body-of ts k last ls) ≤ count-of field-line ls
+unfolding body-of body-fields
+body-of-fields ts k last ls = go (eqb k 1) (eqb k 2) (eqb k 3)
+  where
+    go : (x y z : Bool) → body-fields (
+        x ⇒ TAbbrev (getD ts last TUnit) ∥
+        y ⇒ TRecord (map (field-of ts) (select field-line ls)) ∥
+        z ⇒ TVariant (map (ctor-of ts) (groups (is ctor-line) ls)) ∥
+        TAbstract) ≤ count-of field-line ls
+    go true y z = omega arith
+    go false true z = rw length-map (omega arith)
+    go false false true = rw (groups-fields ts (groups (is ctor-line) ls)) (rests-groups field-line (is ctor-line) ls)
+    go false false false = omega arith
+
+close-ctor-fields : (ps : List ℕ) (cs : List Ctor) → ctor-fields (map (λ c. record { ct-name = c .ct-name; ct-fields = map (close-field ps) (c .ct-fields) }) cs) ≡ ctor-fields cs
+unfolding ctor-fields
+close-ctor-fields ps [] = refl
+close-ctor-fields ps (c ∷ cs) = rw (length-map, close-ctor-fields ps cs)
+
+close-body-fields : (ps : List ℕ) (b : Body) → body-fields (close-body ps b) ≡ body-fields b
+unfolding body-fields close-body
+close-body-fields ps TAbstract = refl
+close-body-fields ps (TAbbrev c) = refl
+close-body-fields ps (TRecord fs) = length-map fs (close-field ps)
+close-body-fields ps (TVariant cs) = close-ctor-fields ps cs
+
+weights-groups : (ts : List Cty) (gs : List Group) → weights (map (decl-of ts) gs) ≤ length gs + rests field-line gs
+unfolding weights rests decl-of close-fields dtype-of
+weights-groups ts [] = omega arith
+weights-groups ts (g ∷ gs) =
+    omega (arith, weights-groups ts gs, close-body-fields (dtype-of ts g .dt-params) (dtype-of ts g .dt-body), body-of-fields ts (number (g .head) 2) (number (g .head) 4) (g .rest))
+
+pub weights-program : (ls : List Line) → weights (program ls) ≤ heads ls + count-of field-line ls
+unfolding program
+weights-program ls =
+    omega (arith, weights-groups (trees ls) (groups is-head ls), length-groups ls, rests-groups field-line is-head ls)
+
+-- ---- the left sheet fits
+-- The lines of the left sheet fit where the sheet's lines do, the types that are left are of at most limit nodes each, and so many
+-- nodes for each declaration and each F line can be counted.
+pub sheet-fits : (w limit : ℕ) (ls : List Line) → 12 < 10 ^ w → AllFit w ls → length ls < 10 ^ w → limit * (heads ls + count-of field-line ls) < 10 ^ w →
+    ((i : ℕ) → i < length (program ls) → LeftTypes (λ t. size t ≤ limit) (left-at (program ls) i)) → AllFit w (left-lines ls (run (program ls) .program))
+sheet-fits w limit ls k h n b t =
+    let Q : ℕ → Type 0 = λ m. m < 10 ^ w in
+    let f : Every (Numbered Q) ls = every-map (Fits w) (Numbered Q) (λ l p i. number-fits w (omega arith) l i p) ls (allFit-every w ls h) in
+    left-fits w ls (run (program ls) .program) h
+    (run-fits w limit (program ls) k (program-full Q (λ m j. omega arith) (below-down (10 ^ w)) ls f n) t (omega (arith, b, mul-le-mul-left limit (weights-program ls))))
+
+pub sheet-round : (w limit : ℕ) (ls : List Line) → 12 < 10 ^ w → AllFit w ls → length ls < 10 ^ w → limit * (heads ls + count-of field-line ls) < 10 ^ w →
+    ((i : ℕ) → i < length (program ls) → LeftTypes (λ t. size t ≤ limit) (left-at (program ls) i)) →
+    lines w (encodes w (left-lines ls (run (program ls) .program))) ≡ left-lines ls (run (program ls) .program)
+sheet-round w limit ls k h n b t = lines-encodes w (left-lines ls (run (program ls) .program)) (columns w k) (sheet-fits w limit ls k h n b t)
+  where
+    columns : (v : ℕ) → 12 < 10 ^ v → 0 < v
+    columns zero j = absurd (omega arith)
+    columns (suc v) j = omega arith
