@@ -1,17 +1,17 @@
 -- What holds of every number of a sheet's lines holds of every number of the program that is left, and how many types that has: so
 -- the lines of the left sheet of an accepted sheet fit their columns. Assumes nothing.
-use mathlib.Core.Path.{_≡_, refl, ap, sym, _∙_, subst}
+use mathlib.Core.Path.{_≡_, refl, ap}
 use mathlib.Core.List.{List, [], _∷_, _++_, map, List·Memᴰ}
 use mathlib.Core.Bool.{Bool, true, false, _&&_, _||_, not}
 use mathlib.Core.Option.{Option, none, some}
 use Prim.Native.Nat.{ℕ, zero, suc, _+_, _*_, _^_, _≤_, _<_}
 use native.Mathlib.Omega.{arith}
-use native.Mathlib.Nat.{mul-le-mul-left, le-trans}
+use native.Mathlib.Nat.{mul-le-mul-left}
 use lib.Dec.{eqb, ltb}
 use lib.ListN.{length, getD, length-append, length-map}
 use borrow.Author.Tests.{ltb-true, ltb-false}
 use Rattle.columns.specs.Column.{pick, _⇒_∥_}
-use Rattle.sheet.specs.Line.{Line, row, bad, letter, number}
+use Rattle.sheet.specs.Line.{Line, letter, number}
 use Rattle.sheet.specs.LineLaws.{Fits}
 use Rattle.sheet.specs.Sheet.{lines, encodes}
 use Rattle.sheet.specs.SheetLaws.{AllFit, lines-encodes}
@@ -71,7 +71,6 @@ use Rattle.custard.specs.Decl.{
   L-struct,
   L-abbrev,
   L-opaque,
-  TypeInfo,
   Origin,
   here,
   imported,
@@ -89,7 +88,7 @@ use Rattle.custard.specs.Decl.{
 }
 use Rattle.custard.specs.Erasure.{marked, erasure-fixpoint}
 use Rattle.custard.specs.Layout.{slots, kept, ctor-layout, ctor-layouts, newtype-of-ctor, newtype-of, candidate, dropped, collapse, layout-of-body, layout-of, compute-layouts}
-use Rattle.custard.specs.Run.{fuel, with-body, all-in, collapsed-abbrev, resolved-field, resolved-ctor, struct-body, rw-decl, somes, layouts-of, Ran, run}
+use Rattle.custard.specs.Run.{fuel, with-body, all-in, collapsed-abbrev, resolved-field, resolved-ctor, struct-body, rw-decl, somes, layouts-of, run}
 use Rattle.custard.specs.Program.{
   arg-line,
   type-line,
@@ -124,7 +123,7 @@ use Rattle.custard.specs.Program.{
 use Rattle.custard.specs.Rows.{count-of}
 use Rattle.custard.specs.ProgramLaws.{select-append, flat, before-flat, heads, length-groups}
 use Rattle.custard.specs.Output.{left-lines}
-use Rattle.custard.specs.CtyLaws.{Every, every-mem, mem-every, every-map, all-names}
+use Rattle.custard.specs.CtyLaws.{Every, every-map, all-names}
 use Rattle.custard.specs.ResolveLaws.{Stays, Normal, Fields, Ctors, BodyTypes, LeftTypes}
 use Rattle.custard.specs.LayoutLaws.{getD-table, getD-table-past, candidates-of, getD-candidates, getD-layouts, getD-layouts-past}
 use Rattle.custard.specs.RunLaws.{lay, left-at, run-program}
