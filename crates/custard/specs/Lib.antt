@@ -32,3 +32,4 @@ pub mod PassLaws
 pub mod RowsLaws
 pub mod StepLaws
 pub mod BuildLaws
+pub mod NumbersLaws

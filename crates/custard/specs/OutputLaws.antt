@@ -1,10 +1,9 @@
 -- Laws of the two sheets that are written: what is added, how long they are, which names stand in the types of the left sheet, and
 -- that every line fits its columns. Assumes nothing.
-use mathlib.Core.Path.{_≡_, refl, ap, ap₂, sym, _∙_, subst}
-use mathlib.Core.Logic.{⊎-elim}
-use mathlib.Core.List.{List, [], _∷_, _++_, map, append-assoc, append-nil, List·Memᴰ, List·Memᴰ·head, List·Memᴰ·tail, List·Memᴰ·not-nil, List·Memᴰ·cases-cons, Memᴰ·append-left, Memᴰ·append-right}
+use mathlib.Core.Path.{_≡_, refl, ap, sym, _∙_}
+use mathlib.Core.List.{List, [], _∷_, _++_, map, append-assoc, append-nil, List·Memᴰ, List·Memᴰ·head, List·Memᴰ·tail, Memᴰ·append-left, Memᴰ·append-right}
 use mathlib.Core.Bool.{Bool, true, false}
-use Prim.Native.Nat.{ℕ, zero, suc, _+_, _*_, _-_, _^_, _≤_, _<_}
+use Prim.Native.Nat.{ℕ, zero, suc, _+_, _*_, _^_, _≤_, _<_}
 use native.Mathlib.Omega.{arith}
 use lib.Dec.{eqb}
 use borrow.Author.Tests.{eqb-true}
@@ -19,7 +18,7 @@ use Rattle.sheet.specs.SheetLaws.{AllFit, length-encodes, lines-encodes}
 use Rattle.custard.specs.Program.{name-line, arg-line, type-line, local-line, param-line, ctor-line, field-line, verdict-line, import-line, is, is-head, select, before, Group, groups}
 use Rattle.custard.specs.Cty.{Cty, Ctys, TUnit, TAny, TExn, TVar, TInt, TFloat, TConst, TArrow, TApp, TTuple, TBuf, TRef, TInline, nil, cons, gather, gathers, names-of-cty, lengths, size, sizes}
 use Rattle.custard.specs.CtyLaws.{Every, every-mem, mem-every, every-map, size-positive}
-use Rattle.custard.specs.Decl.{Field, Ctor, Body, TAbstract, TAbbrev, TRecord, TVariant, Dtype, CtorLayout, Layout, L-erased, L-newtype, L-struct, L-abbrev, L-opaque, layout-number, TypeInfo}
+use Rattle.custard.specs.Decl.{Field, Ctor, Body, TAbstract, TAbbrev, TRecord, TVariant, Dtype, Layout, L-erased, L-newtype, L-struct, L-abbrev, L-opaque, layout-number, TypeInfo}
 use Rattle.custard.specs.Output.{bit, fill-keeps, fill-verdict, all-slots, fill, fill-all, verdict-lines, Written, put, last, Members, listed, first-arg, emit, emits, Lines, field-lines, ctor-lines, decl-frame, decl-lines, program-lines, left-lines}
 use Rattle.custard.specs.Names.{fields-names, ctors-names, body-names, dtype-names}
 use Rattle.custard.specs.ProgramLaws.{flat, before-flat}

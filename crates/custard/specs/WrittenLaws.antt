@@ -1,15 +1,15 @@
 -- The left sheet read back: its types are those that were written, and its declarations are the program's. Assumes nothing.
 use mathlib.Core.Path.{_≡_, refl, ap, ap₂, sym, _∙_}
-use mathlib.Core.List.{List, [], _∷_, _++_, map, append-assoc, append-nil, map-append, map-map, map-id}
-use mathlib.Core.Bool.{Bool, true, false, _||_}
-use Prim.Native.Nat.{ℕ, zero, suc, _+_, _-_, _≤_, _<_}
+use mathlib.Core.List.{List, [], _∷_, _++_, map, append-assoc, append-nil, map-append}
+use mathlib.Core.Bool.{Bool, false, _||_}
+use Prim.Native.Nat.{ℕ, suc, _+_}
 use native.Mathlib.Omega.{arith}
 use lib.Dec.{eqb}
 use borrow.Author.Tests.{eq-eqb, ne-eqb}
 use lib.ListN.{length, getD, length-append, length-map}
 use lib.Seq.{append-snoc, getD-at, getD-append-seam}
 use Rattle.columns.specs.Column.{pick}
-use Rattle.sheet.specs.Line.{Line, named, row, bad, letter, number}
+use Rattle.sheet.specs.Line.{Line, row, letter, number}
 use Rattle.custard.specs.Cty.{Cty, Ctys, TUnit, TAny, TExn, TVar, TInt, TFloat, TConst, TArrow, TApp, TTuple, TBuf, TRef, TInline, nil, cons}
 use Rattle.custard.specs.CtyLaws.{Every}
 use Rattle.custard.specs.Decl.{Field, Ctor, Body, TAbstract, TAbbrev, TRecord, TVariant, Dtype, here, Decl, close-fields}
@@ -42,7 +42,7 @@ use Rattle.custard.specs.Program.{
 }
 use Rattle.custard.specs.ProgramLaws.{None, none-append, select-append, select-none, before-none, groups-none, flat, Grouped, AllGrouped, groups-header}
 use Rattle.custard.specs.Output.{Written, put, last, Members, listed, first-arg, emit, emits, Lines, field-lines, ctor-lines, decl-frame, decl-lines, program-lines, left-lines}
-use Rattle.custard.specs.OutputLaws.{Grows, grows-refl, grows-put, grows-listed, grows-trans, emit-adds, emits-adds, emit-last, field-adds, ctor-adds, program-adds, select-letter, nothing}
+use Rattle.custard.specs.OutputLaws.{Grows, grows-refl, grows-put, grows-listed, grows-trans, emit-adds, emits-adds, field-adds, ctor-adds, program-adds, select-letter, nothing}
 
 -- ---- types
 -- a list that begins with another
