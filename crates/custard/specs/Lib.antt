@@ -13,3 +13,4 @@ pub mod Program
 pub mod Rows
 pub mod Output
 pub mod Answer
+pub mod Cases
