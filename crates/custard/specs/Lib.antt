@@ -1,11 +1,13 @@
 pub mod Cty
 pub mod Decl
 pub mod Erasure
+pub mod RoundsLaws
 pub mod Names
 pub mod NamesLaws
 pub mod Reach
 pub mod ReachLaws
 pub mod Layout
+pub mod ErasureLaws
 pub mod Resolve
 pub mod Run
 pub mod LayoutLaws

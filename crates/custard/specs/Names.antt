@@ -3,8 +3,9 @@
 use mathlib.Core.Logic.{_↔_, _⊎_}
 use mathlib.Core.Path.{_≡_}
 use mathlib.Core.List.{List, [], _∷_, _++_, List·Memᴰ}
-use mathlib.Core.Bool.{Bool, true}
+use mathlib.Core.Bool.{Bool, true, not}
 use Prim.Native.Nat.{ℕ, _<_}
+use lib.Dec.{ltb}
 use lib.ListN.{length}
 use Rattle.custard.specs.Cty.{names-of-cty}
 use Rattle.custard.specs.Decl.{Field, Ctor, Body, TAbstract, TAbbrev, TRecord, TVariant, Dtype, TypeInfo, imported, Decl, dtype-at, origin-at, position}
@@ -31,6 +32,10 @@ dtype-names d = body-names (d .dt-body)
 -- ---- declared names
 abbrev pub Declared : List Decl → ℕ → Type 0
 Declared ds n = position ds n < length ds
+
+-- the same as a test, the other way round
+unfoldable pub undeclared : List Decl → ℕ → Bool
+undeclared ds n = not (ltb (position ds n) (length ds))
 
 -- no name is declared twice
 abbrev pub Distinct : List Decl → Type 0

@@ -1,15 +1,16 @@
 -- Laws of a name's position, and of programs that agree on a set of names. Assumes nothing.
-use mathlib.Core.Logic.{_≢_, ⊎-elim}
-use mathlib.Core.Path.{_≡_, refl, ap, sym, _∙_, subst}
+use mathlib.Core.Logic.{_≢_}
+use mathlib.Core.Path.{_≡_, refl, ap, sym}
 use mathlib.Core.List.{List, [], _∷_, _++_, List·Memᴰ}
-use mathlib.Core.Bool.{Bool, true, false}
+use mathlib.Core.Bool.{Bool, true, false, not}
 use Prim.Native.Nat.{ℕ, zero, suc, _+_, _≤_, _<_}
 use native.Mathlib.Omega.{arith}
-use lib.Dec.{T, eqb, eqb→eq, eqb-refl}
-use lib.ListN.{length, getD}
+use native.Mathlib.Decide.{decLt}
+use lib.Dec.{T, eqb, eqb→eq, eqb-refl, ltb, ltb→lt, nltb→le}
+use lib.ListN.{length, length-append, List·getD-append}
 use Rattle.columns.specs.Column.{pick}
-use Rattle.custard.specs.Decl.{Dtype, TypeInfo, Decl, dtype-at, origin-at, position}
-use Rattle.custard.specs.Names.{dtype-names, Declared, Distinct, Agree, Pinned}
+use Rattle.custard.specs.Decl.{TypeInfo, Decl, no-decl, dtype-at, position}
+use Rattle.custard.specs.Names.{dtype-names, Declared, undeclared, Distinct, Agree, Pinned}
 
 -- ---- position
 pub position-le : (ds : List Decl) (n : ℕ) → position ds n ≤ length ds
@@ -111,3 +112,33 @@ agree-sym S ds ds' g = record {
   same-origin = λ n s h. sym (g .same-origin n s (g .declared n s .1 h));
   closed = λ n s h m k. g .closed n s (g .declared n s .1 h) m (rw (g .same-dtype n s (g .declared n s .1 h)) k);
 }
+
+-- what `undeclared` says
+pub undeclared-past : (ds : List Decl) (n : ℕ) → undeclared ds n ≡ true → position ds n ≡ length ds
+unfolding undeclared
+undeclared-past ds n e = omega (arith, position-le ds n, nltb→le (position ds n) (length ds) (rw e tt))
+
+pub undeclared-of : (ds : List Decl) (n : ℕ) → position ds n ≡ length ds → undeclared ds n ≡ true
+unfolding undeclared
+undeclared-of ds n e = go (ltb (position ds n) (length ds)) refl
+  where
+    go : (b : Bool) → ltb (position ds n) (length ds) ≡ b → not b ≡ true
+    go true q = absurd (omega (arith, ltb→lt (position ds n) (length ds) (rw q tt)))
+    go false q = refl
+
+-- Declarations that name nothing which others declare agree with themselves and those others behind them, on all names that the others do not declare.
+pub agree-prefix : (ds es : List Decl)
+    → ((i : ℕ) → i < length ds → (m : ℕ) → List·Memᴰ m (dtype-names (dtype-at ds i)) → undeclared es m ≡ true)
+    → Agree (undeclared es) ds (ds ++ es)
+agree-prefix ds es f = record {
+  declared = λ n s. (λ h. rw (position-append-left ds es n h) (omega (arith, length-append ds es)), λ h. back n s h (decLt (position ds n) (length ds)));
+  same-dtype = λ n s h. rw (position-append-left ds es n h) (ap (λ (d : Decl). d .dtype) (sym (List·getD-append ds es no-decl (position ds n) h)));
+  same-origin = λ n s h. rw (position-append-left ds es n h) (ap (λ (d : Decl). d .origin) (sym (List·getD-append ds es no-decl (position ds n) h)));
+  closed = λ n s h m k. f (position ds n) h m k;
+}
+  where
+    back : (n : ℕ) → undeclared es n ≡ true → Declared (ds ++ es) n → Dec (Declared ds n) → Declared ds n
+    back n s h (yes q) = q
+    back n s h (no q) =
+        let e : position ds n ≡ length ds = omega (arith, position-le ds n) in
+        absurd (omega (arith, position-append-right ds es n e, undeclared-past es n s, length-append ds es))
