@@ -2,7 +2,7 @@
 -- claim, and further cases for rules that no starred case tells apart. Assumes nothing.
 use mathlib.Core.Path.{_≡_, refl}
 use mathlib.Core.List.{List, [], _∷_, _++_, map}
-use mathlib.Core.Bool.{Bool, true, false, not}
+use mathlib.Core.Bool.{Bool, not}
 use Prim.Native.Nat.{ℕ, zero, suc, min}
 use Prim.Native.String as S
 use Prim.Native.String.{String}
