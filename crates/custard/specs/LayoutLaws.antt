@@ -1,49 +1,18 @@
 -- Laws of the layouts: what each entry of the tables is, where the steps of the two searches lead, when
 -- a declaration becomes a newtype, and what the layouts depend on. Assumes nothing.
-use mathlib.Core.Logic.{_≢_, _⊎_, inl, inr, ⊎-elim, _↔_}
+use mathlib.Core.Logic.{_⊎_, inl, inr, ⊎-elim, _↔_}
 use mathlib.Core.Path.{_≡_, refl, ap, ap₂, sym, _∙_}
-use mathlib.Core.List.{List, [], _∷_, _++_, map, List·Memᴰ, List·Memᴰ·head, List·Memᴰ·tail, List·Memᴰ·not-nil, List·Memᴰ·cases-cons, List·Memᴰ·append-cases, Memᴰ·append-left, Memᴰ·append-right}
-use mathlib.Core.Bool.{Bool, true, false, _&&_, _||_, not}
+use mathlib.Core.List.{List, [], _∷_, map, List·Memᴰ, List·Memᴰ·head, List·Memᴰ·tail, List·Memᴰ·not-nil, List·Memᴰ·cases-cons, List·Memᴰ·append-cases, Memᴰ·append-left, Memᴰ·append-right}
+use mathlib.Core.Bool.{Bool, true, false, _||_}
 use mathlib.Core.Option.{Option, none, some}
-use Prim.Native.Nat.{ℕ, zero, suc, _+_, _≤_, _<_}
+use Prim.Native.Nat.{ℕ, zero, suc, _≤_, _<_}
 use native.Mathlib.Omega.{arith}
 use lib.Dec.{T, ltb, lt→ltb, ltb→lt, nltb→le}
 use lib.ListN.{length, getD, List·getD-eq-default}
-use lib.Seq.{ext-getD}
 use Rattle.columns.specs.Column.{pick}
-use Rattle.custard.specs.Cty.{Cty, Ctys, TUnit, TAny, TExn, TVar, TInt, TFloat, TConst, TArrow, TApp, TTuple, TBuf, TRef, TInline, nil, cons, gather, gathers, names-of-cty, uninline}
-use Rattle.custard.specs.Decl.{
-  Field,
-  Ctor,
-  Body,
-  TAbstract,
-  TAbbrev,
-  TRecord,
-  TVariant,
-  Dtype,
-  NoNewtype,
-  has-flag,
-  ctors-of,
-  ctors-of-tydef,
-  CtorLayout,
-  NewtypeLayout,
-  Layout,
-  L-erased,
-  L-newtype,
-  L-struct,
-  L-abbrev,
-  L-opaque,
-  TypeInfo,
-  Origin,
-  here,
-  imported,
-  Decl,
-  dtype-at,
-  origin-at,
-  table,
-  position,
-}
-use Rattle.custard.specs.Erasure.{is-pure, cty-erased, ctys-erased, marked}
+use Rattle.custard.specs.Cty.{Cty, TUnit, TAny, TExn, TVar, TInt, TFloat, TConst, TArrow, TApp, TTuple, TBuf, TRef, TInline, gather, names-of-cty, uninline}
+use Rattle.custard.specs.Decl.{Field, Ctor, Body, TAbstract, TAbbrev, TRecord, TVariant, Dtype, NoNewtype, has-flag, ctors-of, ctors-of-tydef, CtorLayout, NewtypeLayout, Layout, L-erased, L-newtype, L-struct, L-abbrev, L-opaque, Origin, here, imported, Decl, dtype-at, origin-at, table, position}
+use Rattle.custard.specs.Erasure.{marked}
 use Rattle.custard.specs.Layout.{
   slots,
   kept,
@@ -66,9 +35,10 @@ use Rattle.custard.specs.Layout.{
 }
 use Rattle.custard.specs.Resolve.{Unfold, gone, newtype, abbreviation, stays, unfolds}
 use Rattle.custard.specs.Run.{unfold-names, unfold-next}
+use Rattle.custard.specs.ErasureLaws.{ctor-layouts-local}
 use Rattle.custard.specs.Names.{fields-names, ctors-names, body-names, dtype-names, Declared, Agree, Pin}
-use Rattle.custard.specs.NamesLaws.{position-le, position-name, position-same, agree-sym}
-use Rattle.custard.specs.Reach.{Reach, one, more, cyclic}
+use Rattle.custard.specs.NamesLaws.{position-name, position-same, agree-sym}
+use Rattle.custard.specs.Reach.{Reach, one, more}
 use Rattle.custard.specs.ReachLaws.{true-false, reach-loop, reach-stays, cyclic-iff}
 
 -- ---- tests
@@ -349,58 +319,6 @@ unfolding guard-next payload-names
 candidate-next ds s i h o nt c =
     rw (getD-candidates ds (marked ds s) s i none h, o, candidate-iff (marked ds s) (dtype-at ds i) (getD s i false) nt .1 c)
 
--- ---- what the constructor layouts depend on
--- Two predicates that agree on the names of a type find it erased alike.
-module _ (er er' : ℕ → Bool) where
-  mutual
-    unfolding cty-erased names-of-cty gather
-
-    pub cty-erased-cong : (c : Cty) → ((n : ℕ) → List·Memᴰ n (names-of-cty c) → er n ≡ er' n) → cty-erased er c ≡ cty-erased er' c
-    cty-erased-cong TUnit h = refl
-    cty-erased-cong TAny h = refl
-    cty-erased-cong TExn h = refl
-    cty-erased-cong (TVar v) h = refl
-    cty-erased-cong (TInt s w) h = refl
-    cty-erased-cong (TFloat f) h = refl
-    cty-erased-cong (TConst c) h = refl
-    cty-erased-cong (TArrow a e r) h = ap (λ (b : Bool). is-pure e && b) (cty-erased-cong r (λ n m. h n (Memᴰ·append-right (names-of-cty a) m)))
-    cty-erased-cong (TApp n ts) h = h n (List·Memᴰ·head refl)
-    cty-erased-cong (TTuple ts) h = ctys-erased-cong ts h
-    cty-erased-cong (TBuf t) h = refl
-    cty-erased-cong (TRef k t) h = refl
-    cty-erased-cong (TInline t) h = cty-erased-cong t h
-
-    pub ctys-erased-cong : (ts : Ctys) → ((n : ℕ) → List·Memᴰ n (gathers (λ v. []) (λ k. k ∷ []) ts) → er n ≡ er' n) → ctys-erased er ts ≡ ctys-erased er' ts
-    ctys-erased-cong nil h = refl
-    ctys-erased-cong (cons t ts) h =
-        ap₂ _&&_ (cty-erased-cong t (λ n m. h n (Memᴰ·append-left (gathers (λ v. []) (λ k. k ∷ []) ts) m))) (ctys-erased-cong ts (λ n m. h n (Memᴰ·append-right (names-of-cty t) m)))
-
-  pub slots-cong : (fs : List Field) → ((n : ℕ) → List·Memᴰ n (fields-names fs) → er n ≡ er' n) → slots er fs ≡ slots er' fs
-  unfolding slots fields-names
-  slots-cong [] h = refl
-  slots-cong (f ∷ fs) h =
-      ap₂ _∷_ (ap not (cty-erased-cong (f .fd-type) (λ n m. h n (Memᴰ·append-left (fields-names fs) m)))) (slots-cong fs (λ n m. h n (Memᴰ·append-right (names-of-cty (f .fd-type)) m)))
-
-  -- Two predicates that agree on a declaration's names give it the same constructor layouts.
-  pub ctor-layouts-cong : (d : Dtype) → ((n : ℕ) → List·Memᴰ n (dtype-names d) → er n ≡ er' n) → ctor-layouts er d ≡ ctor-layouts er' d
-  unfolding ctor-layouts ctors-of dtype-names body-names ctors-names
-  ctor-layouts-cong d h = by (d .dt-body) h
-    where
-      some-ctors : (cs : List Ctor)
-          → ((n : ℕ) → List·Memᴰ n (ctors-names cs) → er n ≡ er' n)
-          → map (λ c. ctor-layout c (slots er (c .ct-fields))) cs ≡ map (λ c. ctor-layout c (slots er' (c .ct-fields))) cs
-      some-ctors [] k = refl
-      some-ctors (c ∷ cs) k =
-          ap₂ _∷_ (ap (ctor-layout c) (slots-cong (c .ct-fields) (λ n m. k n (Memᴰ·append-left (ctors-names cs) m)))) (some-ctors cs (λ n m. k n (Memᴰ·append-right (fields-names (c .ct-fields)) m)))
-
-      by : (b : Body)
-          → ((n : ℕ) → List·Memᴰ n (body-names b) → er n ≡ er' n)
-          → map (λ c. ctor-layout c (slots er (c .ct-fields))) (ctors-of (d .dt-name) b) ≡ map (λ c. ctor-layout c (slots er' (c .ct-fields))) (ctors-of (d .dt-name) b)
-      by TAbstract k = refl
-      by (TAbbrev c) k = refl
-      by (TRecord fs) k = ap (λ (l : List Bool). ctor-layout (record { ct-name = d .dt-name; ct-fields = fs }) l ∷ []) (slots-cong fs k)
-      by (TVariant cs) k = some-ctors cs k
-
 -- ---- names of a payload
 pub uninline-names : (c : Cty) → names-of-cty (uninline c) ≡ names-of-cty c
 unfolding uninline names-of-cty gather
@@ -515,7 +433,7 @@ module _ (S : ℕ → Bool) (ds ds' : List Decl) (s s' : List Bool) (a : Alike S
   pub ctor-layouts-same : (n : ℕ) → S n ≡ true → Declared ds n
       → ctor-layouts (marked ds s) (dtype-at ds (position ds n)) ≡ ctor-layouts (marked ds' s') (dtype-at ds' (position ds' n))
   ctor-layouts-same n h d =
-      ctor-layouts-cong (marked ds s) (marked ds' s') (dtype-at ds (position ds n)) (λ m k. a .marks m (a .agree .closed n h d m k)) ∙ rw (a .agree .same-dtype n h d)
+      ctor-layouts-local (marked ds s) (marked ds' s') (dtype-at ds (position ds n)) (λ m k. a .marks m (a .agree .closed n h d m k)) ∙ rw (a .agree .same-dtype n h d)
 
   candidate-cong : (n : ℕ) → S n ≡ true → Declared ds n → candidate-at ds (marked ds s) s (position ds n) ≡ candidate-at ds' (marked ds' s') s' (position ds' n)
   candidate-cong n h d = rw (ctor-layouts-same n h d, a .agree .same-dtype n h d, a .agree .same-origin n h d, mark-same n h)
@@ -614,7 +532,7 @@ module _ (B : ℕ → Bool) (ds ds' : List Decl) (s : List Bool) (p : PinnedLayo
   marked-pinned n = rw (position-same ds ds' n (p .same-length) (p .same-dtypes))
 
   ctor-layouts-pinned : (i : ℕ) → i < length ds → ctor-layouts (marked ds s) (dtype-at ds i) ≡ ctor-layouts (marked ds' s) (dtype-at ds' i)
-  ctor-layouts-pinned i h = ctor-layouts-cong (marked ds s) (marked ds' s) (dtype-at ds i) (λ n m. marked-pinned n) ∙ rw (p .same-dtypes i h)
+  ctor-layouts-pinned i h = ctor-layouts-local (marked ds s) (marked ds' s) (dtype-at ds i) (λ n m. marked-pinned n) ∙ rw (p .same-dtypes i h)
 
   -- a place outside B has the same candidate,
   candidate-other : (i : ℕ) → i < length ds → B i ≡ false → getD (candidates-of ds s) i none ≡ getD (candidates-of ds' s) i none

@@ -33,3 +33,4 @@ pub mod RowsLaws
 pub mod StepLaws
 pub mod BuildLaws
 pub mod NumbersLaws
+pub mod Cases

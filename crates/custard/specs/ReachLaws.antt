@@ -1,29 +1,21 @@
 -- Laws of reachability: the search decides it, a simulation carries it over, and where nothing
 -- reaches itself each step lowers the number of nodes that can still be reached. Assumes nothing.
 use mathlib.Core.Logic.{_≢_, _⊎_, inl, inr, ⊎-elim, _↔_}
-use mathlib.Core.Path.{_≡_, refl, ap, sym, _∙_}
+use mathlib.Core.Path.{_≡_, refl, sym, _∙_}
 use mathlib.Core.List.{List, [], _∷_, _++_, List·Memᴰ, List·Memᴰ·head, List·Memᴰ·tail, List·Memᴰ·not-nil, List·Memᴰ·cases-cons, List·Memᴰ·append-cases, Memᴰ·append-left, Memᴰ·append-right}
 use mathlib.Core.Bool.{Bool, true, false}
-use Prim.Native.Nat.{ℕ, zero, suc, _+_, _≤_, _<_}
+use Prim.Native.Nat.{ℕ, zero, suc, _+_, _<_}
 use native.Mathlib.Omega.{arith}
-use native.Mathlib.Decide.{ℕ-discrete}
 use lib.Dec.{T, eqb, eqb→eq, eqb-refl}
 use lib.ListN.{length, getD, set, replicate, length-set, length-replicate}
 use lib.Seq.{getD-set-same, getD-set-other}
+use Rattle.custard.specs.RoundsLaws.{At, Le, At-lt, cases-eq, bit, trues, trues-le, trues-mono}
 use Rattle.custard.specs.Reach.{Reach, one, more, go, cyclic}
 
 -- ---- tests
 -- `true` is not `false`
 pub true-false : {P : Type 0} → _≡_ {A = Bool} true false → P
 true-false e = let z : _≡_ {A = ℕ} 0 1 = cc in absurd (omega arith)
-
--- equal or not
-pub equal-or : {P : Type 0} (j i : ℕ) → (j ≡ i → P) → (j ≢ i → P) → P
-equal-or {P} j i f g = by (ℕ-discrete j i)
-  where
-    by : Dec (j ≡ i) → P
-    by (yes e) = f e
-    by (no n) = g n
 
 -- a test that holds, and one that does not, of two numbers
 pub eqb-true : (m n : ℕ) → eqb m n ≡ true → m ≡ n
@@ -33,34 +25,6 @@ pub eqb-false : (m n : ℕ) → eqb m n ≡ false → m ≢ n
 eqb-false m n e p = let t : T (eqb m n) = rw p (eqb-refl n) in rw e at t
 
 -- ---- marks
--- place i is marked
-abbrev pub At : List Bool → ℕ → Type 0
-At s i = T (getD s i false)
-
--- all that s has marked, t has
-abbrev pub Le : List Bool → List Bool → Type 0
-Le s t = (i : ℕ) → At s i → At t i
-
-pub At-lt : (s : List Bool) (i : ℕ) → At s i → i < length s
-At-lt [] i h = absurd h
-At-lt (x ∷ s) zero h = omega arith
-At-lt (x ∷ s) (suc i) h = omega (arith, At-lt s i h)
-
-unfoldable pub bit : Bool → ℕ
-bit true = 1
-bit false = 0
-
--- how many places are marked
-unfoldable pub trues : List Bool → ℕ
-trues [] = 0
-trues (x ∷ s) = bit x + trues s
-
-pub trues-le : (s : List Bool) → trues s ≤ length s
-unfolding trues bit
-trues-le [] = omega arith
-trues-le (true ∷ s) = omega (arith, trues-le s)
-trues-le (false ∷ s) = omega (arith, trues-le s)
-
 -- a place that is not marked
 pub trues-out : (s : List Bool) (i : ℕ) → i < length s → (At s i → ⊥) → trues s < length s
 unfolding trues bit
@@ -69,16 +33,6 @@ trues-out (true ∷ s) zero h n = absurd (n tt)
 trues-out (false ∷ s) zero h n = omega (arith, trues-le s)
 trues-out (true ∷ s) (suc i) h n = omega (arith, trues-out s i (omega arith) n)
 trues-out (false ∷ s) (suc i) h n = omega (arith, trues-out s i (omega arith) n)
-
-pub trues-mono : (s t : List Bool) → length s ≡ length t → Le s t → trues s ≤ trues t
-unfolding trues bit
-trues-mono [] [] e h = omega arith
-trues-mono [] (y ∷ t) e h = omega arith
-trues-mono (x ∷ s) [] e h = absurd (omega arith)
-trues-mono (true ∷ s) (true ∷ t) e h = omega (arith, trues-mono s t (omega arith) (λ i. h (suc i)))
-trues-mono (true ∷ s) (false ∷ t) e h = absurd (h 0 tt)
-trues-mono (false ∷ s) (true ∷ t) e h = omega (arith, trues-mono s t (omega arith) (λ i. h (suc i)))
-trues-mono (false ∷ s) (false ∷ t) e h = omega (arith, trues-mono s t (omega arith) (λ i. h (suc i)))
 
 -- more is marked where a mark is new
 pub trues-more : (s t : List Bool) → length s ≡ length t → Le s t → (i : ℕ) → At t i → (At s i → ⊥) → trues s < trues t
@@ -109,13 +63,13 @@ trues-set (x ∷ s) (suc m) h e = omega (arith, trues-set s m (omega arith) e)
 
 pub mark-up : (s : List Bool) (m : ℕ) → Le s (set s m true)
 mark-up s m i a =
-    equal-or i m (λ e. rw (e, getD-set-same s m true false (rw e at (At-lt s i a))) tt) (λ n. rw (getD-set-other s m i true false n) a)
+    cases-eq i m (λ e. rw (e, getD-set-same s m true false (rw e at (At-lt s i a))) tt) (λ n. rw (getD-set-other s m i true false n) a)
 
 pub mark-at : (s : List Bool) (m : ℕ) → m < length s → At (set s m true) m
 mark-at s m h = rw (getD-set-same s m true false h) tt
 
 pub mark-only : (s : List Bool) (m i : ℕ) → At (set s m true) i → (i ≡ m) ⊎ At s i
-mark-only s m i a = equal-or i m (λ e. inl e) (λ n. inr (rw (getD-set-other s m i true false n) at a))
+mark-only s m i a = cases-eq i m (λ e. inl e) (λ n. inr (rw (getD-set-other s m i true false n) at a))
 
 -- ---- walks
 module _ (next : ℕ → List ℕ) where
