@@ -166,7 +166,7 @@ pub record Split (w : ℕ) (p q : List ℕ) : Type 0 where
       → Clear (length (lines w p ++ lines w q)) (row6 (lines w p ++ lines w q))
       → Apart (program (lines w p)) (later (lines w p) (lines w q))
 
-whole-append : (w : ℕ) (p q : List ℕ) → Whole w p → Whole w q → Whole w (p ++ q)
+pub whole-append : (w : ℕ) (p q : List ℕ) → Whole w p → Whole w q → Whole w (p ++ q)
 whole-append w p q h k =
     let m : length (p ++ q) ≡ lineBytes w * (count w p + count w q) =
         length-append p q ∙ (ap₂ _+_ (whole-length w p h) (whole-length w q k) ∙ sym (mul-add (lineBytes w) (count w p) (count w q))) in

@@ -34,3 +34,4 @@ pub mod StepLaws
 pub mod BuildLaws
 pub mod NumbersLaws
 pub mod Cases
+pub mod SplitLaws

@@ -44,7 +44,7 @@ heads-clear ls p h i j = go (is-head (line-at ls i)) refl
     go false e = refl
 
 -- ---- row 6: no name is declared twice
-name-at : (ls : List Line) (i : ℕ) → i < length ls → is-head (line-at ls i) ≡ true → dtype-at (program ls) (heads-before ls i) .dt-name ≡ number (line-at ls i) 0
+pub name-at : (ls : List Line) (i : ℕ) → i < length ls → is-head (line-at ls i) ≡ true → dtype-at (program ls) (heads-before ls i) .dt-name ≡ number (line-at ls i) 0
 unfolding decl-of close-fields dtype-of
 name-at ls i h e = ap (λ (d : Decl). d .dtype .dt-name) (program-at ls i no-decl h e)
 

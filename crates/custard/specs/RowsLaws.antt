@@ -12,12 +12,8 @@ use lib.Seq.{take-append-le, take-append-add, getD-append-add, take-length}
 use borrow.Author.Tests.{eqb-true, eqb-false, eq-eqb, ltb-true, ltb-false, lt-ltb, le-ltb, leb-true, leb-false, lt-leb, not-true, not-false}
 use Rattle.columns.specs.Column.{pick, _⇒_∥_}
 use Rattle.sheet.specs.Format.{Format, lineBytes}
-<<<<<<< HEAD
-use Rattle.sheet.specs.FirstLaws.{first-congr, first-none, none-first}
-=======
 use Rattle.sheet.specs.FirstLaws.{first-le, first-congr, none-first}
 use Rattle.sheet.specs.LineLaws.{both}
->>>>>>> program
 use Rattle.sheet.specs.Line.{Line, named, row, bad, letter, number, text}
 use Rattle.sheet.specs.Sheet.{first}
 use Rattle.custard.specs.Decl.{TypeInfo, table}
@@ -203,8 +199,6 @@ row3-past : (ls : List Line) (i : ℕ) → length ls ≤ i → row3 ls i ≡ is-
 unfolding row3
 row3-past ls i h = rw (le-ltb i (length ls) h, row3)
 
-<<<<<<< HEAD
-=======
 -- row 3 at line i sees the lines only by what is due after them
 row3-same : (ls ms : List Line) (i : ℕ) → length ls ≡ length ms → due-after (Header 0) (take (suc i) ls) ≡ due-after (Header 0) (take (suc i) ms)
     → due-after (Header 0) ls ≡ due-after (Header 0) ms → row3 ls i ≡ row3 ms i
@@ -218,7 +212,6 @@ row3-same ls ms i n e d = go (ltb i (length ls)) refl
         let h : length ls ≤ i = ltb-false i (length ls) q in
         row3-past ls i h ∙ ap is-within d ∙ sym (row3-past ms i (omega arith))
 
->>>>>>> program
 -- row 3 applies nowhere exactly if the lines end well
 pub row3-ends : (ls : List Line) → ((i : ℕ) → i ≤ length ls → row3 ls i ≡ false) → Ends ls
 unfolding due-after
@@ -624,15 +617,10 @@ due-after-plain q [] = refl
 due-after-plain q (l ∷ ls) = ap (λ (d : Due). due-after d (map plain ls)) (due-plain q l) ∙ due-after-plain (due q l) ls
 
 pub row3-plain : (ls : List Line) (i : ℕ) → row3 (map plain ls) i ≡ row3 ls i
-<<<<<<< HEAD
-unfolding row3
-row3-plain ls i = rw (length-map ls plain, take-map plain (suc i) ls, due-after-plain (Header 0) (take (suc i) ls), due-after-plain (Header 0) ls)
-=======
 row3-plain ls i =
     row3-same (map plain ls) ls i (length-map ls plain)
     (ap (due-after (Header 0)) (take-map plain (suc i) ls) ∙ due-after-plain (Header 0) (take (suc i) ls))
     (due-after-plain (Header 0) ls)
->>>>>>> program
 
 line-plain : (ls : List Line) (i : ℕ) → line-at (map plain ls) i ≡ plain (line-at ls i)
 unfolding plain
@@ -683,8 +671,6 @@ row4-plain f ls i =
       count-plain ctor-line refl refl (take i ls),
       count-plain field-line refl refl (take i ls),
     )
-<<<<<<< HEAD
-=======
 
 -- row 5, letter by letter
 zeros-field : (l : Line) → zeros-from 3 (row field-line (number l 0 ∷ number l 1 ∷ 0 ∷ number l 3 ∷ number l 4 ∷ [])) ≡ zeros-from 3 l
@@ -905,4 +891,3 @@ unfolding row5
 ended-row5 ls h =
     ended-all ls (λ i k. ended-line (count-of name-line ls) (count-of type-line ls) (map (λ a. number a 0) (select arg-line ls)) (count-before name-line ls i) (count-before type-line ls i) (line-at ls i)
     (sym (good-numbers-line ls i) ∙ not-false (good-numbers ls i) (h i k)))
->>>>>>> program
