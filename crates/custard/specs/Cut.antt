@@ -10,12 +10,11 @@ use lib.Dec.{eqb}
 use lib.ListN.{length}
 use Rattle.columns.specs.Column.{pick}
 use Rattle.sheet.specs.Format.{Format, lineBytes}
-use Rattle.sheet.specs.Line.{letter}
 use Rattle.sheet.specs.Sheet.{first, count, lines, row2}
 use Rattle.custard.specs.Decl.{Decl}
 use Rattle.custard.specs.Names.{dtype-names, Declared}
-use Rattle.custard.specs.Program.{local-line, import-line, is-head, program}
-use Rattle.custard.specs.Rows.{raw, raws, row3, row5}
+use Rattle.custard.specs.Program.{is-head, program}
+use Rattle.custard.specs.Rows.{raw, row5}
 use Rattle.custard.specs.Answer.{Answer, answer}
 
 -- ---- the list of builds
@@ -46,22 +45,20 @@ join (u ∷ us) = u ++ join us
 abbrev pub Whole : ℕ → List ℕ → Type 0
 Whole w b = length b % lineBytes w ≡ 0
 
--- declarations from their D lines on, or none
+-- declarations from their D or I lines on, or none
 abbrev pub Declarations : ℕ → List ℕ → Type 0
-Declarations w u = Whole w u × (0 < length u → letter (raw w u 0) ≡ local-line)
+Declarations w u = Whole w u × (0 < length u → is-head (raw w u 0) ≡ true)
 
 -- all names in the types of a program's declarations, at any depth
 unfoldable pub program-names : List Decl → List ℕ
 program-names [] = []
 program-names (d ∷ ds) = dtype-names (d .dtype) ++ program-names ds
 
--- The sheet b of local declarations, whole lines that row 3 passes, is cut into its N, A and Y lines and
--- the units. Each unit names only its own types, those of earlier units and names that the whole declares
--- nowhere. (A line that row 2 or 5 faults names none: nothing is asked of units from such a line on.)
+-- The sheet b is cut into its N, A and Y lines and the units. Each unit names only its own types, those of
+-- earlier units and names that the whole declares nowhere. (A line that row 2 or 5 faults names none:
+-- nothing is asked of units from such a line on.) Nothing else is asked: not that row 3 passes, nor that
+-- the declarations are local.
 pub record Cut (w : ℕ) (b header : List ℕ) (units : List (List ℕ)) : Type 0 where
-  pub whole : Whole w b
-  pub ordered : first (row3 (raws w b)) (suc (count w b)) ≡ suc (count w b)
-  pub local : (i : ℕ) → i < count w b → letter (raw w b i) ≡ import-line → ⊥
   pub joined : b ≡ header ++ join units
   pub header-whole : Whole w header
   pub header-only : (i : ℕ) → i < count w header → is-head (raw w header i) ≡ false

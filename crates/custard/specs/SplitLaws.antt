@@ -11,26 +11,26 @@ use native.Mathlib.Nat.{zero-div, zero-mod}
 use lib.Dec.{eqb, ltb}
 use lib.ListN.{length, getD, length-append, length-map, List·getD-append}
 use borrow.Author.Tests.{ltb-true, ltb-false}
-use Rattle.sheet.specs.Format.{lineBytes}
+use Rattle.sheet.specs.Format.{Format, lineBytes}
 use Rattle.sheet.specs.Line.{Line, bad, isBad, letter, number}
 use Rattle.sheet.specs.Sheet.{first, count, line, linesFrom, lines, row2}
 use Rattle.sheet.specs.FirstLaws.{first-none}
 use Rattle.sheet.specs.SheetLaws.{within-count, length-lines, getD-lines, lines-append}
 use Rattle.custard.specs.Cty.{Cty}
 use Rattle.custard.specs.Decl.{Decl, no-decl, dtype-at, position}
-use Rattle.custard.specs.Program.{local-line, arg-line, type-line, is-head, select, Group, groups, trees, decl-of, program}
+use Rattle.custard.specs.Program.{arg-line, type-line, is-head, select, Group, groups, trees, decl-of, program}
 use Rattle.custard.specs.Rows.{line-at, raw, heads-before, row5, row6}
 use Rattle.custard.specs.Names.{dtype-names, Declared, undeclared, Distinct}
 use Rattle.custard.specs.NamesLaws.{position-le, position-name, position-first, position-append-left, position-append-right, undeclared-of}
-use Rattle.custard.specs.Cut.{join, Whole, Declarations, program-names, Cut}
+use Rattle.custard.specs.Cut.{build, builds, join, Whole, Declarations, program-names, Cut}
 use Rattle.custard.specs.ProgramLaws.{Starts, None, select-append, program-append, groups-append, groups-none, length-program, program-at, HeadAt, head-at, heads-before-program}
 use Rattle.custard.specs.RowsLaws.{Ends, ends-prefix, NoHeader, no-header, row5-prefix}
 use Rattle.custard.specs.AnswerLaws.{Clear}
 use Rattle.custard.specs.PassLaws.{name-at, distinct-program}
 use Rattle.custard.specs.Pinning.{Apart, distinct-undeclared}
 use Rattle.custard.specs.StepLaws.{later, program-parts}
-use Rattle.custard.specs.BuildLaws.{whole-length, whole-append, NoBad, no-bad-left, no-bad-right, no-bad-pass, Split}
-use Rattle.custard.specs.CutLaws.{Splits}
+use Rattle.custard.specs.BuildLaws.{whole-length, whole-append, NoBad, no-bad-left, no-bad-right, no-bad-pass, Split, split-steps}
+use Rattle.custard.specs.CutLaws.{Splits, chain}
 
 -- ---- declared names, by the lines where declarations begin
 pub record HeadNamed (ls : List Line) (n : ℕ) : Type 0 where
@@ -121,8 +121,8 @@ unit-starts w u h nb = go (lines w u) refl
         let c : 0 < count w u = omega (arith, length-lines w u) in
         let p : 0 < length u = omega (arith, within-count w u 0 c) in
         let a : getD (lines w u) 0 bad ≡ l = ap (λ (x : List Line). getD x 0 bad) e in
-        let f : letter l ≡ 68 = ap letter (sym a) ∙ (ap letter (getD-lines w u 0) ∙ (sym (raw-letter w u 0 (ap isBad (sym (getD-lines w u 0)) ∙ nb 0 n)) ∙ h .1 p)) in
-        rw f refl
+        let f : letter l ≡ letter (raw w u 0) = ap letter (sym a) ∙ (ap letter (getD-lines w u 0) ∙ sym (raw-letter w u 0 (ap isBad (sym (getD-lines w u 0)) ∙ nb 0 n))) in
+        ap (λ (x : ℕ). eqb x 68 || eqb x 73) f ∙ h .1 p
 
 starts-append : (a b : List Line) → Starts is-head a → Starts is-head b → Starts is-head (a ++ b)
 starts-append [] b h k = k
@@ -383,3 +383,8 @@ module _ (w : ℕ) (b header : List ℕ) (units : List (List ℕ)) (cut : Cut w 
     starts = join-starts w ys (ys-units xs ys zs e);
     apart = split-apart xs ys zs e;
   }
+
+-- The cut, of any sheet: building the units in turn is building the whole.
+pub cut-builds : (f : Format) (v l : ℕ) (b header u : List ℕ) (us : List (List ℕ)) → 0 < f .columns → Cut (f .columns) b header (u ∷ us) → builds f v l header u us ≡ build f v l b
+cut-builds f v l b header u us pos c =
+    chain f v l (Split (f .columns)) (split-steps f v l pos) us header header u (cut-splits (f .columns) b header (u ∷ us) c) refl ∙ ap (build f v l) (sym (c .joined))
