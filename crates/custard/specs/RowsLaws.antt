@@ -9,14 +9,15 @@ use Prim.Native.Nat.{ℕ, zero, suc, _+_, _*_, _-_, _≤_, _<_}
 use native.Mathlib.Omega.{arith}
 use lib.Dec.{eqb, leb, ltb}
 use lib.ListN.{length, getD, take, drop, length-append, length-map, List·getD-map, List·getD-append, take-append-drop}
-use lib.Seq.{take-append-le, take-append-add, getD-append-add, take-length}
+use lib.Seq.{take-all, take-append-le, take-append-add, getD-append-add, take-length, ext-getD}
 use borrow.Author.Tests.{eqb-true, eqb-false, eq-eqb, ltb-true, ltb-false, lt-ltb, le-ltb, leb-true, leb-false, lt-leb, le-leb, not-true, not-false}
 use Rattle.columns.specs.Column.{pick, _⇒_∥_}
-use Rattle.sheet.specs.Format.{Format, lineBytes}
+use Rattle.sheet.specs.Format.{Format, lineBytes, textBytes}
 use Rattle.sheet.specs.FirstLaws.{first-le, first-congr, none-first}
 use Rattle.sheet.specs.LineLaws.{both}
-use Rattle.sheet.specs.Line.{Line, named, row, bad, letter, number, text}
-use Rattle.sheet.specs.Sheet.{first}
+use Rattle.sheet.specs.Line.{Line, named, row, bad, spelling, proper, lettered, cell, isValue, value, decodeNamed, decodeRow, decode, letter, number, text, isBad}
+use Rattle.sheet.specs.Sheet.{first, lineAt, count, line, lines}
+use Rattle.sheet.specs.SheetLaws.{lineAt-left, lineAt-right, lines-append, length-lines, within-count, getD-lines}
 use Rattle.custard.specs.Cty.{Cty, TUnit}
 use Rattle.custard.specs.Decl.{
   Field,
@@ -91,6 +92,8 @@ use Rattle.custard.specs.Rows.{
   due-after,
   is-broken,
   is-within,
+  raw,
+  raws,
   row3,
   params-after,
   row4,
@@ -133,6 +136,8 @@ use Rattle.custard.specs.ProgramLaws.{
   or-false,
   heads,
   length-groups,
+  length-table,
+  getD-table,
   five,
   plain,
   Kind,
@@ -1424,3 +1429,151 @@ row7-cut ls qs tis s w t h i = go (ltb i (length ls)) refl
         ap (row7 (verdict-lines ls tis ++ qs)) (omega (arith, n))
         ∙ row7-rest (verdict-lines ls tis) ls qs (i - length ls) s
         ∙ ap (row7 (ls ++ qs)) (omega arith)
+
+-- ---- row 3 of the bytes
+-- a line's letter and numbers, by its bytes
+raw-line : ℕ → List ℕ → Line
+raw-line w l = row (getD l 0 0) (table (λ k. value (cell w l k)) 5)
+
+raw-is : (w : ℕ) (b : List ℕ) (i : ℕ) → raw w b i ≡ raw-line w (lineAt w b i)
+unfolding raw raw-line
+raw-is w b i = refl
+
+-- what a line that is not bad has in common with its letter and numbers
+pub record Rawly (k l : Line) : Type 0 where
+  pub letters : letter k ≡ letter l
+  pub first-number : number k 0 ≡ number l 0
+  pub lines : is name-line l ≡ false → k ≡ l
+
+raw-named : (w : ℕ) (b : List ℕ) → getD b 0 0 ≡ 78 → isBad (decodeNamed w b) ≡ false → Rawly (raw-line w b) (decodeNamed w b)
+unfolding raw-line table decodeNamed
+raw-named w b e n = go (isValue (cell w b 0) && proper (take (textBytes w) (drop (1 + w) b))) n
+  where
+    go : (c : Bool) → isBad (pick c (named (value (cell w b 0)) (spelling (take (textBytes w) (drop (1 + w) b)))) bad) ≡ false
+        → Rawly (raw-line w b) (pick c (named (value (cell w b 0)) (spelling (take (textBytes w) (drop (1 + w) b)))) bad)
+    go true k = record { letters = e; first-number = refl; lines = λ q. false-true (sym q) }
+    go false k = false-true (sym k)
+
+raw-row : (w : ℕ) (b : List ℕ) → isBad (decodeRow w b) ≡ false → Rawly (raw-line w b) (decodeRow w b)
+unfolding raw-line table decodeRow
+raw-row w b n = go (isValue (cell w b 0) && isValue (cell w b 1) && isValue (cell w b 2) && isValue (cell w b 3) && isValue (cell w b 4)) n
+  where
+    r : Line
+    r = row (getD b 0 0) (value (cell w b 0) ∷ value (cell w b 1) ∷ value (cell w b 2) ∷ value (cell w b 3) ∷ value (cell w b 4) ∷ [])
+
+    go : (c : Bool) → isBad (pick c r bad) ≡ false → Rawly (raw-line w b) (pick c r bad)
+    go true k = record { letters = refl; first-number = refl; lines = λ q. refl }
+    go false k = false-true (sym k)
+
+raw-decode : (w : ℕ) (b : List ℕ) → isBad (decode w b) ≡ false → Rawly (raw-line w b) (decode w b)
+unfolding decode
+raw-decode w b n = go (eqb (getD b (5 * w + 1) 0) 10) (eqb (getD b 0 0) 78) (lettered (getD b 0 0)) refl n
+  where
+    go : (x y z : Bool) → eqb (getD b 0 0) 78 ≡ y
+        → isBad (pick x (pick y (decodeNamed w b) (pick z (decodeRow w b) bad)) bad) ≡ false
+        → Rawly (raw-line w b) (pick x (pick y (decodeNamed w b) (pick z (decodeRow w b) bad)) bad)
+    go true true z e k = raw-named w b (eqb-true (getD b 0 0) 78 e) k
+    go true false true e k = raw-row w b k
+    go true false false e k = false-true (sym k)
+    go false y z e k = false-true (sym k)
+
+-- of a line that is not bad, letter and first number are the raw ones, and all of it unless it is an N line
+pub raw-rawly : (w : ℕ) (b : List ℕ) (i : ℕ) → isBad (line w b i) ≡ false → Rawly (raw w b i) (line w b i)
+unfolding line
+raw-rawly w b i n = rw (raw-is w b i) (raw-decode w (lineAt w b i) n)
+
+due-name : (q : Due) (k l : Line) → letter k ≡ 78 → letter l ≡ 78 → due q k ≡ due q l
+unfolding due due-header
+due-name (Header place) k l e h = rw (e, h)
+due-name (Within (suc p) f c) k l e h = rw (e, h)
+due-name (Within zero (suc f) c) k l e h = rw (e, h)
+due-name (Within zero zero (suc c)) k l e h = rw (e, h)
+due-name (Within zero zero zero) k l e h = rw (e, h)
+due-name Broken k l e h = refl
+
+due-rawly : (q : Due) (k l : Line) → Rawly k l → due q k ≡ due q l
+due-rawly q k l r = go (is name-line l) refl
+  where
+    go : (c : Bool) → is name-line l ≡ c → due q k ≡ due q l
+    go true e = due-name q k l (r .letters ∙ eqb-true (letter l) 78 e) (eqb-true (letter l) 78 e)
+    go false e = ap (due q) (r .lines e)
+
+-- lines that are taken alike, one by one
+due-take-same : (n : ℕ) (xs ys : List Line) → length xs ≡ length ys → ((i : ℕ) → i < length xs → (q : Due) → due q (line-at xs i) ≡ due q (line-at ys i))
+    → (q : Due) → due-after q (take n xs) ≡ due-after q (take n ys)
+unfolding due-after
+due-take-same zero xs ys e h q = refl
+due-take-same (suc n) [] [] e h q = refl
+due-take-same (suc n) [] (y ∷ ys) e h q = absurd (omega arith)
+due-take-same (suc n) (x ∷ xs) [] e h q = absurd (omega arith)
+due-take-same (suc n) (x ∷ xs) (y ∷ ys) e h q =
+    ap (λ (d : Due). due-after d (take n xs)) (h 0 (omega arith) q)
+    ∙ due-take-same n xs ys (omega arith) (λ i k. h (suc i) (omega arith)) (due q y)
+
+length-raws : (w : ℕ) (b : List ℕ) → length (raws w b) ≡ count w b
+unfolding raws
+length-raws w b = length-table (raw w b) (count w b)
+
+line-raws : (w : ℕ) (b : List ℕ) (i : ℕ) → i < count w b → line-at (raws w b) i ≡ raw w b i
+unfolding raws
+line-raws w b i h = getD-table (raw w b) (count w b) i bad h
+
+-- Where row 2 passes, row 3 sees the same in the raw lines and in the lines.
+pub row3-raws : (w : ℕ) (b : List ℕ) → ((i : ℕ) → i < count w b → isBad (line w b i) ≡ false) → (i : ℕ) → row3 (raws w b) i ≡ row3 (lines w b) i
+row3-raws w b h i =
+    row3-same (raws w b) (lines w b) i n (s (suc i) (Header 0))
+    (ap (due-after (Header 0)) (sym (take-all (count w b) (raws w b) (omega (arith, length-raws w b))))
+    ∙ s (count w b) (Header 0)
+    ∙ ap (due-after (Header 0)) (take-all (count w b) (lines w b) (omega (arith, length-lines w b))))
+  where
+    n : length (raws w b) ≡ length (lines w b)
+    n = length-raws w b ∙ sym (length-lines w b)
+
+    s : (m : ℕ) (q : Due) → due-after q (take m (raws w b)) ≡ due-after q (take m (lines w b))
+    s m = due-take-same m (raws w b) (lines w b) n (λ j k q.
+        let c : j < count w b = omega (arith, length-raws w b) in
+        ap (due q) (line-raws w b j c) ∙ due-rawly q (raw w b j) (line w b j) (raw-rawly w b j (h j c)) ∙ ap (due q) (sym (getD-lines w b j)))
+
+-- ---- raw lines of an append
+-- a run of whole lines
+pub count-append : (w : ℕ) (b c : List ℕ) → length b ≡ lineBytes w * count w b → count w (b ++ c) ≡ count w b + count w c
+count-append w b c h =
+    sym (length-lines w (b ++ c))
+    ∙ ap length (lines-append w (count w b) b c h)
+    ∙ length-append (lines w b) (lines w c)
+    ∙ ap₂ (λ (m n : ℕ). m + n) (length-lines w b) (length-lines w c)
+
+raw-left : (w : ℕ) (b c : List ℕ) (i : ℕ) → i < count w b → raw w (b ++ c) i ≡ raw w b i
+raw-left w b c i h = raw-is w (b ++ c) i ∙ ap (raw-line w) (lineAt-left w b c i (within-count w b i h)) ∙ sym (raw-is w b i)
+
+raw-right : (w : ℕ) (b c : List ℕ) (i : ℕ) → length b ≡ lineBytes w * count w b → raw w (b ++ c) (count w b + i) ≡ raw w c i
+raw-right w b c i h = raw-is w (b ++ c) (count w b + i) ∙ ap (raw-line w) (lineAt-right w b c (count w b) i h) ∙ sym (raw-is w c i)
+
+pub raws-append : (w : ℕ) (b c : List ℕ) → length b ≡ lineBytes w * count w b → raws w (b ++ c) ≡ raws w b ++ raws w c
+raws-append w b c h =
+    ext-getD bad (raws w (b ++ c)) (raws w b ++ raws w c)
+    (length-raws w (b ++ c) ∙ n ∙ sym (length-append (raws w b) (raws w c) ∙ ap₂ (λ (x y : ℕ). x + y) (length-raws w b) (length-raws w c)))
+    (λ i k. go i (ltb i (count w b)) refl (omega (arith, length-raws w (b ++ c))))
+  where
+    n : count w (b ++ c) ≡ count w b + count w c
+    n = count-append w b c h
+
+    right : (j : ℕ) → j < count w c → line-at (raws w (b ++ c)) (count w b + j) ≡ line-at (raws w b ++ raws w c) (count w b + j)
+    right j k =
+        line-raws w (b ++ c) (count w b + j) (omega (arith, n))
+        ∙ raw-right w b c j h
+        ∙ sym (line-raws w c j k)
+        ∙ sym (getD-append-add (raws w b) (raws w c) j bad)
+        ∙ ap (λ (x : ℕ). line-at (raws w b ++ raws w c) (x + j)) (length-raws w b)
+
+    go : (i : ℕ) (t : Bool) → ltb i (count w b) ≡ t → i < count w (b ++ c) → line-at (raws w (b ++ c)) i ≡ line-at (raws w b ++ raws w c) i
+    go i true e k =
+        let l : i < count w b = ltb-true i (count w b) e in
+        line-raws w (b ++ c) i k
+        ∙ raw-left w b c i l
+        ∙ sym (line-raws w b i l)
+        ∙ sym (List·getD-append (raws w b) (raws w c) bad i (omega (arith, length-raws w b)))
+    go i false e k =
+        let l : count w b ≤ i = ltb-false i (count w b) e in
+        let q : i ≡ count w b + (i - count w b) = omega arith in
+        rw q (right (i - count w b) (omega (arith, n)))
