@@ -258,6 +258,10 @@ pub trees-append : (a qs : List Line) → select arg-line qs ≡ [] → select t
 unfolding trees
 trees-append a qs h k = rw (select-append arg-line a qs, select-append type-line a qs, h, k, append-nil, append-nil)
 
+pub program-groups : (ls : List Line) → program ls ≡ map (decl-of (trees ls)) (groups is-head ls)
+unfolding program
+program-groups ls = refl
+
 program-by : (ls : List Line) (ts : List Cty) (gs : List Group) → trees ls ≡ ts → groups is-head ls ≡ gs → program ls ≡ map (decl-of ts) gs
 unfolding program
 program-by ls ts gs e k = rw (e, k)
@@ -963,6 +967,7 @@ pub record Whole (g : Group) : Type 0 where
   pub ends : g .rest ≡ body ++ (last ∷ [])
   pub before-last : None (is verdict-line) body
   pub is-last : is verdict-line last ≡ true
+  pub kinds : number (g .head) 2 ≤ 3
   pub params : count-of param-line (g .rest) ≡ number (g .head) 3
   pub bare : number (g .head) 2 ≤ 1 → (count-of field-line (g .rest) ≡ 0) × (count-of ctor-line (g .rest) ≡ 0)
   pub fields : number (g .head) 2 ≡ 2 → (count-of field-line (g .rest) ≡ number (g .head) 4) × (count-of ctor-line (g .rest) ≡ 0)
@@ -1018,7 +1023,7 @@ concat (bs ∷ bss) = bs ++ concat bss
 abbrev pub slots-of : (ℕ → Bool) → List Ctor → List (List Bool)
 slots-of er cs = map (λ c. slots er (c .ct-fields)) cs
 
-all-slots-concat : (er : ℕ → Bool) (cs : List Ctor) → all-slots (map (λ c. ctor-layout c (slots er (c .ct-fields))) cs) ≡ concat (slots-of er cs)
+pub all-slots-concat : (er : ℕ → Bool) (cs : List Ctor) → all-slots (map (λ c. ctor-layout c (slots er (c .ct-fields))) cs) ≡ concat (slots-of er cs)
 unfolding all-slots concat ctor-layout
 all-slots-concat er [] = refl
 all-slots-concat er (c ∷ cs) = ap (λ (r : List Bool). slots er (c .ct-fields) ++ r) (all-slots-concat er cs)
@@ -1086,7 +1091,7 @@ keeps-groups-verdict ti ls =
     (map-groups (is ctor-line) (λ (g : Group). keeps (map (tell ti) (g .rest))) (λ (g : Group). keeps (g .rest))
     (λ g k. ap keeps (sym (fill-verdict-map ti (g .rest))) ∙ keeps-fill-verdict ti (g .rest)) (groups (is ctor-line) ls) (grouped (is ctor-line) ls))
 
-length-slots : (er : ℕ → Bool) (ps : List ℕ) (ts : List Cty) (ls : List Line)
+pub length-slots : (er : ℕ → Bool) (ps : List ℕ) (ts : List Cty) (ls : List Line)
     → length (slots er (map (close-field ps) (map (field-of ts) (select field-line ls)))) ≡ count-of field-line ls
 unfolding slots
 length-slots er ps ts ls =
@@ -1099,15 +1104,16 @@ keeps-record : (ti : TypeInfo) (bs : List Bool) (ls : List Line) → length bs �
     → keeps (fill-verdict ti (fill-keeps (bs ++ []) ls)) ≡ bs
 keeps-record ti bs ls h = keeps-fill-verdict ti (fill-keeps (bs ++ []) ls) ∙ rw (append-nil bs) (keeps-fill-keeps bs ls h)
 
+-- a constructor, its fields closed
+abbrev pub close-ctor : List ℕ → Ctor → Ctor
+close-ctor ps c = record { ct-name = c .ct-name; ct-fields = map (close-field ps) (c .ct-fields) }
+
+pub counts-variant : (er : ℕ → Bool) (ps : List ℕ) (ts : List Cty) (gs : List Group) → Counts (slots-of er (map (close-ctor ps) (map (ctor-of ts) gs))) gs
+unfolding ctor-of
+counts-variant er ps ts [] = tt
+counts-variant er ps ts (g ∷ gs) = (length-slots er ps ts (g .rest), counts-variant er ps ts gs)
+
 module _ (ti : TypeInfo) (er : ℕ → Bool) (ps : List ℕ) (ts : List Cty) where
-  abbrev close-ctor : Ctor → Ctor
-  close-ctor c = record { ct-name = c .ct-name; ct-fields = map (close-field ps) (c .ct-fields) }
-
-  counts-variant : (gs : List Group) → Counts (slots-of er (map close-ctor (map (ctor-of ts) gs))) gs
-  unfolding ctor-of
-  counts-variant [] = tt
-  counts-variant (g ∷ gs) = (length-slots er ps ts (g .rest), counts-variant gs)
-
   -- the keeps that the verdict puts in are read back
   pub keeps-body : (n kind last : ℕ) (ls : List Line) → (kind ≡ 3 → select field-line (before (is ctor-line) ls) ≡ [])
       → keeps-of (close-body ps (body-of ts kind last ls)) (fill-verdict ti (fill-keeps (concat (slots-of er (ctors-of n (close-body ps (body-of ts kind last ls))))) ls))
@@ -1124,8 +1130,8 @@ module _ (ti : TypeInfo) (er : ℕ → Bool) (ps : List ℕ) (ts : List Cty) whe
       go true b c k = refl
       go false true c k = ap (λ (bs : List Bool). bs ∷ []) (keeps-record ti (slots er (map (close-field ps) (map (field-of ts) (select field-line ls)))) ls (length-slots er ps ts ls))
       go false false true k =
-          let bss : List (List Bool) = slots-of er (map close-ctor (map (ctor-of ts) (groups (is ctor-line) ls))) in
-          keeps-groups-verdict ti (fill-keeps (concat bss) ls) ∙ keeps-variant bss ls (k refl) (counts-variant (groups (is ctor-line) ls))
+          let bss : List (List Bool) = slots-of er (map (close-ctor ps) (map (ctor-of ts) (groups (is ctor-line) ls))) in
+          keeps-groups-verdict ti (fill-keeps (concat bss) ls) ∙ keeps-variant bss ls (k refl) (counts-variant er ps ts (groups (is ctor-line) ls))
       go false false false k = refl
 
 bit-eq : (b : Bool) → eqb (bit b) 1 ≡ b

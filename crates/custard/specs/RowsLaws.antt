@@ -4,19 +4,53 @@ use mathlib.Core.Logic.{_⊎_, inl, inr, ⊎-elim}
 use mathlib.Core.Path.{_≡_, refl, ap, ap₂, sym, _∙_}
 use mathlib.Core.List.{List, [], _∷_, _++_, map, append-assoc, append-nil, map-append}
 use mathlib.Core.Bool.{Bool, true, false, _&&_, _||_, not}
+use mathlib.Core.Option.{Option, none, some}
 use Prim.Native.Nat.{ℕ, zero, suc, _+_, _*_, _-_, _≤_, _<_}
 use native.Mathlib.Omega.{arith}
 use lib.Dec.{eqb, leb, ltb}
 use lib.ListN.{length, getD, take, drop, length-append, length-map, List·getD-map, List·getD-append, take-append-drop}
-use lib.Seq.{take-append-le, take-append-add, getD-append-add, take-length}
-use borrow.Author.Tests.{eqb-true, eqb-false, eq-eqb, ltb-true, ltb-false, lt-ltb, le-ltb, leb-true, leb-false, lt-leb, not-true, not-false}
+use lib.Seq.{take-all, take-append-le, take-append-add, getD-append-add, take-length, ext-getD}
+use borrow.Author.Tests.{eqb-true, eqb-false, eq-eqb, ltb-true, ltb-false, lt-ltb, le-ltb, leb-true, leb-false, lt-leb, le-leb, not-true, not-false}
 use Rattle.columns.specs.Column.{pick, _⇒_∥_}
-use Rattle.sheet.specs.Format.{Format, lineBytes}
+use Rattle.sheet.specs.Format.{Format, lineBytes, textBytes}
 use Rattle.sheet.specs.FirstLaws.{first-le, first-congr, none-first}
 use Rattle.sheet.specs.LineLaws.{both}
-use Rattle.sheet.specs.Line.{Line, named, row, bad, letter, number, text}
-use Rattle.sheet.specs.Sheet.{first}
-use Rattle.custard.specs.Decl.{TypeInfo, table}
+use Rattle.sheet.specs.Line.{Line, named, row, bad, spelling, proper, lettered, cell, isValue, value, decodeNamed, decodeRow, decode, letter, number, text, isBad}
+use Rattle.sheet.specs.Sheet.{first, lineAt, count, line, lines}
+use Rattle.sheet.specs.SheetLaws.{lineAt-left, lineAt-right, lines-append, length-lines, within-count, getD-lines}
+use Rattle.custard.specs.Cty.{Cty, TUnit}
+use Rattle.custard.specs.Decl.{
+  Field,
+  Ctor,
+  Body,
+  TAbstract,
+  TAbbrev,
+  TRecord,
+  TVariant,
+  Dtype,
+  ctors-of,
+  ctors-of-tydef,
+  CtorLayout,
+  NewtypeLayout,
+  Layout,
+  L-erased,
+  L-newtype,
+  L-struct,
+  L-abbrev,
+  L-opaque,
+  layout-number,
+  TypeInfo,
+  Origin,
+  here,
+  imported,
+  Decl,
+  table,
+  close-field,
+  close-body,
+  close-fields,
+}
+use Rattle.custard.specs.Erasure.{cty-erased}
+use Rattle.custard.specs.Layout.{slots, kept, ctor-layout, ctor-layouts, newtype-of-ctor, newtype-of}
 use Rattle.custard.specs.declared.Due.{Due}
 use Rattle.custard.specs.declared.Due.the-variants.{Header, Within, Broken}
 use Rattle.custard.specs.Program.{
@@ -35,8 +69,17 @@ use Rattle.custard.specs.Program.{
   before,
   Group,
   groups,
+  trees,
+  field-of,
+  ctor-of,
+  body-of,
+  dtype-of,
+  info-of,
+  verdict-of,
+  decl-of,
+  program,
 }
-use Rattle.custard.specs.Output.{verdict-lines}
+use Rattle.custard.specs.Output.{bit, fill-keeps, fill-verdict, all-slots, verdict-lines}
 use Rattle.custard.specs.Rows.{
   some-below,
   line-at,
@@ -49,6 +92,8 @@ use Rattle.custard.specs.Rows.{
   due-after,
   is-broken,
   is-within,
+  raw,
+  raws,
   row3,
   params-after,
   row4,
@@ -75,9 +120,12 @@ use Rattle.custard.specs.ProgramLaws.{
   false-true,
   contrary,
   None,
+  none-left,
   Starts,
   select-append,
   select-none,
+  select-yes,
+  select-no,
   none-select,
   before-append,
   before-none,
@@ -88,6 +136,8 @@ use Rattle.custard.specs.ProgramLaws.{
   or-false,
   heads,
   length-groups,
+  length-table,
+  getD-table,
   five,
   plain,
   Kind,
@@ -107,10 +157,55 @@ use Rattle.custard.specs.ProgramLaws.{
   Ended,
   AllEnded,
   plain-verdict-lines,
+  Filling,
+  done,
+  keep,
+  pass,
+  past,
+  filling,
+  kept-line,
+  fill-rest,
+  told-line,
+  tell,
+  fill-verdict-map,
+  none-fill-keeps,
+  fill-keeps-other,
+  Suits,
+  has-ctors,
+  Coherent,
+  concat,
+  slots-of,
+  all-slots-concat,
+  Told,
+  AllTold,
+  told-groups,
+  filled,
+  fills,
+  filled-import,
+  filled-local,
+  verdict-lines-flat,
+  length-verdict-lines,
+  program-groups,
+  Counts,
+  close-ctor,
+  counts-variant,
+  length-slots,
+  Grouped,
+  AllGrouped,
+  grouped,
+  flat,
+  before-flat,
   AllCounted,
   Whole,
   AllWhole,
 }
+
+none-some : {A B : Type 0} (a : A) → _≡_ {A = Option A} none (some a) → B
+none-some a e = let z : _≡_ {A = ℕ} 0 1 = cc in absurd (omega arith)
+
+length-slot : (er : ℕ → Bool) (fs : List Field) → length (slots er fs) ≡ length fs
+unfolding slots
+length-slot er fs = length-map fs (λ f. not (cty-erased er (f .fd-type)))
 
 length-nil : (ls : List Line) → length ls ≡ 0 → ls ≡ []
 length-nil [] h = refl
@@ -515,6 +610,7 @@ whole-head l ls h = go (leb (number l 2) 1) (eqb (number l 2) 2) (eqb (number l 
           ends = w .ends;
           before-last = w .before-last;
           is-last = w .is-last;
+          kinds = omega arith;
           params = w .params;
           bare = λ _. (rw (no-ctors r (w .ctors)) at (w .fields), w .ctors);
           fields = λ q. absurd (omega arith);
@@ -532,6 +628,7 @@ whole-head l ls h = go (leb (number l 2) 1) (eqb (number l 2) 2) (eqb (number l 
           ends = w .ends;
           before-last = w .before-last;
           is-last = w .is-last;
+          kinds = omega arith;
           params = w .params;
           bare = λ q. absurd (omega arith);
           fields = λ _. (rw (no-ctors r (w .ctors)) at (w .fields), w .ctors);
@@ -549,6 +646,7 @@ whole-head l ls h = go (leb (number l 2) 1) (eqb (number l 2) 2) (eqb (number l 
           ends = w .ends;
           before-last = w .before-last;
           is-last = w .is-last;
+          kinds = omega arith;
           params = w .params;
           bare = λ q. absurd (omega arith);
           fields = λ q. absurd (omega arith);
@@ -891,3 +989,591 @@ unfolding row5
 ended-row5 ls h =
     ended-all ls (λ i k. ended-line (count-of name-line ls) (count-of type-line ls) (map (λ a. number a 0) (select arg-line ls)) (count-before name-line ls i) (count-before type-line ls i) (line-at ls i)
     (sym (good-numbers-line ls i) ∙ not-false (good-numbers ls i) (h i k)))
+
+-- ---- row 7, line by line
+-- line l as row 7 has it, in the declaration that line h begins, with n kept fields before it
+good-at : Line → ℕ → Line → Bool
+good-at h n l =
+    is field-line l ⇒ leb (number l 2) (pick (is import-line h) 1 0) ∥
+    is verdict-line l && is import-line h ⇒ good-verdict h n l ∥
+    is verdict-line l ⇒ eqb (number l 0) 0 && eqb (number l 1) 0 && eqb (number l 2) 0 ∥
+    true
+
+good-verdicts-at : (ls : List Line) (i : ℕ) → good-verdicts ls i ≡ good-at (head-of ls i) (kept-after 0 (take i ls)) (line-at ls i)
+unfolding good-verdicts good-at
+good-verdicts-at ls i = refl
+
+abbrev next-head : Line → Line → Line
+next-head h l = pick (is-head l) l h
+
+abbrev more : ℕ → Line → ℕ
+more n l = pick (is field-line l && not (eqb (number l 2) 0)) (suc n) n
+
+abbrev next-kept : ℕ → Line → ℕ
+next-kept n l = pick (is-head l) 0 (more n l)
+
+-- all lines are so, from such a state on
+abbrev Goods : Line → ℕ → List Line → Type 0
+Goods h n [] = Unit {0}
+Goods h n (l ∷ ls) = (good-at (next-head h l) n l ≡ true) × Goods (next-head h l) (next-kept n l) ls
+
+goods-at : (h : Line) (n : ℕ) (ls : List Line) → Goods h n ls → (i : ℕ) → i < length ls
+    → good-at (last-head h (take (suc i) ls)) (kept-after n (take i ls)) (line-at ls i) ≡ true
+unfolding last-head kept-after
+goods-at h n [] g i k = absurd (omega arith)
+goods-at h n (l ∷ ls) g zero k = g .0
+goods-at h n (l ∷ ls) g (suc i) k = goods-at (next-head h l) (next-kept n l) ls (g .1) i (omega arith)
+
+at-goods : (h : Line) (n : ℕ) (ls : List Line)
+    → ((i : ℕ) → i < length ls → good-at (last-head h (take (suc i) ls)) (kept-after n (take i ls)) (line-at ls i) ≡ true) → Goods h n ls
+unfolding last-head kept-after
+at-goods h n [] g = tt
+at-goods h n (l ∷ ls) g = (g 0 (omega arith), at-goods (next-head h l) (next-kept n l) ls (λ i k. g (suc i) (omega arith)))
+
+row7-goods : (ls : List Line) → ((i : ℕ) → i < length ls → row7 ls i ≡ false) → Goods bad 0 ls
+unfolding row7
+row7-goods ls h = at-goods bad 0 ls (λ i k. sym (good-verdicts-at ls i) ∙ not-false (good-verdicts ls i) (h i k))
+
+goods-row7 : (ls : List Line) → Goods bad 0 ls → (i : ℕ) → i < length ls → row7 ls i ≡ false
+unfolding row7
+goods-row7 ls g i k = ap not (good-verdicts-at ls i ∙ goods-at bad 0 ls g i k)
+
+goods-left : (h : Line) (n : ℕ) (a b : List Line) → Goods h n (a ++ b) → Goods h n a
+goods-left h n [] b g = tt
+goods-left h n (l ∷ a) b g = (g .0, goods-left (next-head h l) (next-kept n l) a b (g .1))
+
+goods-right : (h : Line) (n : ℕ) (a b : List Line) → Goods h n (a ++ b) → Goods (last-head h a) (kept-after n a) b
+unfolding last-head kept-after
+goods-right h n [] b g = g
+goods-right h n (l ∷ a) b g = goods-right (next-head h l) (next-kept n l) a b (g .1)
+
+goods-append : (h : Line) (n : ℕ) (a b : List Line) → Goods h n a → Goods (last-head h a) (kept-after n a) b → Goods h n (a ++ b)
+unfolding last-head kept-after
+goods-append h n [] b g k = k
+goods-append h n (l ∷ a) b g k = (g .0, goods-append (next-head h l) (next-kept n l) a b (g .1) k)
+
+good-at-bad : (h k : Line) (m n : ℕ) → good-at h m bad ≡ good-at k n bad
+unfolding good-at
+good-at-bad h k m n = refl
+
+-- a line that begins a declaration
+good-at-head : (h : Line) (n : ℕ) (l : Line) → is-head l ≡ true → good-at h n l ≡ true
+unfolding good-at
+good-at-head h n l e = ⊎-elim (λ k. rw k) (λ k. rw k) (head-cases l e)
+
+-- ---- the lines that a verdict fills
+good-kept : (k : Line) (n : ℕ) (b : Bool) (l : Line) → is import-line k ≡ true → good-at k n (kept-line b l) ≡ true
+unfolding good-at
+good-kept k n true l q = rw q
+good-kept k n false l q = rw q
+
+-- what a D line allows, an I line allows
+good-widen : (h k : Line) (m n : ℕ) (l : Line) → is import-line h ≡ false → is import-line k ≡ true → is verdict-line l ≡ false → good-at h m l ≡ true → good-at k n l ≡ true
+unfolding good-at
+good-widen h k m n l p q v g = rw (q, v) (go (is field-line l) (rw (p, v) at g))
+  where
+    go : (c : Bool) → pick c (leb (number l 2) 0) true ≡ true → pick c (leb (number l 2) 1) true ≡ true
+    go true e = le-leb (number l 2) 1 (omega (arith, leb-true (number l 2) 0 e))
+    go false e = refl
+
+-- F lines with their keeps, after an I line
+goods-filling : (h k : Line) (m n : ℕ) {bs : List Bool} {ls r : List Line} → is import-line h ≡ false → is import-line k ≡ true
+    → Filling bs ls r → None is-head ls → None (is verdict-line) ls → Goods h m ls → Goods k n r
+goods-filling h k m n p q done a b g = tt
+goods-filling h k m n p q (keep {b = c} {l = l} e f) a b g =
+    (good-kept k n c l q, goods-filling h k (more m l) (more n (kept-line c l)) p q f (a .1) (b .1) (rw (a .0) at (g .1)))
+goods-filling h k m n p q (pass {l = l} e f) a b g =
+    rw (a .0) (good-widen h k m n l p q (b .0) (rw (a .0) at (g .0)), goods-filling h k (more m l) (more n l) p q f (a .1) (b .1) (rw (a .0) at (g .1)))
+goods-filling h k m n p q (past {l = l} f) a b g =
+    rw (a .0) (good-widen h k m n l p q (b .0) (rw (a .0) at (g .0)), goods-filling h k (more m l) (more n l) p q f (a .1) (b .1) (rw (a .0) at (g .1)))
+
+-- how many there are of true
+unfoldable pub trues : List Bool → ℕ
+trues [] = 0
+trues (true ∷ bs) = suc (trues bs)
+trues (false ∷ bs) = trues bs
+
+-- the kept fields, counted
+kept-filling : (n : ℕ) {bs : List Bool} {ls r : List Line} → Filling bs ls r → None is-head ls → length bs ≡ count-of field-line ls → kept-after n r ≡ n + trues bs
+unfolding kept-after trues
+kept-filling n {bs = []} done a c = omega arith
+kept-filling n {bs = b ∷ bs} done a c = absurd (omega (arith, ap length (select-none field-line [] tt)))
+kept-filling n (keep {b = true} {bs = bs} {l = l} {ls = ls} e f) a c =
+    omega (arith, kept-filling (suc n) f (a .1) (omega (arith, ap length (select-yes field-line l ls e))))
+kept-filling n (keep {b = false} {bs = bs} {l = l} {ls = ls} e f) a c = kept-filling n f (a .1) (omega (arith, ap length (select-yes field-line l ls e)))
+kept-filling n (pass {l = l} {ls = ls} e f) a c = rw (a .0, e) (kept-filling n f (a .1) (c ∙ ap length (select-no field-line l ls e)))
+kept-filling n (past {l = l} {ls = ls} {r = r} f) a c = go (is field-line l) refl (λ k. kept-filling n f (a .1) k)
+  where
+    go : (t : Bool) → is field-line l ≡ t → (0 ≡ count-of field-line ls → kept-after n r ≡ n + 0) → kept-after n (l ∷ r) ≡ n + 0
+    go true e ih = absurd (omega (arith, ap length (select-yes field-line l ls e)))
+    go false e ih = rw (a .0, e) (ih (c ∙ ap length (select-no field-line l ls e)))
+
+fill-keeps-last : (bs : List Bool) (xs : List Line) (v : Line) → is field-line v ≡ false → fill-keeps bs (xs ++ (v ∷ [])) ≡ fill-keeps bs xs ++ (v ∷ [])
+unfolding fill-keeps
+fill-keeps-last bs [] v e = fill-keeps-other bs v [] e
+fill-keeps-last [] (x ∷ xs) v e = ap (λ (r : List Line). x ∷ r) (fill-keeps-last [] xs v e)
+fill-keeps-last (b ∷ bs) (x ∷ xs) v e = go (is field-line x) (fill-keeps-last bs xs v e) (fill-keeps-last (b ∷ bs) xs v e)
+  where
+    go : (c : Bool) → fill-keeps bs (xs ++ (v ∷ [])) ≡ fill-keeps bs xs ++ (v ∷ []) → fill-keeps (b ∷ bs) (xs ++ (v ∷ [])) ≡ fill-keeps (b ∷ bs) xs ++ (v ∷ [])
+        → elim c [ true ↦ kept-line b x ∷ fill-keeps bs (xs ++ (v ∷ [])) | false ↦ x ∷ fill-keeps (b ∷ bs) (xs ++ (v ∷ [])) ]
+        ≡ elim c [ true ↦ kept-line b x ∷ fill-keeps bs xs | false ↦ x ∷ fill-keeps (b ∷ bs) xs ] ++ (v ∷ [])
+    go true h k = ap (λ (r : List Line). kept-line b x ∷ r) h
+    go false h k = ap (λ (r : List Line). x ∷ r) k
+
+tell-none : (ti : TypeInfo) (ls : List Line) → None (is verdict-line) ls → map (tell ti) ls ≡ ls
+tell-none ti [] n = refl
+tell-none ti (l ∷ ls) n = rw (n .0) (ap (λ (r : List Line). l ∷ r) (tell-none ti ls (n .1)))
+
+tell-verdict : (ti : TypeInfo) (l : Line) → is verdict-line l ≡ true → tell ti l ≡ told-line ti
+tell-verdict ti l e = rw e
+
+-- the lines that a verdict fills: those before the V line with their keeps, and the V line
+fill-rest-ends : (ti : TypeInfo) (body : List Line) (v : Line) → None (is verdict-line) body → is verdict-line v ≡ true
+    → fill-rest ti (body ++ (v ∷ [])) ≡ fill-keeps (all-slots (ti .ti-ctors)) body ++ (told-line ti ∷ [])
+fill-rest-ends ti body v n e =
+    let bs : List Bool = all-slots (ti .ti-ctors) in
+    let xs : List Line = fill-keeps bs body in
+    ap (fill-verdict ti) (fill-keeps-last bs body v (rw (eqb-true (letter v) 86 e)))
+    ∙ fill-verdict-map ti (xs ++ (v ∷ []))
+    ∙ map-append (tell ti) xs (v ∷ [])
+    ∙ ap₂ (λ (a : List Line) (l : Line). a ++ (l ∷ [])) (tell-none ti xs (none-fill-keeps (is verdict-line) (λ b l. refl) bs body n)) (tell-verdict ti v e)
+
+-- ---- a verdict on its own lines
+-- kept fields are as many as true slots
+length-kept : (bs : List Bool) (fs : List Field) → length bs ≡ length fs → length (kept bs fs) ≡ trues bs
+unfolding kept trues
+length-kept [] [] e = refl
+length-kept [] (f ∷ fs) e = refl
+length-kept (b ∷ bs) [] e = absurd (omega arith)
+length-kept (true ∷ bs) (f ∷ fs) e = ap suc (length-kept bs fs (omega arith))
+length-kept (false ∷ bs) (f ∷ fs) e = length-kept bs fs (omega arith)
+
+one-field : (n : ℕ) (bs : List Bool) (fs : List Field) (l : Layout) → newtype-of-ctor n bs fs ≡ some l → length fs ≡ 1
+unfolding newtype-of-ctor
+one-field n bs [] l e = none-some l e
+one-field n bs (f ∷ []) l e = refl
+one-field n bs (f ∷ g ∷ fs) l e = none-some l e
+
+-- a newtype has one constructor with one kept field
+newtype-one : (er : ℕ → Bool) (cs : List Ctor) (l : Layout) → newtype-of (map (λ c. ctor-layout c (slots er (c .ct-fields))) cs) ≡ some l
+    → (length cs ≡ 1) × (trues (concat (slots-of er cs)) ≡ 1)
+unfolding newtype-of ctor-layout concat
+newtype-one er [] l e = none-some l e
+newtype-one er (c ∷ []) l e = (
+  refl,
+  ap trues (append-nil (slots er (c .ct-fields)))
+      ∙ sym (length-kept (slots er (c .ct-fields)) (c .ct-fields) (length-slot er (c .ct-fields)))
+      ∙ one-field (c .ct-name) (slots er (c .ct-fields)) (kept (slots er (c .ct-fields)) (c .ct-fields)) l e,
+)
+newtype-one er (c ∷ d ∷ cs) l e = none-some l e
+
+abbrev tag : Body → ℕ
+tag TAbstract = 0
+tag (TAbbrev c) = 1
+tag (TRecord fs) = 2
+tag (TVariant cs) = 3
+
+-- the kind of a declaration's body is its D or I line's
+body-tag : (ps : List ℕ) (ts : List Cty) (k last : ℕ) (ls : List Line) → k ≤ 3 → tag (close-body ps (body-of ts k last ls)) ≡ k
+unfolding close-body body-of
+body-tag ps ts k last ls h = go (eqb k 1) (eqb k 2) (eqb k 3) refl refl refl
+  where
+    go : (a b c : Bool) → eqb k 1 ≡ a → eqb k 2 ≡ b → eqb k 3 ≡ c
+        → tag (close-body ps (a ⇒ TAbbrev (getD ts last TUnit) ∥ b ⇒ TRecord (map (field-of ts) (select field-line ls)) ∥ c ⇒ TVariant (map (ctor-of ts) (groups (is ctor-line) ls)) ∥ TAbstract)) ≡ k
+    go true b c x y z = sym (eqb-true k 1 x)
+    go false true c x y z = sym (eqb-true k 2 y)
+    go false false true x y z = sym (eqb-true k 3 z)
+    go false false false x y z = let p = eqb-false k 1 x in let q = eqb-false k 2 y in let r = eqb-false k 3 z in omega arith
+
+length-concat : (bss : List (List Bool)) (gs : List Group) → AllGrouped (is ctor-line) gs → Counts bss gs → length (concat bss) ≡ count-of field-line (flat gs)
+unfolding concat flat
+length-concat [] [] k c = sym (ap length (select-none field-line [] tt))
+length-concat [] (g ∷ gs) k c = absurd c
+length-concat (bs ∷ bss) [] k c = absurd c
+length-concat (bs ∷ bss) (g ∷ gs) k c =
+    length-append bs (concat bss)
+    ∙ ap₂ (λ (m n : ℕ). m + n) (c .0) (length-concat bss gs (k .1) (c .1))
+    ∙ sym (length-append (select field-line (g .rest)) (select field-line (flat gs)))
+    ∙ ap length (sym (select-append field-line (g .rest) (flat gs)) ∙ sym (select-no field-line (g .head) (g .rest ++ flat gs) (rw (eqb-true (letter (g .head)) 67 (k .0 .begins)))))
+
+-- as many slots as F lines
+slots-counted : (er : ℕ → Bool) (ps : List ℕ) (ts : List Cty) (n k last : ℕ) (ls : List Line)
+    → (k ≡ 3 → select field-line (before (is ctor-line) ls) ≡ []) → has-ctors (close-body ps (body-of ts k last ls)) ≡ true
+    → length (concat (slots-of er (ctors-of n (close-body ps (body-of ts k last ls))))) ≡ count-of field-line ls
+unfolding close-body body-of ctors-of concat
+slots-counted er ps ts n k last ls h c = go (eqb k 1) (eqb k 2) (eqb k 3) (λ e. h (eqb-true k 3 e)) c
+  where
+    body : Bool → Bool → Bool → Body
+    body x y z = x ⇒ TAbbrev (getD ts last TUnit) ∥ y ⇒ TRecord (map (field-of ts) (select field-line ls)) ∥ z ⇒ TVariant (map (ctor-of ts) (groups (is ctor-line) ls)) ∥ TAbstract
+
+    go : (x y z : Bool) → (z ≡ true → select field-line (before (is ctor-line) ls) ≡ []) → has-ctors (close-body ps (body x y z)) ≡ true
+        → length (concat (slots-of er (ctors-of n (close-body ps (body x y z))))) ≡ count-of field-line ls
+    go true y z p q = false-true q
+    go false true z p q = ap length (append-nil (slots er (map (close-field ps) (map (field-of ts) (select field-line ls))))) ∙ length-slots er ps ts ls
+    go false false true p q =
+        let gs : List Group = groups (is ctor-line) ls in
+        let pre : List Line = before (is ctor-line) ls in
+        length-concat (slots-of er (map (close-ctor ps) (map (ctor-of ts) gs))) gs (grouped (is ctor-line) ls) (counts-variant er ps ts gs)
+        ∙ ap (λ (r : List Line). length (r ++ select field-line (flat gs))) (sym (p refl))
+        ∙ ap length (sym (select-append field-line pre (flat gs)) ∙ ap (select field-line) (before-flat (is ctor-line) ls))
+    go false false false p q = false-true q
+
+length-ctors : (ls : List Line) → length (groups (is ctor-line) ls) ≡ count-of ctor-line ls
+unfolding groups select
+length-ctors [] = refl
+length-ctors (l ∷ ls) = go (is ctor-line l) (length-ctors ls)
+  where
+    go : (c : Bool) → length (groups (is ctor-line) ls) ≡ count-of ctor-line ls
+        → length (pick c (record { head = l; rest = before (is ctor-line) ls } ∷ groups (is ctor-line) ls) (groups (is ctor-line) ls)) ≡ length (pick c (l ∷ select ctor-line ls) (select ctor-line ls))
+    go true e = ap suc e
+    go false e = e
+
+-- one constructor, by the D or I line
+one-ctor-line : (ps : List ℕ) (ts : List Cty) (n k last : ℕ) (ls : List Line) → (k ≡ 3 → count-of ctor-line ls ≡ last)
+    → length (ctors-of n (close-body ps (body-of ts k last ls))) ≡ 1 → (eqb k 2 || (eqb k 3 && eqb last 1)) ≡ true
+unfolding close-body body-of ctors-of
+one-ctor-line ps ts n k last ls h c = go (eqb k 1) (eqb k 2) (eqb k 3) (λ e. h (eqb-true k 3 e)) c
+  where
+    go : (x y z : Bool) → (z ≡ true → count-of ctor-line ls ≡ last)
+        → length (ctors-of n (close-body ps (x ⇒ TAbbrev (getD ts last TUnit) ∥ y ⇒ TRecord (map (field-of ts) (select field-line ls)) ∥ z ⇒ TVariant (map (ctor-of ts) (groups (is ctor-line) ls)) ∥ TAbstract))) ≡ 1
+        → (y || (z && eqb last 1)) ≡ true
+    go true y z p q = absurd (omega arith)
+    go false true z p q = refl
+    go false false true p q =
+        eq-eqb last 1
+        (sym (p refl) ∙ sym (length-ctors ls) ∙ sym (length-map (groups (is ctor-line) ls) (ctor-of ts)) ∙ sym (length-map (map (ctor-of ts) (groups (is ctor-line) ls)) (close-ctor ps)) ∙ q)
+    go false false false p q = absurd (omega arith)
+
+bit-le : (b : Bool) → leb (bit b) 1 ≡ true
+bit-le true = refl
+bit-le false = refl
+
+-- the V line of a coherent verdict passes row 7
+good-told : (h : Line) (n : ℕ) (b : Body) (cls : List CtorLayout) (ti : TypeInfo) → tag b ≡ number h 2 → ti .ti-erased ≡ eqb (layout-number (ti .ti-layout)) 0
+    → Suits b cls (ti .ti-layout) → ((l : Layout) → newtype-of cls ≡ some l → (one-ctor h ≡ true) × (n ≡ 1)) → good-verdict h n (told-line ti) ≡ true
+unfolding good-verdict layout-number
+good-told h n b cls ti t e s k = rw (bit-le (ti .ti-record), e) (go b (ti .ti-layout) t s)
+  where
+    struct : (c : Body) → tag c ≡ number h 2 → has-ctors c ≡ true → (eqb (number h 2) 2 || eqb (number h 2) 3) ≡ true
+    struct TAbstract t c = false-true c
+    struct (TAbbrev d) t c = false-true c
+    struct (TRecord fs) t c = rw (← t)
+    struct (TVariant cs) t c = rw (← t)
+
+    go : (c : Body) (l : Layout) → tag c ≡ number h 2 → Suits c cls l
+        → (eqb (layout-number l) 0 ⇒ eqb (bit (eqb (layout-number l) 0)) 1 ∥
+        eqb (bit (eqb (layout-number l) 0)) 0
+        && (eqb (layout-number l) 1 ⇒ one-ctor h && eqb n 1 ∥
+        eqb (layout-number l) 2 ⇒ eqb (number h 2) 2 || eqb (number h 2) 3 ∥
+        eqb (layout-number l) 3 ⇒ eqb (number h 2) 1 ∥
+        eqb (layout-number l) 4 ⇒ eqb (number h 2) 0 ∥
+        false)) ≡ true
+    go c L-erased t s = refl
+    go c (L-newtype nt) t s = let q = k (L-newtype nt) s in rw (q .0, q .1)
+    go c (L-struct ms) t s = struct c t (s .1)
+    go c (L-abbrev d) t s = eq-eqb (number h 2) 1 (sym t ∙ ap tag s)
+    go c L-opaque t s = eq-eqb (number h 2) 0 (sym t ∙ ap tag s)
+
+last-head-none : (h : Line) (ls : List Line) → None is-head ls → last-head h ls ≡ h
+unfolding last-head
+last-head-none h [] n = refl
+last-head-none h (l ∷ ls) n = rw (n .0) (last-head-none h ls (n .1))
+
+has-ctors-one : (n : ℕ) (b : Body) → length (ctors-of n b) ≡ 1 → has-ctors b ≡ true
+unfolding ctors-of
+has-ctors-one n TAbstract e = absurd (omega arith)
+has-ctors-one n (TAbbrev c) e = absurd (omega arith)
+has-ctors-one n (TRecord fs) e = refl
+has-ctors-one n (TVariant cs) e = refl
+
+-- ---- row 7 of a verdict sheet
+-- a newtype's declaration has one constructor and its lines one keep
+newtype-lines : (ts : List Cty) (g : Group) (ti : TypeInfo) (w : Whole g) → Coherent (close-fields (dtype-of ts g)) ti → None is-head (w .body)
+    → (l : Layout) → newtype-of (ti .ti-ctors) ≡ some l
+    → (one-ctor (row import-line (five (g .head))) ≡ true) × (kept-after 0 (fill-keeps (all-slots (ti .ti-ctors)) (w .body)) ≡ 1)
+unfolding close-fields dtype-of ctor-layouts
+newtype-lines ts g ti w c a l e =
+    let d : Dtype = close-fields (dtype-of ts g) in
+    let er : ℕ → Bool = c .erasing in
+    let bs : List Bool = all-slots (ti .ti-ctors) in
+    let o = newtype-one er (ctors-of-tydef d) l (rw (c .ctors) at e) in
+    let s : bs ≡ concat (slots-of er (ctors-of-tydef d)) = ap all-slots (c .ctors) ∙ all-slots-concat er (ctors-of-tydef d) in
+    let n : length bs ≡ count-of field-line (g .rest) =
+    ap length s
+    ∙ slots-counted er (d .dt-params) ts (d .dt-name) (number (g .head) 2) (number (g .head) 4) (g .rest) (w .ctors-first) (has-ctors-one (d .dt-name) (d .dt-body) (o .0)) in
+    let m : count-of field-line (g .rest) ≡ count-of field-line (w .body) =
+    ap (count-of field-line) (w .ends)
+    ∙ ap length
+    (select-append field-line (w .body) (w .last ∷ [])
+    ∙ ap (λ (r : List Line). select field-line (w .body) ++ r) (select-none field-line (w .last ∷ []) (rw (eqb-true (letter (w .last)) 86 (w .is-last)), tt))
+    ∙ append-nil (select field-line (w .body))) in (
+      one-ctor-line (d .dt-params) ts (d .dt-name) (number (g .head) 2) (number (g .head) 4) (g .rest) (w .ctors) (o .0),
+      kept-filling 0 (filling bs (w .body)) a (n ∙ m) ∙ omega (arith, ap trues s, o .1),
+    )
+
+good-told-line : (ts : List Cty) (g : Group) (ti : TypeInfo) (w : Whole g) → Coherent (close-fields (dtype-of ts g)) ti → None is-head (w .body)
+    → good-at (row import-line (five (g .head))) (kept-after 0 (fill-keeps (all-slots (ti .ti-ctors)) (w .body))) (told-line ti) ≡ true
+unfolding good-at close-fields dtype-of
+good-told-line ts g ti w c a =
+    let d : Dtype = close-fields (dtype-of ts g) in
+    good-told (row import-line (five (g .head))) (kept-after 0 (fill-keeps (all-slots (ti .ti-ctors)) (w .body))) (d .dt-body) (ti .ti-ctors) ti
+    (body-tag (d .dt-params) ts (number (g .head) 2) (number (g .head) 4) (g .rest) (w .kinds)) (c .erased) (c .suits) (newtype-lines ts g ti w c a)
+
+-- a local declaration's filled lines pass row 7
+goods-local : (ts : List Cty) (g : Group) (ti : TypeInfo) → Grouped is-head g → Whole g → Coherent (close-fields (dtype-of ts g)) ti → is import-line (g .head) ≡ false
+    → Goods (g .head) 0 (g .rest) → Goods (row import-line (five (g .head))) 0 (fill-rest ti (g .rest))
+goods-local ts g ti k w c e q =
+    let h : Line = row import-line (five (g .head)) in
+    let bs : List Bool = all-slots (ti .ti-ctors) in
+    let a : None is-head (w .body) = none-left is-head (w .body) (w .last ∷ []) (rw (w .ends) at (k .alone)) in
+    let p : Goods (g .head) 0 (w .body) = goods-left (g .head) 0 (w .body) (w .last ∷ []) (rw (w .ends) at q) in
+    rw (w .ends, fill-rest-ends ti (w .body) (w .last) (w .before-last) (w .is-last))
+    (goods-append h 0 (fill-keeps bs (w .body)) (told-line ti ∷ [])
+    (goods-filling (g .head) h 0 0 e refl (filling bs (w .body)) a (w .before-last) p)
+    (rw (last-head-none h (fill-keeps bs (w .body)) (none-fill-keeps is-head (λ b l. refl) bs (w .body) a)) (good-told-line ts g ti w c a), tt))
+
+-- a declaration filled, after any lines
+goods-filled : (ts : List Cty) (g : Group) (ti : TypeInfo) (h k : Line) (m n : ℕ) → Grouped is-head g → Whole g → Told (decl-of ts g) ti
+    → Goods h m (g .head ∷ g .rest) → Goods k n (filled g ti .head ∷ filled g ti .rest)
+unfolding decl-of
+goods-filled ts g ti h k m n p w t q = go (is import-line (g .head)) refl t
+  where
+    r : Goods (g .head) 0 (g .rest)
+    r = rw (p .begins) at (q .1)
+
+    go : (c : Bool) → is import-line (g .head) ≡ c
+        → Told (record { dtype = close-fields (dtype-of ts g); origin = pick c (imported (info-of (close-fields (dtype-of ts g)) (g .rest) (verdict-of (g .rest)))) here }) ti
+        → Goods k n (filled g ti .head ∷ filled g ti .rest)
+    go true e u = rw (filled-import g ti e, p .begins) (good-at-head (g .head) n (g .head) (p .begins), r)
+    go false e u = rw (filled-local g ti e) (good-at-head (row import-line (five (g .head))) n (row import-line (five (g .head))) refl, goods-local ts g ti p w u e r)
+
+goods-fills : (ts : List Cty) (gs : List Group) (tis : List TypeInfo) (h k : Line) (m n : ℕ) → AllGrouped is-head gs → AllWhole gs → AllTold (map (decl-of ts) gs) tis
+    → Goods h m (flat gs) → Goods k n (flat (fills gs tis))
+unfolding flat fills
+goods-fills ts [] tis h k m n p w t q = tt
+goods-fills ts (g ∷ gs) [] h k m n p w t q = tt
+goods-fills ts (g ∷ gs) (ti ∷ tis) h k m n p w t q =
+    let x : List Line = g .head ∷ g .rest in
+    let y : List Line = filled g ti .head ∷ filled g ti .rest in
+    goods-append k n y (flat (fills gs tis))
+    (goods-filled ts g ti h k m n (p .0) (w .0) (t .0) (goods-left h m x (flat gs) q))
+    (goods-fills ts gs tis (last-head h x) (last-head k y) (kept-after m x) (kept-after n y) (p .1) (w .1) (t .1) (goods-right h m x (flat gs) q))
+
+goods-verdict : (ls : List Line) (tis : List TypeInfo) → AllWhole (groups is-head ls) → AllTold (program ls) tis → Goods bad 0 ls → Goods bad 0 (verdict-lines ls tis)
+goods-verdict ls tis w t q =
+    let hs : List Line = before is-head ls in
+    let gs : List Group = groups is-head ls in
+    let p : Goods bad 0 (hs ++ flat gs) = rw (before-flat is-head ls) q in
+    rw (verdict-lines-flat ls tis)
+    (goods-append bad 0 hs (flat (fills gs tis)) (goods-left bad 0 hs (flat gs) p)
+    (goods-fills (trees ls) gs tis (last-head bad hs) (last-head bad hs) (kept-after 0 hs) (kept-after 0 hs) (grouped is-head ls) w (rw (program-groups ls) at t) (goods-right bad 0 hs (flat gs) p)))
+
+-- Where a sheet passes row 7, so does its verdict sheet.
+pub row7-verdict : (ls : List Line) (tis : List TypeInfo) → AllWhole (groups is-head ls) → AllTold (program ls) tis → ((i : ℕ) → i < length ls → row7 ls i ≡ false)
+    → (i : ℕ) → i < length ls → row7 (verdict-lines ls tis) i ≡ false
+row7-verdict ls tis w t h i k =
+    goods-row7 (verdict-lines ls tis) (goods-verdict ls tis w t (row7-goods ls h)) i (rw (length-verdict-lines ls tis (told-groups ls tis t)) k)
+
+last-head-append : (h : Line) (a b : List Line) → last-head h (a ++ b) ≡ last-head (last-head h a) b
+unfolding last-head
+last-head-append h [] b = refl
+last-head-append h (l ∷ a) b = last-head-append (next-head h l) a b
+
+kept-after-append : (n : ℕ) (a b : List Line) → kept-after n (a ++ b) ≡ kept-after (kept-after n a) b
+unfolding kept-after
+kept-after-append n [] b = refl
+kept-after-append n (l ∷ a) b = kept-after-append (next-kept n l) a b
+
+good-verdicts-rest : (a qs : List Line) (j : ℕ)
+    → good-verdicts (a ++ qs) (length a + j) ≡ good-at (last-head (last-head bad a) (take (suc j) qs)) (kept-after (kept-after 0 a) (take j qs)) (line-at qs j)
+good-verdicts-rest a qs j =
+    let e : suc (length a + j) ≡ length a + suc j = omega arith in
+    good-verdicts-at (a ++ qs) (length a + j)
+    ∙ rw (e, take-append-add a qs (suc j), take-append-add a qs j, getD-append-add a qs j bad, last-head-append bad a (take (suc j) qs), kept-after-append 0 a (take j qs))
+
+-- after a line that begins a declaration nothing is left of the state before
+good-rest : (h k : Line) (m n : ℕ) (qs : List Line) (j : ℕ) → Starts is-head qs
+    → good-at (last-head h (take (suc j) qs)) (kept-after m (take j qs)) (line-at qs j) ≡ good-at (last-head k (take (suc j) qs)) (kept-after n (take j qs)) (line-at qs j)
+unfolding last-head kept-after
+good-rest h k m n [] j s = good-at-bad (last-head h []) (last-head k []) (kept-after m (take j [])) (kept-after n (take j []))
+good-rest h k m n (l ∷ qs) zero s = good-at-head (pick (is-head l) l h) m l s ∙ sym (good-at-head (pick (is-head l) l k) n l s)
+good-rest h k m n (l ∷ qs) (suc j) s =
+    ap₂ (λ (x : Line) (i : ℕ). good-at x i (line-at qs j))
+    (ap (λ (c : Bool). last-head (pick c l h) (take (suc j) qs)) s ∙ sym (ap (λ (c : Bool). last-head (pick c l k) (take (suc j) qs)) s))
+    (ap (λ (c : Bool). kept-after (pick c 0 (more m l)) (take j qs)) s ∙ sym (ap (λ (c : Bool). kept-after (pick c 0 (more n l)) (take j qs)) s))
+
+-- the rest of the lines sees nothing of a prefix but its length
+pub row7-rest : (a b qs : List Line) (j : ℕ) → Starts is-head qs → row7 (a ++ qs) (length a + j) ≡ row7 (b ++ qs) (length b + j)
+unfolding row7
+row7-rest a b qs j s = ap not
+    (good-verdicts-rest a qs j
+    ∙ good-rest (last-head bad a) (last-head bad b) (kept-after 0 a) (kept-after 0 b) qs j s
+    ∙ sym (good-verdicts-rest b qs j))
+
+-- Row 7 of a prefix's verdict sheet with the rest behind it.
+pub row7-cut : (ls qs : List Line) (tis : List TypeInfo) → Starts is-head qs → AllWhole (groups is-head ls) → AllTold (program ls) tis
+    → ((i : ℕ) → i < length ls → row7 ls i ≡ false) → (i : ℕ) → row7 (verdict-lines ls tis ++ qs) i ≡ row7 (ls ++ qs) i
+row7-cut ls qs tis s w t h i = go (ltb i (length ls)) refl
+  where
+    n : length (verdict-lines ls tis) ≡ length ls
+    n = length-verdict-lines ls tis (told-groups ls tis t)
+
+    go : (c : Bool) → ltb i (length ls) ≡ c → row7 (verdict-lines ls tis ++ qs) i ≡ row7 (ls ++ qs) i
+    go true e =
+        let k : i < length ls = ltb-true i (length ls) e in
+        row7-prefix (verdict-lines ls tis) qs i (omega (arith, n))
+        ∙ row7-verdict ls tis w t h i k
+        ∙ sym (row7-prefix ls qs i k ∙ h i k)
+    go false e =
+        let k : length ls ≤ i = ltb-false i (length ls) e in
+        ap (row7 (verdict-lines ls tis ++ qs)) (omega (arith, n))
+        ∙ row7-rest (verdict-lines ls tis) ls qs (i - length ls) s
+        ∙ ap (row7 (ls ++ qs)) (omega arith)
+
+-- ---- row 3 of the bytes
+-- a line's letter and numbers, by its bytes
+raw-line : ℕ → List ℕ → Line
+raw-line w l = row (getD l 0 0) (table (λ k. value (cell w l k)) 5)
+
+raw-is : (w : ℕ) (b : List ℕ) (i : ℕ) → raw w b i ≡ raw-line w (lineAt w b i)
+unfolding raw raw-line
+raw-is w b i = refl
+
+-- what a line that is not bad has in common with its letter and numbers
+pub record Rawly (k l : Line) : Type 0 where
+  pub letters : letter k ≡ letter l
+  pub first-number : number k 0 ≡ number l 0
+  pub lines : is name-line l ≡ false → k ≡ l
+
+raw-named : (w : ℕ) (b : List ℕ) → getD b 0 0 ≡ 78 → isBad (decodeNamed w b) ≡ false → Rawly (raw-line w b) (decodeNamed w b)
+unfolding raw-line table decodeNamed
+raw-named w b e n = go (isValue (cell w b 0) && proper (take (textBytes w) (drop (1 + w) b))) n
+  where
+    go : (c : Bool) → isBad (pick c (named (value (cell w b 0)) (spelling (take (textBytes w) (drop (1 + w) b)))) bad) ≡ false
+        → Rawly (raw-line w b) (pick c (named (value (cell w b 0)) (spelling (take (textBytes w) (drop (1 + w) b)))) bad)
+    go true k = record { letters = e; first-number = refl; lines = λ q. false-true (sym q) }
+    go false k = false-true (sym k)
+
+raw-row : (w : ℕ) (b : List ℕ) → isBad (decodeRow w b) ≡ false → Rawly (raw-line w b) (decodeRow w b)
+unfolding raw-line table decodeRow
+raw-row w b n = go (isValue (cell w b 0) && isValue (cell w b 1) && isValue (cell w b 2) && isValue (cell w b 3) && isValue (cell w b 4)) n
+  where
+    r : Line
+    r = row (getD b 0 0) (value (cell w b 0) ∷ value (cell w b 1) ∷ value (cell w b 2) ∷ value (cell w b 3) ∷ value (cell w b 4) ∷ [])
+
+    go : (c : Bool) → isBad (pick c r bad) ≡ false → Rawly (raw-line w b) (pick c r bad)
+    go true k = record { letters = refl; first-number = refl; lines = λ q. refl }
+    go false k = false-true (sym k)
+
+raw-decode : (w : ℕ) (b : List ℕ) → isBad (decode w b) ≡ false → Rawly (raw-line w b) (decode w b)
+unfolding decode
+raw-decode w b n = go (eqb (getD b (5 * w + 1) 0) 10) (eqb (getD b 0 0) 78) (lettered (getD b 0 0)) refl n
+  where
+    go : (x y z : Bool) → eqb (getD b 0 0) 78 ≡ y
+        → isBad (pick x (pick y (decodeNamed w b) (pick z (decodeRow w b) bad)) bad) ≡ false
+        → Rawly (raw-line w b) (pick x (pick y (decodeNamed w b) (pick z (decodeRow w b) bad)) bad)
+    go true true z e k = raw-named w b (eqb-true (getD b 0 0) 78 e) k
+    go true false true e k = raw-row w b k
+    go true false false e k = false-true (sym k)
+    go false y z e k = false-true (sym k)
+
+-- of a line that is not bad, letter and first number are the raw ones, and all of it unless it is an N line
+pub raw-rawly : (w : ℕ) (b : List ℕ) (i : ℕ) → isBad (line w b i) ≡ false → Rawly (raw w b i) (line w b i)
+unfolding line
+raw-rawly w b i n = rw (raw-is w b i) (raw-decode w (lineAt w b i) n)
+
+due-name : (q : Due) (k l : Line) → letter k ≡ 78 → letter l ≡ 78 → due q k ≡ due q l
+unfolding due due-header
+due-name (Header place) k l e h = rw (e, h)
+due-name (Within (suc p) f c) k l e h = rw (e, h)
+due-name (Within zero (suc f) c) k l e h = rw (e, h)
+due-name (Within zero zero (suc c)) k l e h = rw (e, h)
+due-name (Within zero zero zero) k l e h = rw (e, h)
+due-name Broken k l e h = refl
+
+due-rawly : (q : Due) (k l : Line) → Rawly k l → due q k ≡ due q l
+due-rawly q k l r = go (is name-line l) refl
+  where
+    go : (c : Bool) → is name-line l ≡ c → due q k ≡ due q l
+    go true e = due-name q k l (r .letters ∙ eqb-true (letter l) 78 e) (eqb-true (letter l) 78 e)
+    go false e = ap (due q) (r .lines e)
+
+-- lines that are taken alike, one by one
+due-take-same : (n : ℕ) (xs ys : List Line) → length xs ≡ length ys → ((i : ℕ) → i < length xs → (q : Due) → due q (line-at xs i) ≡ due q (line-at ys i))
+    → (q : Due) → due-after q (take n xs) ≡ due-after q (take n ys)
+unfolding due-after
+due-take-same zero xs ys e h q = refl
+due-take-same (suc n) [] [] e h q = refl
+due-take-same (suc n) [] (y ∷ ys) e h q = absurd (omega arith)
+due-take-same (suc n) (x ∷ xs) [] e h q = absurd (omega arith)
+due-take-same (suc n) (x ∷ xs) (y ∷ ys) e h q =
+    ap (λ (d : Due). due-after d (take n xs)) (h 0 (omega arith) q)
+    ∙ due-take-same n xs ys (omega arith) (λ i k. h (suc i) (omega arith)) (due q y)
+
+length-raws : (w : ℕ) (b : List ℕ) → length (raws w b) ≡ count w b
+unfolding raws
+length-raws w b = length-table (raw w b) (count w b)
+
+line-raws : (w : ℕ) (b : List ℕ) (i : ℕ) → i < count w b → line-at (raws w b) i ≡ raw w b i
+unfolding raws
+line-raws w b i h = getD-table (raw w b) (count w b) i bad h
+
+-- Where row 2 passes, row 3 sees the same in the raw lines and in the lines.
+pub row3-raws : (w : ℕ) (b : List ℕ) → ((i : ℕ) → i < count w b → isBad (line w b i) ≡ false) → (i : ℕ) → row3 (raws w b) i ≡ row3 (lines w b) i
+row3-raws w b h i =
+    row3-same (raws w b) (lines w b) i n (s (suc i) (Header 0))
+    (ap (due-after (Header 0)) (sym (take-all (count w b) (raws w b) (omega (arith, length-raws w b))))
+    ∙ s (count w b) (Header 0)
+    ∙ ap (due-after (Header 0)) (take-all (count w b) (lines w b) (omega (arith, length-lines w b))))
+  where
+    n : length (raws w b) ≡ length (lines w b)
+    n = length-raws w b ∙ sym (length-lines w b)
+
+    s : (m : ℕ) (q : Due) → due-after q (take m (raws w b)) ≡ due-after q (take m (lines w b))
+    s m = due-take-same m (raws w b) (lines w b) n (λ j k q.
+        let c : j < count w b = omega (arith, length-raws w b) in
+        ap (due q) (line-raws w b j c) ∙ due-rawly q (raw w b j) (line w b j) (raw-rawly w b j (h j c)) ∙ ap (due q) (sym (getD-lines w b j)))
+
+-- ---- raw lines of an append
+-- a run of whole lines
+pub count-append : (w : ℕ) (b c : List ℕ) → length b ≡ lineBytes w * count w b → count w (b ++ c) ≡ count w b + count w c
+count-append w b c h =
+    sym (length-lines w (b ++ c))
+    ∙ ap length (lines-append w (count w b) b c h)
+    ∙ length-append (lines w b) (lines w c)
+    ∙ ap₂ (λ (m n : ℕ). m + n) (length-lines w b) (length-lines w c)
+
+raw-left : (w : ℕ) (b c : List ℕ) (i : ℕ) → i < count w b → raw w (b ++ c) i ≡ raw w b i
+raw-left w b c i h = raw-is w (b ++ c) i ∙ ap (raw-line w) (lineAt-left w b c i (within-count w b i h)) ∙ sym (raw-is w b i)
+
+raw-right : (w : ℕ) (b c : List ℕ) (i : ℕ) → length b ≡ lineBytes w * count w b → raw w (b ++ c) (count w b + i) ≡ raw w c i
+raw-right w b c i h = raw-is w (b ++ c) (count w b + i) ∙ ap (raw-line w) (lineAt-right w b c (count w b) i h) ∙ sym (raw-is w c i)
+
+pub raws-append : (w : ℕ) (b c : List ℕ) → length b ≡ lineBytes w * count w b → raws w (b ++ c) ≡ raws w b ++ raws w c
+raws-append w b c h =
+    ext-getD bad (raws w (b ++ c)) (raws w b ++ raws w c)
+    (length-raws w (b ++ c) ∙ n ∙ sym (length-append (raws w b) (raws w c) ∙ ap₂ (λ (x y : ℕ). x + y) (length-raws w b) (length-raws w c)))
+    (λ i k. go i (ltb i (count w b)) refl (omega (arith, length-raws w (b ++ c))))
+  where
+    n : count w (b ++ c) ≡ count w b + count w c
+    n = count-append w b c h
+
+    right : (j : ℕ) → j < count w c → line-at (raws w (b ++ c)) (count w b + j) ≡ line-at (raws w b ++ raws w c) (count w b + j)
+    right j k =
+        line-raws w (b ++ c) (count w b + j) (omega (arith, n))
+        ∙ raw-right w b c j h
+        ∙ sym (line-raws w c j k)
+        ∙ sym (getD-append-add (raws w b) (raws w c) j bad)
+        ∙ ap (λ (x : ℕ). line-at (raws w b ++ raws w c) (x + j)) (length-raws w b)
+
+    go : (i : ℕ) (t : Bool) → ltb i (count w b) ≡ t → i < count w (b ++ c) → line-at (raws w (b ++ c)) i ≡ line-at (raws w b ++ raws w c) i
+    go i true e k =
+        let l : i < count w b = ltb-true i (count w b) e in
+        line-raws w (b ++ c) i k
+        ∙ raw-left w b c i l
+        ∙ sym (line-raws w b i l)
+        ∙ sym (List·getD-append (raws w b) (raws w c) bad i (omega (arith, length-raws w b)))
+    go i false e k =
+        let l : count w b ≤ i = ltb-false i (count w b) e in
+        let q : i ≡ count w b + (i - count w b) = omega arith in
+        rw q (right (i - count w b) (omega (arith, n)))
