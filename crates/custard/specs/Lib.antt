@@ -28,4 +28,5 @@ pub mod OutputLaws
 pub mod WrittenLaws
 pub mod Pinning
 pub mod FuelLaws
+pub mod PassLaws
 pub mod NumbersLaws

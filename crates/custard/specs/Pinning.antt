@@ -36,34 +36,26 @@ use Rattle.custard.specs.NamesLaws.{position-le, position-name, position
 use Rattle.custard.specs.ErasureLaws.{erasure-solves, erasure-pinned}
 use Rattle.custard.specs.LayoutLaws.{Placed, candidates-of, layout-at, PinnedLayouts, pinned-layouts, getD-layouts, table-cong}
 use Rattle.custard.specs.RunLaws.{lay, layout-of-decl, left-at, info-at, run-infos, getD-infos, length-infos, places-same, left-same, program-same, fault-same, returns-same}
+use Rattle.custard.specs.ProgramLaws.{pins}
 use Rattle.custard.specs.Locality.{OwnImports, info-local, left-local, fault-local, returns-local}
 
 -- ---- pinned programs
-unfoldable pub pin : Decl → TypeInfo → Decl
-pin d ti = record { dtype = d .dtype; origin = imported ti }
+pub pin-length : (ds : List Decl) (tis : List TypeInfo) → length tis ≡ length ds → length (pins ds tis) ≡ length ds
+unfolding pins
+pin-length [] tis e = refl
+pin-length (d ∷ ds) [] e = absurd (omega arith)
+pin-length (d ∷ ds) (ti ∷ tis) e = ap suc (pin-length ds tis (omega arith))
 
--- each declaration imported with the verdict at its place
-unfoldable pub pin-all : List Decl → List TypeInfo → List Decl
-pin-all [] tis = []
-pin-all (d ∷ ds) [] = d ∷ ds
-pin-all (d ∷ ds) (ti ∷ tis) = pin d ti ∷ pin-all ds tis
-
-pub pin-length : (ds : List Decl) (tis : List TypeInfo) → length (pin-all ds tis) ≡ length ds
-unfolding pin-all
-pin-length [] tis = refl
-pin-length (d ∷ ds) [] = refl
-pin-length (d ∷ ds) (ti ∷ tis) = ap suc (pin-length ds tis)
-
-pub pin-dtype : (ds : List Decl) (tis : List TypeInfo) (i : ℕ) → dtype-at (pin-all ds tis) i ≡ dtype-at ds i
-unfolding pin-all pin
-pin-dtype [] tis i = refl
-pin-dtype (d ∷ ds) [] i = refl
-pin-dtype (d ∷ ds) (ti ∷ tis) zero = refl
-pin-dtype (d ∷ ds) (ti ∷ tis) (suc i) = pin-dtype ds tis i
+pub pin-dtype : (ds : List Decl) (tis : List TypeInfo) (i : ℕ) → length tis ≡ length ds → dtype-at (pins ds tis) i ≡ dtype-at ds i
+unfolding pins
+pin-dtype [] tis i e = refl
+pin-dtype (d ∷ ds) [] i e = absurd (omega arith)
+pin-dtype (d ∷ ds) (ti ∷ tis) zero e = refl
+pin-dtype (d ∷ ds) (ti ∷ tis) (suc i) e = pin-dtype ds tis i (omega arith)
 
 pub pin-origin : (ds : List Decl) (tis : List TypeInfo) (i : ℕ) (t : TypeInfo) → i < length ds → length tis ≡ length ds
-    → origin-at (pin-all ds tis) i ≡ imported (getD tis i t)
-unfolding pin-all pin
+    → origin-at (pins ds tis) i ≡ imported (getD tis i t)
+unfolding pins
 pin-origin [] tis i t h e = absurd (omega arith)
 pin-origin (d ∷ ds) [] i t h e = absurd (omega arith)
 pin-origin (d ∷ ds) (ti ∷ tis) zero t h e = refl
@@ -148,10 +140,13 @@ module _ (ds es : List Decl) (distinct : Distinct (ds ++ es)) (apart : Apart ds 
 
     -- ---- the first part imported
     abbrev pub imported-first : List Decl
-    imported-first = pin-all ds (run ds .infos) ++ es
+    imported-first = pins ds (run ds .infos) ++ es
+
+    pins-length : length (pins ds (run ds .infos)) ≡ length ds
+    pins-length = pin-length ds (run ds .infos) (length-infos ds)
 
     first-length : length (ds ++ es) ≡ length imported-first
-    first-length = rw (length-append, length-append, pin-length)
+    first-length = rw (length-append, length-append, pins-length)
 
     first-dtype : (i : ℕ) → i < length (ds ++ es) → dtype-at (ds ++ es) i ≡ dtype-at imported-first i
     first-dtype i h = go (ltb i (length ds)) refl
@@ -160,19 +155,19 @@ module _ (ds es : List Decl) (distinct : Distinct (ds ++ es)) (apart : Apart ds 
         go true e =
             let k : i < length ds = ltb-true i (length ds) e in
             ap (λ (x : Decl). x .dtype) (at-left ds es i k)
-            ∙ (sym (pin-dtype ds (run ds .infos) i)
-            ∙ sym (ap (λ (x : Decl). x .dtype) (at-left (pin-all ds (run ds .infos)) es i (rw pin-length k))))
+            ∙ (sym (pin-dtype ds (run ds .infos) i (length-infos ds))
+            ∙ sym (ap (λ (x : Decl). x .dtype) (at-left (pins ds (run ds .infos)) es i (rw pins-length k))))
         go false e =
-            ap (λ (x : Decl). x .dtype) (at-right ds (pin-all ds (run ds .infos)) es i (sym (pin-length ds (run ds .infos))) (ltb-false i (length ds) e))
+            ap (λ (x : Decl). x .dtype) (at-right ds (pins ds (run ds .infos)) es i (sym pins-length) (ltb-false i (length ds) e))
 
     first-origin : (i : ℕ) → i < length ds → origin-at imported-first i ≡ imported (info-at (ds ++ es) i)
     first-origin i h =
-        ap (λ (x : Decl). x .origin) (at-left (pin-all ds (run ds .infos)) es i (rw pin-length h))
+        ap (λ (x : Decl). x .origin) (at-left (pins ds (run ds .infos)) es i (rw pins-length h))
         ∙ (pin-origin ds (run ds .infos) i (info-at ds i) h (length-infos ds)
         ∙ ap imported (getD-infos ds i (info-at ds i) h ∙ prefix-info i h))
 
     rest-origin : (i : ℕ) → length ds ≤ i → origin-at (ds ++ es) i ≡ origin-at imported-first i
-    rest-origin i h = ap (λ (x : Decl). x .origin) (at-right ds (pin-all ds (run ds .infos)) es i (sym (pin-length ds (run ds .infos))) h)
+    rest-origin i h = ap (λ (x : Decl). x .origin) (at-right ds (pins ds (run ds .infos)) es i (sym pins-length) h)
 
     -- what a verdict says of a declaration of the whole
     info-erased : (i : ℕ) → i < length (ds ++ es) → info-at (ds ++ es) i .ti-erased ≡ getD (erasure-fixpoint (ds ++ es) .marks) i false
