@@ -30,3 +30,4 @@ pub mod Pinning
 pub mod FuelLaws
 pub mod PassLaws
 pub mod NumbersLaws
+pub mod LeftLaws
