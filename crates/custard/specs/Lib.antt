@@ -35,3 +35,4 @@ pub mod BuildLaws
 pub mod NumbersLaws
 pub mod Cases
 pub mod SplitLaws
+pub mod LeftLaws

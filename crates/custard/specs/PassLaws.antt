@@ -15,7 +15,21 @@ use Rattle.sheet.specs.FirstLaws.{first-le-at}
 use Rattle.custard.specs.Cty.{Cty}
 use Rattle.custard.specs.Decl.{Dtype, TypeInfo, Origin, here, imported, Decl, no-decl, dtype-at, origin-at, close-fields}
 use Rattle.custard.specs.Program.{
-  name-line, param-line, field-line, import-line, is, is-head, Group, groups, before, trees, dtype-of, info-of, verdict-of, decl-of, program
+  name-line,
+  param-line,
+  field-line,
+  import-line,
+  is,
+  is-head,
+  Group,
+  groups,
+  before,
+  trees,
+  dtype-of,
+  info-of,
+  verdict-of,
+  decl-of,
+  program,
 }
 use Rattle.custard.specs.Rows.{line-at, heads-before, equal, is-ctor, same-decl, same-ctor, repeats, row6}
 use Rattle.custard.specs.Names.{dtype-names, Distinct}
@@ -70,9 +84,9 @@ distinct-program ls c i j h k e =
     let a : HeadAt ls i = head-at ls i (omega (arith, length-program ls)) in
     let b : HeadAt ls j = head-at ls j (omega (arith, length-program ls)) in
     let p : number (line-at ls (a .place)) 0 ≡ number (line-at ls (b .place)) 0 =
-        sym (name-at ls (a .place) (a .inside) (a .heads-it))
-        ∙ (ap (λ (x : ℕ). dtype-at (program ls) x .dt-name) (a .passed)
-        ∙ (e ∙ (ap (λ (x : ℕ). dtype-at (program ls) x .dt-name) (sym (b .passed)) ∙ name-at ls (b .place) (b .inside) (b .heads-it)))) in
+    sym (name-at ls (a .place) (a .inside) (a .heads-it))
+    ∙ (ap (λ (x : ℕ). dtype-at (program ls) x .dt-name) (a .passed)
+    ∙ (e ∙ (ap (λ (x : ℕ). dtype-at (program ls) x .dt-name) (sym (b .passed)) ∙ name-at ls (b .place) (b .inside) (b .heads-it)))) in
     go a b p (ltb (a .place) (b .place)) (ltb (b .place) (a .place)) refl refl
   where
     go : (a : HeadAt ls i) (b : HeadAt ls j) → number (line-at ls (a .place)) 0 ≡ number (line-at ls (b .place)) 0
@@ -91,8 +105,10 @@ decl-own ts g ti e = go (is import-line (g .head)) e
   where
     d : Dtype
     d = close-fields (dtype-of ts g)
+
     own : TypeInfo
     own = info-of d (g .rest) (verdict-of (g .rest))
+
     go : (b : Bool) → pick b (imported own) here ≡ imported ti → Among (layout-names (ti .ti-layout)) (dtype-names d)
     go true q = let z : own ≡ ti = cc in subst (λ (x : TypeInfo). Among (layout-names (x .ti-layout)) (dtype-names d)) z (info-own d (g .rest) (verdict-of (g .rest)))
     go false q = let z : _≡_ {A = ℕ} 0 1 = cc in absurd (omega arith)

@@ -1,0 +1,247 @@
+-- What an accepted sheet's left sheet says: its lines read back, its declarations are those that are left, and its types name nothing
+-- that is unfolded or erased. Assumes nothing.
+use mathlib.Core.Logic.{_⊎_, inl, inr, ⊎-elim}
+use mathlib.Core.Path.{_≡_, refl, ap, sym, _∙_, subst}
+use mathlib.Core.List.{List, [], _∷_, _++_, map, append-assoc}
+use mathlib.Core.Bool.{Bool, true, false, _&&_, _||_}
+use mathlib.Core.Option.{Option, none, some}
+use Prim.Native.Nat.{ℕ, zero, suc, _+_, _*_, _^_, _≤_, _<_}
+use native.Mathlib.Omega.{arith}
+use lib.Dec.{eqb, leb, ltb}
+use lib.ListN.{length, getD, take, drop, length-append, length-drop}
+use lib.Seq.{take-suc, take-add, getD-drop}
+use borrow.Author.Tests.{eqb-true, eqb-false, ltb-true, ltb-false, leb-false, not-false}
+use Rattle.columns.specs.Column.{pick, _⇒_∥_}
+use Rattle.sheet.specs.Line.{Line, bad, letter, number}
+use Rattle.sheet.specs.LineLaws.{both}
+use Rattle.custard.specs.Cty.{Cty, TUnit}
+use Rattle.custard.specs.Decl.{Field, Body, TAbstract, TAbbrev, TRecord, TVariant, Dtype, ctors-of, ctors-of-tydef, CtorLayout, Layout, L-erased, L-newtype, L-struct, L-abbrev, L-opaque, close-body}
+use Rattle.custard.specs.Layout.{newtype-of-ctor, newtype-of}
+use Rattle.custard.specs.Program.{
+  ctor-line,
+  field-line,
+  verdict-line,
+  import-line,
+  is,
+  is-head,
+  select,
+  before,
+  Group,
+  groups,
+  field-of,
+  ctor-of,
+  body-of,
+  keeps-of,
+  ctor-layouts-by,
+  abbreviated,
+  or-struct,
+  layout-by,
+  info-of,
+  verdict-of,
+}
+use Rattle.custard.specs.Rows.{line-at, last-head, head-of, kept-after, one-ctor, good-verdict, good-verdicts, row7}
+use Rattle.custard.specs.AnswerLaws.{Clear}
+use Rattle.custard.specs.ProgramLaws.{None, false-true}
+use Rattle.custard.specs.ResolveLaws.{StructMatches, OpaqueMatches, Matches}
+
+-- ---- an import's layout goes with its body
+or-true : (a b : Bool) → (a || b) ≡ true → (a ≡ true) ⊎ (b ≡ true)
+or-true true b e = inl refl
+or-true false b e = inr e
+
+-- document 01's number of a body
+unfoldable pub body-number : Body → ℕ
+body-number TAbstract = 0
+body-number (TAbbrev c) = 1
+body-number (TRecord fs) = 2
+body-number (TVariant cs) = 3
+
+body-of-number : (ts : List Cty) (k last : ℕ) (ls : List Line) → k ≤ 3 → body-number (body-of ts k last ls) ≡ k
+unfolding body-of body-number
+body-of-number ts k last ls h = go (eqb k 1) (eqb k 2) (eqb k 3) refl refl refl
+  where
+    go : (x y z : Bool) → eqb k 1 ≡ x → eqb k 2 ≡ y → eqb k 3 ≡ z → body-number (
+        x ⇒ TAbbrev (getD ts last TUnit) ∥
+        y ⇒ TRecord (map (field-of ts) (select field-line ls)) ∥
+        z ⇒ TVariant (map (ctor-of ts) (groups (is ctor-line) ls)) ∥
+        TAbstract) ≡ k
+    go true y z a b c = sym (eqb-true k 1 a)
+    go false true z a b c = sym (eqb-true k 2 b)
+    go false false true a b c = sym (eqb-true k 3 c)
+    go false false false a b c = few k h (eqb-false k 1 a) (eqb-false k 2 b) (eqb-false k 3 c)
+      where
+        few : (n : ℕ) → n ≤ 3 → (n ≡ 1 → ⊥) → (n ≡ 2 → ⊥) → (n ≡ 3 → ⊥) → 0 ≡ n
+        few zero l p q r = refl
+        few (suc zero) l p q r = absurd (p refl)
+        few (suc (suc zero)) l p q r = absurd (q refl)
+        few (suc (suc (suc zero))) l p q r = absurd (r refl)
+        few (suc (suc (suc (suc n)))) l p q r = absurd (omega arith)
+
+close-number : (ps : List ℕ) (b : Body) → body-number (close-body ps b) ≡ body-number b
+unfolding body-number close-body
+close-number ps TAbstract = refl
+close-number ps (TAbbrev c) = refl
+close-number ps (TRecord fs) = refl
+close-number ps (TVariant cs) = refl
+
+by-matches : (n : ℕ) (b : Body) (ls : List Line) → 2 ≤ body-number b → StructMatches b (ctor-layouts-by (ctors-of n b) (keeps-of b ls))
+unfolding body-number ctor-layouts-by ctors-of keeps-of
+by-matches n TAbstract ls h = tt
+by-matches n (TAbbrev c) ls h = absurd (omega arith)
+by-matches n (TRecord fs) ls h = tt
+by-matches n (TVariant cs) ls h = tt
+
+newtype-matches : (b : Body) (cls : List CtorLayout) → StructMatches b cls → Matches b (or-struct (newtype-of cls) cls)
+unfolding newtype-of newtype-of-ctor
+newtype-matches b [] m = m
+newtype-matches b (cl ∷ []) m = go (cl .cl-fields)
+  where
+    go : (fs : List Field) → Matches b (or-struct (newtype-of-ctor (cl .cl-name) (cl .cl-slots) fs) (cl ∷ []))
+    go [] = m
+    go (f ∷ []) = tt
+    go (f ∷ g ∷ fs) = m
+newtype-matches b (cl ∷ cm ∷ cls) m = m
+
+abbreviated-matches : (b : Body) → body-number b ≡ 1 → Matches b (abbreviated b)
+unfolding body-number
+abbreviated-matches TAbstract e = tt
+abbreviated-matches (TAbbrev c) e = tt
+abbreviated-matches (TRecord fs) e = absurd (omega arith)
+abbreviated-matches (TVariant cs) e = absurd (omega arith)
+
+opaque-matches : (b : Body) → body-number b ≡ 0 → OpaqueMatches b
+unfolding body-number
+opaque-matches TAbstract e = tt
+opaque-matches (TAbbrev c) e = absurd (omega arith)
+opaque-matches (TRecord fs) e = absurd (omega arith)
+opaque-matches (TVariant cs) e = absurd (omega arith)
+
+-- a V line that row 7 passes, at a declaration of the body that its first line says
+verdict-matches : (h v : Line) (kept : ℕ) (b : Body) (cls : List CtorLayout) → (number h 2 ≤ 3 → body-number b ≡ number h 2) → (2 ≤ body-number b → StructMatches b cls) →
+    good-verdict h kept v ≡ true → Matches b (layout-by (number v 1) b cls)
+unfolding good-verdict layout-by
+verdict-matches h v kept b cls n m e =
+    go (eqb (number v 1) 0) (eqb (number v 1) 1) (eqb (number v 1) 2) (eqb (number v 1) 3) (eqb (number v 1) 4)
+    (both (leb (number v 2) 1) _ e .1)
+  where
+    k : ℕ
+    k = number h 2
+
+    two : eqb k 2 ≡ true → StructMatches b cls
+    two p = let q : k ≡ 2 = eqb-true k 2 p in m (omega (arith, n (omega arith)))
+
+    three : eqb k 3 ≡ true → StructMatches b cls
+    three p = let q : k ≡ 3 = eqb-true k 3 p in m (omega (arith, n (omega arith)))
+
+    one : (one-ctor h && eqb kept 1) ≡ true → StructMatches b cls
+    one p = ⊎-elim two (λ q. three (both (eqb k 3) (eqb (number h 4) 1) q .0)) (or-true (eqb k 2) (eqb k 3 && eqb (number h 4) 1) (both (one-ctor h) (eqb kept 1) p .0))
+
+    go : (x0 x1 x2 x3 x4 : Bool) →
+        (x0 ⇒ eqb (number v 0) 1 ∥
+        eqb (number v 0) 0
+        && (x1 ⇒ one-ctor h && eqb kept 1 ∥ x2 ⇒ eqb k 2 || eqb k 3 ∥ x3 ⇒ eqb k 1 ∥ x4 ⇒ eqb k 0 ∥ false)) ≡ true →
+        Matches b (x0 ⇒ L-erased ∥ x1 ⇒ or-struct (newtype-of cls) cls ∥ x2 ⇒ L-struct cls ∥ x3 ⇒ abbreviated b ∥ L-opaque)
+    go true x1 x2 x3 x4 p = tt
+    go false true x2 x3 x4 p = newtype-matches b cls (one (both (eqb (number v 0) 0) (one-ctor h && eqb kept 1) p .1))
+    go false false true x3 x4 p = ⊎-elim two three (or-true (eqb k 2) (eqb k 3) (both (eqb (number v 0) 0) (eqb k 2 || eqb k 3) p .1))
+    go false false false true x4 p =
+        let q : k ≡ 1 = eqb-true k 1 (both (eqb (number v 0) 0) (eqb k 1) p .1) in
+        abbreviated-matches b (omega (arith, n (omega arith)))
+    go false false false false true p =
+        let q : k ≡ 0 = eqb-true k 0 (both (eqb (number v 0) 0) (eqb k 0) p .1) in
+        opaque-matches b (omega (arith, n (omega arith)))
+    go false false false false false p = false-true (both (eqb (number v 0) 0) false p .1)
+
+-- ---- the V line of a declaration
+-- the first V line of a list
+record VerdictAt (ls : List Line) : Type 0 where
+  place : ℕ
+  inside : place < length ls
+  is-verdict : letter (getD ls place bad) ≡ verdict-line
+  found : verdict-of ls ≡ getD ls place bad
+
+first-verdict : (ls : List Line) → (select verdict-line ls ≡ []) ⊎ VerdictAt ls
+unfolding select
+first-verdict [] = inl refl
+first-verdict (l ∷ ls) = go (is verdict-line l) refl (first-verdict ls)
+  where
+    go : (c : Bool) → is verdict-line l ≡ c → (select verdict-line ls ≡ []) ⊎ VerdictAt ls → (select verdict-line (l ∷ ls) ≡ []) ⊎ VerdictAt (l ∷ ls)
+    go true e r = inr (record { place = 0; inside = omega arith; is-verdict = eqb-true (letter l) verdict-line e; found = rw e refl })
+    go false e r =
+        ⊎-elim (λ n. inl (rw e n))
+        (λ k. inr (record { place = suc (k .place); inside = omega (arith, k .inside); is-verdict = k .is-verdict; found = rw e (k .found) })) r
+
+-- the lines before the first that begins a group
+before-at : (p : Line → Bool) (xs : List Line) (k : ℕ) → k < length (before p xs) → None p (take (suc k) xs) × (getD (before p xs) k bad ≡ getD xs k bad) × (k < length xs)
+unfolding before
+before-at p [] k h = absurd (omega arith)
+before-at p (x ∷ xs) k h = go (p x) refl k h (before-at p xs)
+  where
+    go : (c : Bool) → p x ≡ c → (j : ℕ) → j < length {A = Line} (pick c [] (x ∷ before p xs)) →
+        ((i : ℕ) → i < length (before p xs) → None p (take (suc i) xs) × (getD (before p xs) i bad ≡ getD xs i bad) × (i < length xs)) →
+        None p (take (suc j) (x ∷ xs)) × (getD (pick c [] (x ∷ before p xs)) j bad ≡ getD (x ∷ xs) j bad) × (j < suc (length xs))
+    go true e j l ih = absurd (omega arith)
+    go false e zero l ih = ((e, tt), refl, omega arith)
+    go false e (suc j) l ih = let r = ih j (omega arith) in ((e, r .0), r .1, omega (arith, r .2))
+
+last-head-append : (h : Line) (a b : List Line) → last-head h (a ++ b) ≡ last-head (last-head h a) b
+unfolding last-head
+last-head-append h [] b = refl
+last-head-append h (l ∷ a) b = last-head-append (pick (is-head l) l h) a b
+
+last-head-none : (h : Line) (ls : List Line) → None is-head ls → last-head h ls ≡ h
+unfolding last-head
+last-head-none h [] n = refl
+last-head-none h (l ∷ ls) n = rw (n .0) (last-head-none h ls (n .1))
+
+head-of-self : (ls : List Line) (i : ℕ) → i < length ls → is-head (line-at ls i) ≡ true → last-head bad (take (suc i) ls) ≡ line-at ls i
+unfolding last-head
+head-of-self ls i h e =
+    ap (last-head bad) (take-suc ls i bad h) ∙ (last-head-append bad (take i ls) (line-at ls i ∷ []) ∙ ap (λ (c : Bool). pick c (line-at ls i) (last-head bad (take i ls))) e)
+
+-- a line of the declaration that line i begins
+head-of-rest : (ls : List Line) (i k : ℕ) → i < length ls → is-head (line-at ls i) ≡ true → k < length (before is-head (drop (suc i) ls)) → head-of ls (suc i + k) ≡ line-at ls i
+head-of-rest ls i k h e l =
+    let n : suc (suc i + k) ≡ suc i + suc k = omega arith in
+    rw (n, take-add (suc i) (suc k) ls)
+    (last-head-append bad (take (suc i) ls) (take (suc k) (drop (suc i) ls))
+    ∙ (ap (λ (x : Line). last-head x (take (suc k) (drop (suc i) ls))) (head-of-self ls i h e)
+    ∙ last-head-none (line-at ls i) (take (suc k) (drop (suc i) ls)) (before-at is-head (drop (suc i) ls) k l .0)))
+
+-- what row 7 says of a V line
+row7-verdict : (ls : List Line) (j : ℕ) → row7 ls j ≡ false → letter (line-at ls j) ≡ verdict-line → is import-line (head-of ls j) ≡ true →
+    good-verdict (head-of ls j) (kept-after 0 (take j ls)) (line-at ls j) ≡ true
+unfolding row7 good-verdicts
+row7-verdict ls j e v h =
+    chosen (is field-line (line-at ls j)) (is verdict-line (line-at ls j)) (is import-line (head-of ls j)) (good-verdict (head-of ls j) (kept-after 0 (take j ls)) (line-at ls j))
+    (leb (number (line-at ls j) 2) (pick (is import-line (head-of ls j)) 1 0)) _
+    (ap (λ (n : ℕ). eqb n field-line) v) (ap (λ (n : ℕ). eqb n verdict-line) v) h (not-false (good-verdicts ls j) e)
+  where
+    chosen : (a b c g x y : Bool) → a ≡ false → b ≡ true → c ≡ true → (a ⇒ x ∥ b && c ⇒ g ∥ y) ≡ true → g ≡ true
+    chosen true b c g x y p q r t = false-true (sym p)
+    chosen false true true g x y p q r t = t
+    chosen false true false g x y p q r t = false-true r
+    chosen false false c g x y p q r t = false-true q
+
+-- ---- every layout goes with its body
+module _ (ls : List Line) (pass : Clear (length ls) (row7 ls)) where
+  group-matches : (i : ℕ) → i < length ls → is-head (line-at ls i) ≡ true → is import-line (line-at ls i) ≡ true → (b : Body) (cls : List CtorLayout) →
+      (number (line-at ls i) 2 ≤ 3 → body-number b ≡ number (line-at ls i) 2) → (2 ≤ body-number b → StructMatches b cls) →
+      Matches b (layout-by (number (verdict-of (before is-head (drop (suc i) ls))) 1) b cls)
+  unfolding layout-by
+  group-matches i h e m b cls n s = ⊎-elim (λ z. rw z tt) at (first-verdict (before is-head (drop (suc i) ls)))
+    where
+      rest : List Line
+      rest = before is-head (drop (suc i) ls)
+
+      at : VerdictAt rest → Matches b (layout-by (number (verdict-of rest) 1) b cls)
+      at r =
+          let k : ℕ = r .place in
+          let w = before-at is-head (drop (suc i) ls) k (r .inside) in
+          let j : ℕ = suc i + k in
+          let q : getD rest k bad ≡ line-at ls j = w .1 ∙ getD-drop (suc i) ls k bad in
+          let g : head-of ls j ≡ line-at ls i = head-of-rest ls i k h e (r .inside) in
+          let l : j < length ls = omega (arith, w .2, length-drop (suc i) ls) in
+          let t = row7-verdict ls j (pass j l) (ap letter (sym q) ∙ r .is-verdict) (ap (is import-line) g ∙ m) in
+          rw (r .found, q)
+          (verdict-matches (line-at ls i) (line-at ls j) (kept-after 0 (take j ls)) b cls n s (ap (λ (x : Line). good-verdict x (kept-after 0 (take j ls)) (line-at ls j)) (sym g) ∙ t))
