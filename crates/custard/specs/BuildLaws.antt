@@ -27,13 +27,23 @@ use Rattle.custard.specs.Cut.{Sheets, build, Whole}
 use Rattle.custard.specs.Names.{Distinct}
 use Rattle.custard.specs.CtyLaws.{Every, every-map}
 use Rattle.custard.specs.ProgramLaws.{Starts, select-append, told-groups, run-told}
-use Rattle.custard.specs.RowsLaws.{Ends, row3-ends, ends-row3, NoHeader, no-header, row5-prefix}
+use Rattle.custard.specs.RowsLaws.{Ends, row3-ends, ends-row3, row3-raws, NoHeader, no-header, row5-prefix}
 use Rattle.custard.specs.OutputLaws.{Sized, fits-sized, allFit-every, left-bytes-prefix, ten, verdict-fits, verdict-bytes, verdict-round}
 use Rattle.custard.specs.AnswerLaws.{Clear, Passes, sheets, passes-build, build-passes, build-equal}
 use Rattle.custard.specs.PassLaws.{clear-heads, heads-clear, own-imports}
 use Rattle.custard.specs.Pinning.{Apart, prefix-program}
 use Rattle.custard.specs.StepLaws.{
-  Checks, later, whole-parts, parts-distinct, checks-prefix, verdicts, SameRows, checks-import, verdict-lines-import, left-lines-import
+  Checks,
+  later,
+  whole-parts,
+  parts-distinct,
+  checks-prefix,
+  verdicts,
+  SameRows,
+  same-rows,
+  checks-import,
+  verdict-lines-import,
+  left-lines-import,
 }
 use Rattle.custard.specs.CutLaws.{Steps}
 
@@ -95,10 +105,6 @@ row1-small f b h = ltb-false (lineBytes (f .columns) * f .lines) (length b) (lef
     left true k = k
     left false k = refl
 
--- PENDING
-row3-raws : (w : ℕ) (b : List ℕ) → NoBad (lines w b) → (i : ℕ) → row3 (raws w b) i ≡ row3 (lines w b) i
-row3-raws w b h i = ?
-
 -- ---- passing, by lines
 pub record Sound (f : Format) (b : List ℕ) (v l : ℕ) : Type 0 where
   pub small : length b ≤ lineBytes (f .columns) * f .lines
@@ -116,7 +122,7 @@ passes-sound f b v l h =
       small = row1-small f b (h .pass1);
       no-bad = pass-no-bad w b (h .pass2);
       checks = record {
-        ends = row3-ends (lines w b) (λ i k. sym (row3-raws w b (pass-no-bad w b (h .pass2)) i) ∙ h .pass3 i (omega (arith, length-lines w b)));
+        ends = row3-ends (lines w b) (λ i k. sym (row3-raws w b (h .pass2) i) ∙ h .pass3 i (omega (arith, length-lines w b)));
         clear4 = λ i k. h .pass4 i (omega arith);
         clear5 = λ i k. h .pass5 i (omega arith);
         clear6 = λ i k. h .pass6 i (omega arith);
@@ -137,7 +143,7 @@ sound-passes f b v l e h =
     record {
       pass1 = row1-false f b (h .small) e;
       pass2 = no-bad-pass w b (h .no-bad);
-      pass3 = λ i k. row3-raws w b (h .no-bad) i ∙ ends-row3 (lines w b) (c .ends) i;
+      pass3 = λ i k. row3-raws w b (no-bad-pass w b (h .no-bad)) i ∙ ends-row3 (lines w b) (c .ends) i;
       pass4 = λ i k. c .clear4 i (omega arith);
       pass5 = λ i k. c .clear5 i (omega arith);
       pass6 = λ i k. c .clear6 i (omega arith);
@@ -147,10 +153,6 @@ sound-passes f b v l e h =
       pass11 = h .verdict-room;
       pass12 = h .left-room;
     }
-
--- PENDING
-same-rows : (f : Format) (ps qs : List Line) → Checks f ps → Starts is-head qs → SameRows f ps qs
-same-rows f ps qs c st = ?
 
 -- ---- a sheet in two parts
 -- The second part is whole declarations, and in a sheet that passes rows 2, 3, 5 and 6 the first names
@@ -169,7 +171,7 @@ pub record Split (w : ℕ) (p q : List ℕ) : Type 0 where
 pub whole-append : (w : ℕ) (p q : List ℕ) → Whole w p → Whole w q → Whole w (p ++ q)
 whole-append w p q h k =
     let m : length (p ++ q) ≡ lineBytes w * (count w p + count w q) =
-        length-append p q ∙ (ap₂ _+_ (whole-length w p h) (whole-length w q k) ∙ sym (mul-add (lineBytes w) (count w p) (count w q))) in
+    length-append p q ∙ (ap₂ _+_ (whole-length w p h) (whole-length w q k) ∙ sym (mul-add (lineBytes w) (count w p) (count w q))) in
     ap (λ (x : ℕ). x % lineBytes w) m ∙ mul-mod-right (lineBytes w) (count w p + count w q)
 
 all-sized : (w : ℕ) (ls : List Line) → AllFit w ls → Every (Sized w) ls
@@ -178,6 +180,7 @@ all-sized w ls h = every-map (Fits w) (Sized w) (fits-sized w) ls (allFit-every 
 module _ (f : Format) (v l : ℕ) (p q : List ℕ) (s : Split (f .columns) p q) where
   abbrev ps : List Line
   ps = lines (f .columns) p
+
   abbrev qs : List Line
   qs = lines (f .columns) q
 
@@ -214,15 +217,16 @@ module _ (f : Format) (v l : ℕ) (p q : List ℕ) (s : Split (f .columns) p q) 
       left-small st c nb x k =
           let a : run (program (ps ++ qs)) .program ≡ run (program ps) .program ++ somes (x .0) = ap (λ (ds : List Decl). run ds .program) (whole-parts ps qs st (c .ends)) ∙ x .1 in
           let b : length (encodes (f .columns) (left-lines (ps ++ qs) (run (program (ps ++ qs)) .program))) ≤ l =
-              subst (λ (ls : List Line). length (encodes (f .columns) (left-lines ls (run (program ls) .program))) ≤ l) lines-parts (h .left-room) in
+          subst (λ (ls : List Line). length (encodes (f .columns) (left-lines ls (run (program ls) .program))) ≤ l) lines-parts (h .left-room) in
           let b' : length (encodes (f .columns) (left-lines (ps ++ qs) (run (program ps) .program ++ somes (x .0)))) ≤ l =
-              subst (λ (ds : List Dtype). length (encodes (f .columns) (left-lines (ps ++ qs) ds)) ≤ l) a b in
+          subst (λ (ds : List Dtype). length (encodes (f .columns) (left-lines (ps ++ qs) ds)) ≤ l) a b in
           omega arith
 
   -- ---- the first part's verdict sheet in its place
   module _ (pos : 0 < f .columns) (h : Sound f p v l) where
     abbrev vs : List Line
     vs = verdicts ps
+
     abbrev vb : List ℕ
     vb = encodes (f .columns) (verdicts ps)
 
@@ -287,8 +291,8 @@ module _ (f : Format) (v l : ℕ) (p q : List ℕ) (s : Split (f .columns) p q) 
         checks-import f ps qs st (far nb c) (h .checks) (rows st) .1 c
 
     pub sound-import : Sound f (vb ++ q) v l ↔ Sound f (p ++ q) v l
-    sound-import =
-        (λ k.
+    sound-import = (
+      λ k.
           let nv : NoBad (vs ++ qs) = subst NoBad lines-verdict (k .no-bad) in
           let nb : NoBad (ps ++ qs) = no-bad-append ps qs (h .no-bad) (no-bad-right vs qs nv) in
           let c : Checks f (ps ++ qs) = checks-to (no-bad-right vs qs nv) (subst (Checks f) lines-verdict (k .checks)) in
@@ -299,7 +303,7 @@ module _ (f : Format) (v l : ℕ) (p q : List ℕ) (s : Split (f .columns) p q) 
             verdict-room = omega (arith, k .verdict-room, both-length);
             left-room = subst (λ (ls : List Line). length (left-sheet f ls) ≤ l) (sym lines-parts) (subst (λ (x : List ℕ). length x ≤ l) (left-equal nb c) (subst (λ (ls : List Line). length (left-sheet f ls) ≤ l) lines-verdict (k .left-room)));
           },
-        λ k.
+      λ k.
           let nb : NoBad (ps ++ qs) = subst NoBad lines-parts (k .no-bad) in
           let c : Checks f (ps ++ qs) = subst (Checks f) lines-parts (k .checks) in
           record {
@@ -308,7 +312,8 @@ module _ (f : Format) (v l : ℕ) (p q : List ℕ) (s : Split (f .columns) p q) 
             checks = subst (Checks f) (sym lines-verdict) (checks-from nb c);
             verdict-room = omega (arith, k .verdict-room, both-length);
             left-room = subst (λ (ls : List Line). length (left-sheet f ls) ≤ l) (sym lines-verdict) (subst (λ (x : List ℕ). length x ≤ l) (sym (left-equal nb c)) (subst (λ (ls : List Line). length (left-sheet f ls) ≤ l) lines-parts (k .left-room)));
-          })
+          },
+    )
 
     pub sheets-import : Sound f (p ++ q) v l → sheets f (vb ++ q) ≡ sheets f (p ++ q)
     unfolding sheets
@@ -325,20 +330,20 @@ unfolding sheets verdict-sheet
 split-steps f v l pos =
     record {
       prefix-step = λ p q y s e.
-        let k : Sound f (p ++ q) v l = passes-sound f (p ++ q) v l (build-passes f (p ++ q) v l y e) in
-        (sheets f p, passes-build f p v l (sound-passes f p v l (s .first-whole) (sound-prefix f v l p q s k)));
+          let k : Sound f (p ++ q) v l = passes-sound f (p ++ q) v l (build-passes f (p ++ q) v l y e) in
+          (sheets f p, passes-build f p v l (sound-passes f p v l (s .first-whole) (sound-prefix f v l p q s k)));
       import-step = λ p q x s e.
-        let k : Passes f p v l = build-passes f p v l x e in
-        let h : Sound f p v l = passes-sound f p v l k in
-        let z : x ≡ sheets f p = some-same x (sheets f p) (sym e ∙ passes-build f p v l k) in
-        let vb : List ℕ = encodes (f .columns) (verdicts (lines (f .columns) p)) in
-        let i = sound-import f v l p q s pos h in
-        let wv : Whole (f .columns) (vb ++ q) = whole-append (f .columns) vb q (verdict-whole f v l p q s pos h) (s .second-whole) in
-        let wp : Whole (f .columns) (p ++ q) = whole-append (f .columns) p q (s .first-whole) (s .second-whole) in
-        ap (λ (y : Sheets). build f v l (y .verdict ++ q)) z
-        ∙ build-equal f (vb ++ q) (p ++ q) v l
-        (λ t. sound-passes f (p ++ q) v l wp (i .0 (passes-sound f (vb ++ q) v l t)), λ t. sound-passes f (vb ++ q) v l wv (i .1 (passes-sound f (p ++ q) v l t)))
-        (λ t. sheets-import f v l p q s pos h (i .0 (passes-sound f (vb ++ q) v l t)));
+          let k : Passes f p v l = build-passes f p v l x e in
+          let h : Sound f p v l = passes-sound f p v l k in
+          let z : x ≡ sheets f p = some-same x (sheets f p) (sym e ∙ passes-build f p v l k) in
+          let vb : List ℕ = encodes (f .columns) (verdicts (lines (f .columns) p)) in
+          let i = sound-import f v l p q s pos h in
+          let wv : Whole (f .columns) (vb ++ q) = whole-append (f .columns) vb q (verdict-whole f v l p q s pos h) (s .second-whole) in
+          let wp : Whole (f .columns) (p ++ q) = whole-append (f .columns) p q (s .first-whole) (s .second-whole) in
+          ap (λ (y : Sheets). build f v l (y .verdict ++ q)) z
+          ∙ build-equal f (vb ++ q) (p ++ q) v l
+          (λ t. sound-passes f (p ++ q) v l wp (i .0 (passes-sound f (vb ++ q) v l t)), λ t. sound-passes f (vb ++ q) v l wv (i .1 (passes-sound f (p ++ q) v l t)))
+          (λ t. sheets-import f v l p q s pos h (i .0 (passes-sound f (vb ++ q) v l t)));
     }
   where
     some-same : (x y : Sheets) → _≡_ {A = Option Sheets} (some x) (some y) → x ≡ y

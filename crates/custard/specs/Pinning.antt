@@ -153,8 +153,10 @@ module _ (ds es : List Decl) (distinct : Distinct (ds ++ es)) (apart : Apart ds 
       where
         no-info : TypeInfo
         no-info = record { ti-erased = false; ti-layout = L-opaque; ti-ctors = []; ti-record = false }
+
         same-count : length (take (length ds) (run (ds ++ es) .infos)) ≡ length ds
         same-count = length-take-le (length ds) (run (ds ++ es) .infos) (rw (length-infos, length-append) (omega arith))
+
         at : (i : ℕ) → i < length ds → getD (take (length ds) (run (ds ++ es) .infos)) i no-info ≡ getD (run ds .infos) i no-info
         at i h =
             getD-take (length ds) (run (ds ++ es) .infos) i no-info h
@@ -162,22 +164,26 @@ module _ (ds es : List Decl) (distinct : Distinct (ds ++ es)) (apart : Apart ds 
 
     -- and so does what is left
     pub prefix-program : (xs : List (Option Dtype)) × (run (ds ++ es) .program ≡ run ds .program ++ somes xs)
-    prefix-program =
-        (drop (length ds) whole,
-        run-program (ds ++ es)
-        ∙ (ap somes (sym (take-append-drop (length ds) whole))
-        ∙ (somes-append (take (length ds) whole) (drop (length ds) whole)
-        ∙ ap (λ (x : List Dtype). x ++ somes (drop (length ds) whole)) (ap somes same ∙ sym (run-program ds)))))
+    prefix-program = (
+      drop (length ds) whole,
+      run-program (ds ++ es)
+          ∙ (ap somes (sym (take-append-drop (length ds) whole))
+          ∙ (somes-append (take (length ds) whole) (drop (length ds) whole)
+          ∙ ap (λ (x : List Dtype). x ++ somes (drop (length ds) whole)) (ap somes same ∙ sym (run-program ds)))),
+    )
       where
         whole : List (Option Dtype)
         whole = table (left-at (ds ++ es)) (length (ds ++ es))
+
         same-count : length (take (length ds) whole) ≡ length ds
         same-count = length-take-le (length ds) whole (rw (length-table (left-at (ds ++ es)) (length (ds ++ es)), length-append) (omega arith))
+
         at : (i : ℕ) → i < length ds → getD (take (length ds) whole) i none ≡ getD (table (left-at ds) (length ds)) i none
         at i h =
             getD-take (length ds) whole i none h
             ∙ (getD-table (left-at (ds ++ es)) (length (ds ++ es)) i none (rw length-append (omega arith))
             ∙ (sym (prefix-left i h) ∙ sym (getD-table (left-at ds) (length ds) i none h)))
+
         same : take (length ds) whole ≡ table (left-at ds) (length ds)
         same = ext-getD none (take (length ds) whole) (table (left-at ds) (length ds)) (same-count ∙ sym (length-table (left-at ds) (length ds))) (λ i h. at i (omega (arith, same-count)))
 

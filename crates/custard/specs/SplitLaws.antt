@@ -2,7 +2,21 @@
 use mathlib.Core.Logic.{_↔_, _⊎_, inl, inr, ⊎-elim}
 use mathlib.Core.Path.{_≡_, refl, sym, _∙_, ap, ap₂, subst}
 use mathlib.Core.List.{
-  List, [], _∷_, _++_, map, append-assoc, append-nil, List·Memᴰ, List·Memᴰ·head, List·Memᴰ·tail, List·Memᴰ·not-nil, List·Memᴰ·cases-cons, List·Memᴰ·append-cases, Memᴰ·append-left, Memᴰ·append-right
+  List,
+  [],
+  _∷_,
+  _++_,
+  map,
+  append-assoc,
+  append-nil,
+  List·Memᴰ,
+  List·Memᴰ·head,
+  List·Memᴰ·tail,
+  List·Memᴰ·not-nil,
+  List·Memᴰ·cases-cons,
+  List·Memᴰ·append-cases,
+  Memᴰ·append-left,
+  Memᴰ·append-right,
 }
 use mathlib.Core.Bool.{Bool, true, false, _||_}
 use Prim.Native.Nat.{ℕ, zero, suc, _+_, _*_, _%_, _≤_, _<_}
@@ -24,7 +38,7 @@ use Rattle.custard.specs.Names.{dtype-names, Declared, undeclared, Disti
 use Rattle.custard.specs.NamesLaws.{position-le, position-name, position-first, position-append-left, position-append-right, undeclared-of}
 use Rattle.custard.specs.Cut.{build, builds, join, Whole, Declarations, program-names, Cut}
 use Rattle.custard.specs.ProgramLaws.{Starts, None, select-append, program-append, groups-append, groups-none, length-program, program-at, HeadAt, head-at, heads-before-program}
-use Rattle.custard.specs.RowsLaws.{Ends, ends-prefix, NoHeader, no-header, row5-prefix}
+use Rattle.custard.specs.RowsLaws.{Ends, raw-rawly, ends-prefix, NoHeader, no-header, row5-prefix}
 use Rattle.custard.specs.AnswerLaws.{Clear}
 use Rattle.custard.specs.PassLaws.{name-at, distinct-program}
 use Rattle.custard.specs.Pinning.{Apart, distinct-undeclared}
@@ -47,15 +61,15 @@ declared-head ls n d =
       inside = r .inside;
       begins = r .heads-it;
       named =
-        sym (name-at ls (r .place) (r .inside) (r .heads-it))
-        ∙ (ap (λ (k : ℕ). dtype-at (program ls) k .dt-name) (r .passed) ∙ position-name (program ls) n d);
+          sym (name-at ls (r .place) (r .inside) (r .heads-it))
+          ∙ (ap (λ (k : ℕ). dtype-at (program ls) k .dt-name) (r .passed) ∙ position-name (program ls) n d);
     }
 
 pub head-declared : (ls : List Line) (n : ℕ) → HeadNamed ls n → Declared (program ls) n
 head-declared ls n h =
     let k : heads-before ls (h .place) < length (program ls) = heads-before-program ls (h .place) (h .inside) (h .begins) in
     let p : position (program ls) n ≤ heads-before ls (h .place) =
-        position-first (program ls) n (heads-before ls (h .place)) k (name-at ls (h .place) (h .inside) (h .begins) ∙ h .named) in
+    position-first (program ls) n (heads-before ls (h .place)) k (name-at ls (h .place) (h .inside) (h .begins) ∙ h .named) in
     omega arith
 
 head-left : (a b : List Line) (n : ℕ) → HeadNamed a n → HeadNamed (a ++ b) n
@@ -106,9 +120,8 @@ lines-nil w = rw (zero-div (lineBytes w))
 lines-cut : (w : ℕ) (p q : List ℕ) → Whole w p → lines w (p ++ q) ≡ lines w p ++ lines w q
 lines-cut w p q h = lines-append w (count w p) p q (whole-length w p h)
 
--- PENDING
 raw-letter : (w : ℕ) (b : List ℕ) (i : ℕ) → isBad (line w b i) ≡ false → letter (raw w b i) ≡ letter (line w b i)
-raw-letter w b i h = ?
+raw-letter w b i h = raw-rawly w b i h .letters
 
 -- a unit's lines begin with a D line
 unit-starts : (w : ℕ) (u : List ℕ) → Declarations w u → NoBad (lines w u) → Starts is-head (lines w u)
@@ -225,6 +238,7 @@ module _ (w : ℕ) (header : List ℕ) (whole : Whole w header) (none : NoBad (l
     (nb : NoBad (lines w (header ++ join xs))) (ends : Ends (lines w (header ++ join xs))) where
   abbrev H : List Line
   H = lines w header
+
   abbrev X : List Line
   X = lines w (join xs)
 
@@ -261,12 +275,12 @@ module _ (w : ℕ) (header : List ℕ) (whole : Whole w header) (none : NoBad (l
       let ua : Units w as' = units-left w as' (u ∷ bs) (subst (Units w) e us) in
       let uu : Units w (u ∷ bs) = units-right w as' (u ∷ bs) (subst (Units w) e us) in
       let x : X ≡ A ++ (U ++ B) =
-          ap (λ (t : List (List ℕ)). lines w (join t)) e
-          ∙ (ap (lines w) (join-append as' (u ∷ bs))
-          ∙ (lines-cut w (join as') (u ++ join bs) (join-whole w as' ua) ∙ ap (λ (r : List Line). A ++ r) (lines-cut w u (join bs) (uu .0 .0)))) in
+      ap (λ (t : List (List ℕ)). lines w (join t)) e
+      ∙ (ap (lines w) (join-append as' (u ∷ bs))
+      ∙ (lines-cut w (join as') (u ++ join bs) (join-whole w as' ua) ∙ ap (λ (r : List Line). A ++ r) (lines-cut w u (join bs) (uu .0 .0)))) in
       let part : (k : ℕ) → select k X ≡ [] → select k U ≡ [] = λ k z.
-          nil-left (select k U) (select k B)
-          (sym (select-append k U B) ∙ nil-right (select k A) (select k (U ++ B)) (sym (select-append k A (U ++ B)) ∙ (ap (select k) (sym x) ∙ z))) in
+      nil-left (select k U) (select k B)
+      (sym (select-append k U B) ∙ nil-right (select k A) (select k (U ++ B)) (sym (select-append k A (U ++ B)) ∙ (ap (select k) (sym x) ∙ z))) in
       let nu : NoBad U = no-bad-left U B (no-bad-right A (U ++ B) (subst NoBad x (no-bad-right H X nb-parts))) in
       ap program (lines-cut w header u whole)
       ∙ (program-append H U (unit-starts w u (uu .0) nu) (part arg-line (units-plain .args)) (part type-line (units-plain .types))
@@ -279,9 +293,9 @@ module _ (w : ℕ) (b header : List ℕ) (units : List (List ℕ)) (cut : Cut w 
   header-none : NoBad (lines w header) → None is-head (lines w header)
   header-none nb =
       none-of is-head (lines w header) (λ i h.
-        let k : i < count w header = omega (arith, length-lines w header) in
-        let e : letter (raw w header i) ≡ letter (line w header i) = raw-letter w header i (ap isBad (sym (getD-lines w header i)) ∙ nb i h) in
-        ap (λ (x : ℕ). eqb x 68 || eqb x 73) (ap letter (getD-lines w header i) ∙ sym e) ∙ cut .header-only i k)
+      let k : i < count w header = omega (arith, length-lines w header) in
+      let e : letter (raw w header i) ≡ letter (line w header i) = raw-letter w header i (ap isBad (sym (getD-lines w header i)) ∙ nb i h) in
+      ap (λ (x : ℕ). eqb x 68 || eqb x 73) (ap letter (getD-lines w header i) ∙ sym e) ∙ cut .header-only i k)
 
   module _ (xs ys zs : List (List ℕ)) (e : units ≡ xs ++ (ys ++ zs)) where
     abbrev pre : List ℕ
@@ -298,8 +312,10 @@ module _ (w : ℕ) (b header : List ℕ) (units : List (List ℕ)) (cut : Cut w 
 
     abbrev P : List Line
     P = lines w pre
+
     abbrev Q : List Line
     Q = lines w (join ys)
+
     abbrev R : List Line
     R = lines w (join zs)
 
@@ -322,25 +338,33 @@ module _ (w : ℕ) (b header : List ℕ) (units : List (List ℕ)) (cut : Cut w 
       where
         st : Starts is-head Q
         st = join-starts w ys ys-units (no-bad-right P Q nb)
+
         np : NoBad P
         np = no-bad-left P Q nb
+
         ep : Ends P
         ep = ends-prefix P Q st ends
+
         parts : program (P ++ Q) ≡ program P ++ later P Q
         parts = program-parts P Q st ends
+
         dist : Distinct (program P ++ later P Q)
         dist = subst Distinct parts (distinct-program (P ++ Q) c6)
+
         r : OfUnit w (trees (lines w header)) xs (getD (program P) i no-decl)
         r =
             of-unit w (trees (lines w header)) xs (getD (program P) i no-decl)
             (subst (List·Memᴰ (getD (program P) i no-decl)) (program-units w header (cut .header-whole) header-none xs xs-units np ep) (mem-at (program P) i h))
+
         elsewhere : Declared (later P Q) n → Declared (program (lines w b)) n
         elsewhere d =
             subst (λ (ls : List Line). Declared (program ls) n) (sym lines-whole)
             (declared-left (P ++ Q) R n (subst (λ (ds : List Decl). Declared ds n) (sym parts) (declared-right (program P) (later P Q) n d)))
+
         declared-apart : Declared (program P) n → undeclared (later P Q) n ≡ true
         declared-apart d =
             subst (λ (k : ℕ). undeclared (later P Q) k ≡ true) (position-name (program P) n d) (distinct-undeclared (program P) (later P Q) dist (position (program P) n) d)
+
         told : OfUnit w (trees (lines w header)) xs (getD (program P) i no-decl) → Declared (program P) n ⊎ (Declared (program (lines w b)) n → ⊥)
         told r =
             let xs1 : List (List ℕ) = r .before-it in
@@ -350,27 +374,27 @@ module _ (w : ℕ) (b header : List ℕ) (units : List (List ℕ)) (cut : Cut w 
             let u2 : Units w (u ∷ xs2) = units-right w xs1 (u ∷ xs2) (subst (Units w) (r .split) xs-units) in
             let pre1 : List ℕ = header ++ join xs1 ++ u in
             let whole1 : Whole w (header ++ join xs1 ++ u) =
-                whole-append w (header ++ join xs1) u (whole-append w header (join xs1) (cut .header-whole) (join-whole w xs1 u1)) (u2 .0 .0) in
+            whole-append w (header ++ join xs1) u (whole-append w header (join xs1) (cut .header-whole) (join-whole w xs1 u1)) (u2 .0 .0) in
             let P1 : List Line = lines w (header ++ join xs1 ++ u) in
             let P2 : List Line = lines w (join xs2) in
             let bytes : header ++ join xs ≡ (header ++ join xs1 ++ u) ++ join xs2 =
-                ap (λ (t : List (List ℕ)). header ++ join t) (r .split)
-                ∙ (ap (λ (t : List ℕ). header ++ t) (join-append xs1 (u ∷ xs2)) ∙ (sym (append-assoc header (join xs1) (u ++ join xs2)) ∙ sym (append-assoc (header ++ join xs1) u (join xs2)))) in
+            ap (λ (t : List (List ℕ)). header ++ join t) (r .split)
+            ∙ (ap (λ (t : List ℕ). header ++ t) (join-append xs1 (u ∷ xs2)) ∙ (sym (append-assoc header (join xs1) (u ++ join xs2)) ∙ sym (append-assoc (header ++ join xs1) u (join xs2)))) in
             let parts1 : P ≡ P1 ++ P2 = ap (lines w) bytes ∙ lines-cut w (header ++ join xs1 ++ u) (join xs2) whole1 in
             let nb1 : NoBad (P1 ++ P2) = subst NoBad parts1 np in
             let st2 : Starts is-head P2 = join-starts w xs2 (u2 .1) (no-bad-right P1 P2 nb1) in
             let nh : NoHeader P2 = no-header P1 P2 st2 (subst Ends parts1 ep) in
             let c : Clear (length (P1 ++ P2)) (row5 (P1 ++ P2)) = subst (λ (ls : List Line). Clear (length ls) (row5 ls)) parts1 c5 in
             let split1 : units ≡ xs1 ++ (u ∷ (xs2 ++ (ys ++ zs))) =
-                e ∙ (ap (λ (t : List (List ℕ)). t ++ (ys ++ zs)) (r .split) ∙ append-assoc xs1 (u ∷ xs2) (ys ++ zs)) in
+            e ∙ (ap (λ (t : List (List ℕ)). t ++ (ys ++ zs)) (r .split) ∙ append-assoc xs1 (u ∷ xs2) (ys ++ zs)) in
             let two : row2 w (header ++ join xs1 ++ u) ≡ count w (header ++ join xs1 ++ u) = passed2 (header ++ join xs1 ++ u) (no-bad-left P1 P2 nb1) in
             let five : first (row5 P1) (count w (header ++ join xs1 ++ u)) ≡ count w (header ++ join xs1 ++ u) =
-                first-none (row5 P1) (count w (header ++ join xs1 ++ u)) (λ k q.
-                  let t : k < length P1 = omega (arith, length-lines w (header ++ join xs1 ++ u)) in
-                  sym (row5-prefix P1 P2 k (nh .names) (nh .args) (nh .types) t) ∙ c k (rw length-append (omega arith))) in
+            first-none (row5 P1) (count w (header ++ join xs1 ++ u)) (λ k q.
+            let t : k < length P1 = omega (arith, length-lines w (header ++ join xs1 ++ u)) in
+            sym (row5-prefix P1 P2 k (nh .names) (nh .args) (nh .types) t) ∙ c k (rw length-append (omega arith))) in
             let mem : List·Memᴰ n (program-names (program (lines w (header ++ u)))) =
-                subst (λ (ds : List Decl). List·Memᴰ n (program-names ds)) (sym (unit-program w header (cut .header-whole) header-none xs xs-units np ep xs1 xs2 u (r .split)))
-                (mem-names (map (decl-of (trees (lines w header))) (groups is-head (lines w u))) (getD (program P) i no-decl) n (r .declares) m) in
+            subst (λ (ds : List Decl). List·Memᴰ n (program-names ds)) (sym (unit-program w header (cut .header-whole) header-none xs xs-units np ep xs1 xs2 u (r .split)))
+            (mem-names (map (decl-of (trees (lines w header))) (groups is-head (lines w u))) (getD (program P) i no-decl) n (r .declares) m) in
             ⊎-elim
             (λ d. inl (subst (λ (ls : List Line). Declared (program ls) n) (sym parts1) (declared-left P1 P2 n d)))
             (λ z. inr z)

@@ -3,25 +3,22 @@
 use mathlib.Core.Logic.{_↔_}
 use mathlib.Core.Path.{_≡_, refl, sym, _∙_, ap, ap₂, subst}
 use mathlib.Core.List.{List, [], _∷_, _++_, map}
-use mathlib.Core.Bool.{Bool, true, false, _&&_, _||_, not}
+use mathlib.Core.Bool.{Bool, true, false, not}
 use mathlib.Core.Option.{Option, none, some}
 use Prim.Native.Nat.{ℕ, zero, suc, _+_, _≤_, _<_}
 use native.Mathlib.Omega.{arith}
-use lib.Dec.{eqb, leb, ltb}
+use lib.Dec.{eqb}
 use lib.ListN.{length, drop, length-append}
-use borrow.Author.Tests.{ltb-true, ltb-false, le-leb, eqb-true, not-true, not-false}
 use Rattle.sheet.specs.Format.{Format}
-use Rattle.sheet.specs.Line.{Line, letter, number}
-use Rattle.sheet.specs.Sheet.{first}
-use Rattle.sheet.specs.FirstLaws.{first-le, none-first}
+use Rattle.sheet.specs.Line.{Line}
 use Rattle.custard.specs.Decl.{Decl, Dtype, TypeInfo}
-use Rattle.custard.specs.Program.{field-line, verdict-line, is, is-head, select, groups, trees, decl-of, program}
-use Rattle.custard.specs.Rows.{line-at, zeros-from, good-numbers, row4, row5, row6, row7}
+use Rattle.custard.specs.Program.{is-head, groups, trees, decl-of, program}
+use Rattle.custard.specs.Rows.{row3, row4, row5, row6, row7}
 use Rattle.custard.specs.Run.{run, layouts-of, returns, decl-fault}
 use Rattle.custard.specs.Output.{verdict-lines, left-lines}
 use Rattle.custard.specs.Names.{Distinct}
-use Rattle.custard.specs.ProgramLaws.{Starts, pins, program-append, AllEnded, Ended, told-groups, run-told, program-cut, verdict-lines-cut, left-lines-cut}
-use Rattle.custard.specs.RowsLaws.{Ends, ends-prefix, ends-whole, NoHeader, no-header, row4-prefix, row5-prefix, row6-prefix, row7-prefix}
+use Rattle.custard.specs.ProgramLaws.{Starts, pins, program-append, AllEnded, AllTold, length-verdict-lines, told-groups, run-told, program-cut, verdict-lines-cut, left-lines-cut}
+use Rattle.custard.specs.RowsLaws.{Ends, row3-ends, ends-row3, ends-prefix, ends-whole, ended-row5, row3-verdict, row4-verdict, row5-verdict, row6-verdict, row7-cut, NoHeader, no-header, row4-prefix, row5-prefix, row6-prefix, row7-prefix}
 use Rattle.custard.specs.AnswerLaws.{Clear}
 use Rattle.custard.specs.PassLaws.{distinct-program, own-imports}
 use Rattle.custard.specs.Pinning.{Apart, prefix-fault, prefix-returns, first-length, prefix-infos, imported-program, imported-infos, imported-fault, imported-returns}
@@ -36,46 +33,6 @@ pub record Checks (f : Format) (ls : List Line) : Type 0 where
   pub clear7 : Clear (length ls) (row7 ls)
   pub clear8 : Clear (length (program ls)) (returns (program ls) (layouts-of (program ls)))
   pub clear9 : Clear (length (program ls)) (λ k. not (eqb (decl-fault (f .nodes) (program ls) (layouts-of (program ls)) k) 0))
-
--- row 5 has the last numbers of F and V lines 0
-zero-at : (l : Line) (k : ℕ) → zeros-from 3 l ≡ true → 3 ≤ k → k < 5 → number l k ≡ 0
-unfolding zeros-from
-zero-at l k h a b =
-    let p : ℕ → Bool = λ i. leb 3 i && not (eqb (number l i) 0) in
-    let e : first p 5 ≡ 5 = omega (arith, ltb-false (first p 5) 5 (not-true (ltb (first p 5) 5) h), first-le p 5) in
-    let q : (leb 3 k && not (eqb (number l k) 0)) ≡ false = none-first p 5 e k b in
-    eqb-true (number l k) 0 (not-false (eqb (number l k) 0) (rw (le-leb 3 k a) at q))
-
-and-last : (a b c : Bool) → not (a && b && c) ≡ false → c ≡ true
-and-last true true true h = refl
-and-last true true false h = sym h
-and-last true false c h = let z : _≡_ {A = ℕ} 0 1 = cc in absurd (omega arith)
-and-last false b c h = let z : _≡_ {A = ℕ} 0 1 = cc in absurd (omega arith)
-
-field-zeros : (ls : List Line) (i : ℕ) → row5 ls i ≡ false → letter (line-at ls i) ≡ 70 → zeros-from 3 (line-at ls i) ≡ true
-unfolding row5 good-numbers
-field-zeros ls i h e =
-    and-last (ltb (number (line-at ls i) 0) (length (select 78 ls))) (ltb (number (line-at ls i) 1) (length (select 89 ls))) (zeros-from 3 (line-at ls i)) (rw e at h)
-
-verdict-zeros : (ls : List Line) (i : ℕ) → row5 ls i ≡ false → letter (line-at ls i) ≡ 86 → zeros-from 3 (line-at ls i) ≡ true
-unfolding row5 good-numbers
-verdict-zeros ls i h e = not-false (zeros-from 3 (line-at ls i)) (rw e at h)
-
-ended-at : (ls : List Line) (i : ℕ) → row5 ls i ≡ false → Ended (line-at ls i)
-ended-at ls i h t = go (is field-line (line-at ls i)) refl t
-  where
-    end : zeros-from 3 (line-at ls i) ≡ true → (number (line-at ls i) 3 ≡ 0) × (number (line-at ls i) 4 ≡ 0)
-    end z = (zero-at (line-at ls i) 3 z (omega arith) (omega arith), zero-at (line-at ls i) 4 z (omega arith) (omega arith))
-    go : (b : Bool) → is field-line (line-at ls i) ≡ b → (b || is verdict-line (line-at ls i)) ≡ true → (number (line-at ls i) 3 ≡ 0) × (number (line-at ls i) 4 ≡ 0)
-    go true e u = end (field-zeros ls i h (eqb-true (letter (line-at ls i)) 70 e))
-    go false e u = end (verdict-zeros ls i h (eqb-true (letter (line-at ls i)) 86 u))
-
-all-ended : (ls : List Line) → ((i : ℕ) → i < length ls → Ended (line-at ls i)) → AllEnded ls
-all-ended [] h = tt
-all-ended (l ∷ ls) h = (h 0 (omega arith), all-ended ls (λ i k. h (suc i) (omega arith)))
-
-pub clear5-ended : (ls : List Line) → Clear (length ls) (row5 ls) → AllEnded ls
-clear5-ended ls h = all-ended ls (λ i k. ended-at ls i (h i k))
 
 -- the declarations of the second part, with the types of the first
 abbrev pub later : List Line → List Line → List Decl
@@ -109,9 +66,9 @@ module _ (f : Format) (ps qs : List Line) (starts : Starts is-head qs) (apart : 
       let e : program (ps ++ qs) ≡ program ps ++ later ps qs = whole-parts ps qs starts (c .ends) in
       let d : Distinct (program ps ++ later ps qs) = parts-distinct ps qs starts (c .ends) (c .clear6) in
       let c8 : Clear (length (program ps ++ later ps qs)) (returns (program ps ++ later ps qs) (layouts-of (program ps ++ later ps qs))) =
-          subst (λ (ds : List Decl). Clear (length ds) (returns ds (layouts-of ds))) e (c .clear8) in
+      subst (λ (ds : List Decl). Clear (length ds) (returns ds (layouts-of ds))) e (c .clear8) in
       let c9 : Clear (length (program ps ++ later ps qs)) (λ k. not (eqb (decl-fault (f .nodes) (program ps ++ later ps qs) (layouts-of (program ps ++ later ps qs)) k) 0)) =
-          subst (λ (ds : List Decl). Clear (length ds) (λ k. not (eqb (decl-fault (f .nodes) ds (layouts-of ds) k) 0))) e (c .clear9) in
+      subst (λ (ds : List Decl). Clear (length ds) (λ k. not (eqb (decl-fault (f .nodes) ds (layouts-of ds) k) 0))) e (c .clear9) in
       record {
         ends = ends-prefix ps qs starts (c .ends);
         clear4 = clear-left ps qs (row4 f (ps ++ qs)) (row4 f ps) (c .clear4) (λ i h. row4-prefix f ps qs i h);
@@ -126,22 +83,40 @@ module _ (f : Format) (ps qs : List Line) (starts : Starts is-head qs) (apart : 
 abbrev pub verdicts : List Line → List Line
 verdicts ps = verdict-lines ps (run (program ps) .infos)
 
--- the rows that look at lines alone: the same test at each line, and row 7 passes on a verdict sheet
+-- The rows that look at lines alone test the same at each line.
 pub record SameRows (f : Format) (ps qs : List Line) : Type 0 where
   pub same-length : length (verdicts ps ++ qs) ≡ length (ps ++ qs)
   pub same-ends : Ends (verdicts ps ++ qs) ↔ Ends (ps ++ qs)
   pub same4 : (i : ℕ) → row4 f (verdicts ps ++ qs) i ≡ row4 f (ps ++ qs) i
   pub same5 : (i : ℕ) → row5 (verdicts ps ++ qs) i ≡ row5 (ps ++ qs) i
   pub same6 : (i : ℕ) → row6 (verdicts ps ++ qs) i ≡ row6 (ps ++ qs) i
-  pub first7 : (i : ℕ) → i < length ps → row7 (verdicts ps ++ qs) i ≡ false
-  pub rest7 : (i : ℕ) → length ps ≤ i → row7 (verdicts ps ++ qs) i ≡ row7 (ps ++ qs) i
+  pub same7 : (i : ℕ) → row7 (verdicts ps ++ qs) i ≡ row7 (ps ++ qs) i
+
+pub same-rows : (f : Format) (ps qs : List Line) → Checks f ps → Starts is-head qs → SameRows f ps qs
+same-rows f ps qs c st =
+    let tis : List TypeInfo = run (program ps) .infos in
+    let t : AllTold (program ps) tis = run-told (program ps) in
+    let n : length tis ≡ length (groups is-head ps) = told-groups ps tis t in
+    let h : AllEnded ps = ended-row5 ps (c .clear5) in
+    let three : (i : ℕ) → row3 (verdicts ps ++ qs) i ≡ row3 (ps ++ qs) i = row3-verdict ps qs tis n h in
+    record {
+      same-length = length-append (verdicts ps) qs ∙ (ap (λ (k : ℕ). k + length qs) (length-verdict-lines ps tis n) ∙ sym (length-append ps qs));
+      same-ends = (
+        λ e. row3-ends (ps ++ qs) (λ i k. sym (three i) ∙ ends-row3 (verdicts ps ++ qs) e i),
+        λ e. row3-ends (verdicts ps ++ qs) (λ i k. three i ∙ ends-row3 (ps ++ qs) e i),
+      );
+      same4 = row4-verdict ps qs tis n h f;
+      same5 = row5-verdict ps qs tis n h;
+      same6 = row6-verdict ps qs tis n h;
+      same7 = row7-cut ps qs tis st (ends-whole ps (c .ends)) t (c .clear7);
+    }
 
 clear-same : (m n : ℕ) (p q : ℕ → Bool) → m ≡ n → ((i : ℕ) → p i ≡ q i) → Clear m p → Clear n q
 clear-same m n p q e s h i k = sym (s i) ∙ h i (omega arith)
 
 module _ (f : Format) (ps qs : List Line) (starts : Starts is-head qs) (apart : Apart (program ps) (later ps qs)) (c : Checks f ps) (r : SameRows f ps qs) where
   ended : AllEnded ps
-  ended = clear5-ended ps (c .clear5)
+  ended = ended-row5 ps (c .clear5)
 
   -- its program has the first part imported
   pub program-imported : Ends (ps ++ qs) → program (verdicts ps ++ qs) ≡ pins (program ps) (run (program ps) .infos) ++ later ps qs
@@ -149,23 +124,9 @@ module _ (f : Format) (ps qs : List Line) (starts : Starts is-head qs) (apart : 
       let n : NoHeader qs = no-header ps qs starts e in
       program-cut ps qs (run (program ps) .infos) (run-told (program ps)) (ends-whole ps (c .ends)) ended starts (n .args) (n .types)
 
-  seven-to : Clear (length (ps ++ qs)) (row7 (ps ++ qs)) → Clear (length (verdicts ps ++ qs)) (row7 (verdicts ps ++ qs))
-  seven-to h i k = go (ltb i (length ps)) refl
-    where
-      go : (b : Bool) → ltb i (length ps) ≡ b → row7 (verdicts ps ++ qs) i ≡ false
-      go true e = r .first7 i (ltb-true i (length ps) e)
-      go false e = r .rest7 i (ltb-false i (length ps) e) ∙ h i (omega (arith, r .same-length))
-
-  seven-from : Clear (length (verdicts ps ++ qs)) (row7 (verdicts ps ++ qs)) → Clear (length (ps ++ qs)) (row7 (ps ++ qs))
-  seven-from h i k = go (ltb i (length ps)) refl
-    where
-      go : (b : Bool) → ltb i (length ps) ≡ b → row7 (ps ++ qs) i ≡ false
-      go true e = let j : i < length ps = ltb-true i (length ps) e in row7-prefix ps qs i j ∙ c .clear7 i j
-      go false e = sym (r .rest7 i (ltb-false i (length ps) e)) ∙ h i (omega (arith, r .same-length))
-
   pub checks-import : Checks f (verdicts ps ++ qs) ↔ Checks f (ps ++ qs)
-  checks-import =
-      (λ k.
+  checks-import = (
+    λ k.
         let e : Ends (ps ++ qs) = r .same-ends .0 (k .ends) in
         let six : Clear (length (ps ++ qs)) (row6 (ps ++ qs)) = clear-same (length (verdicts ps ++ qs)) (length (ps ++ qs)) (row6 (verdicts ps ++ qs)) (row6 (ps ++ qs)) (r .same-length) (r .same6) (k .clear6) in
         let d : Distinct (program ps ++ later ps qs) = parts-distinct ps qs starts e six in
@@ -174,43 +135,51 @@ module _ (f : Format) (ps qs : List Line) (starts : Starts is-head qs) (apart : 
           clear4 = clear-same (length (verdicts ps ++ qs)) (length (ps ++ qs)) (row4 f (verdicts ps ++ qs)) (row4 f (ps ++ qs)) (r .same-length) (r .same4) (k .clear4);
           clear5 = clear-same (length (verdicts ps ++ qs)) (length (ps ++ qs)) (row5 (verdicts ps ++ qs)) (row5 (ps ++ qs)) (r .same-length) (r .same5) (k .clear5);
           clear6 = six;
-          clear7 = seven-from (k .clear7);
+          clear7 = clear-same (length (verdicts ps ++ qs)) (length (ps ++ qs)) (row7 (verdicts ps ++ qs)) (row7 (ps ++ qs)) (r .same-length) (r .same7) (k .clear7);
           clear8 = loops e d .0 (k .clear8);
           clear9 = faults e d .0 (k .clear9);
         },
-      λ k.
+    λ k.
         let d : Distinct (program ps ++ later ps qs) = parts-distinct ps qs starts (k .ends) (k .clear6) in
         record {
           ends = r .same-ends .1 (k .ends);
           clear4 = clear-same (length (ps ++ qs)) (length (verdicts ps ++ qs)) (row4 f (ps ++ qs)) (row4 f (verdicts ps ++ qs)) (sym (r .same-length)) (λ i. sym (r .same4 i)) (k .clear4);
           clear5 = clear-same (length (ps ++ qs)) (length (verdicts ps ++ qs)) (row5 (ps ++ qs)) (row5 (verdicts ps ++ qs)) (sym (r .same-length)) (λ i. sym (r .same5 i)) (k .clear5);
           clear6 = clear-same (length (ps ++ qs)) (length (verdicts ps ++ qs)) (row6 (ps ++ qs)) (row6 (verdicts ps ++ qs)) (sym (r .same-length)) (λ i. sym (r .same6 i)) (k .clear6);
-          clear7 = seven-to (k .clear7);
+          clear7 = clear-same (length (ps ++ qs)) (length (verdicts ps ++ qs)) (row7 (ps ++ qs)) (row7 (verdicts ps ++ qs)) (sym (r .same-length)) (λ i. sym (r .same7 i)) (k .clear7);
           clear8 = loops (k .ends) d .1 (k .clear8);
           clear9 = faults (k .ends) d .1 (k .clear9);
-        })
+        },
+  )
     where
       A : List Decl
       A = program ps ++ later ps qs
+
       A' : List Decl
       A' = pins (program ps) (run (program ps) .infos) ++ later ps qs
+
       Loops : List Decl → Type 0
       Loops ds = Clear (length ds) (returns ds (layouts-of ds))
+
       Faults : List Decl → Type 0
       Faults ds = Clear (length ds) (λ k. not (eqb (decl-fault (f .nodes) ds (layouts-of ds) k) 0))
+
       loops : Ends (ps ++ qs) → Distinct A → Loops (program (verdicts ps ++ qs)) ↔ Loops (program (ps ++ qs))
       loops e d =
           let s = imported-returns (program ps) (later ps qs) d apart (own-imports ps) in
-          let n : length A ≡ length A' = first-length (program ps) (later ps qs) d apart (own-imports ps) in
-          (λ k. subst Loops (sym (whole-parts ps qs starts e)) (clear-same (length A') (length A) (returns A' (layouts-of A')) (returns A (layouts-of A)) (sym n) (λ i. sym (s i)) (subst Loops (program-imported e) k)),
-          λ k. subst Loops (sym (program-imported e)) (clear-same (length A) (length A') (returns A (layouts-of A)) (returns A' (layouts-of A')) n s (subst Loops (whole-parts ps qs starts e) k)))
+          let n : length A ≡ length A' = first-length (program ps) (later ps qs) d apart (own-imports ps) in (
+            λ k. subst Loops (sym (whole-parts ps qs starts e)) (clear-same (length A') (length A) (returns A' (layouts-of A')) (returns A (layouts-of A)) (sym n) (λ i. sym (s i)) (subst Loops (program-imported e) k)),
+            λ k. subst Loops (sym (program-imported e)) (clear-same (length A) (length A') (returns A (layouts-of A)) (returns A' (layouts-of A')) n s (subst Loops (whole-parts ps qs starts e) k)),
+          )
+
       faults : Ends (ps ++ qs) → Distinct A → Faults (program (verdicts ps ++ qs)) ↔ Faults (program (ps ++ qs))
       faults e d =
           let s = imported-fault (program ps) (later ps qs) d apart (own-imports ps) (f .nodes) in
           let n : length A ≡ length A' = first-length (program ps) (later ps qs) d apart (own-imports ps) in
-          let t : (ds : List Decl) → ℕ → Bool = λ ds k. not (eqb (decl-fault (f .nodes) ds (layouts-of ds) k) 0) in
-          (λ k. subst Faults (sym (whole-parts ps qs starts e)) (clear-same (length A') (length A) (t A') (t A) (sym n) (λ i. ap (λ (x : ℕ). not (eqb x 0)) (sym (s i))) (subst Faults (program-imported e) k)),
-          λ k. subst Faults (sym (program-imported e)) (clear-same (length A) (length A') (t A) (t A') n (λ i. ap (λ (x : ℕ). not (eqb x 0)) (s i)) (subst Faults (whole-parts ps qs starts e) k)))
+          let t : (ds : List Decl) → ℕ → Bool = λ ds k. not (eqb (decl-fault (f .nodes) ds (layouts-of ds) k) 0) in (
+            λ k. subst Faults (sym (whole-parts ps qs starts e)) (clear-same (length A') (length A) (t A') (t A) (sym n) (λ i. ap (λ (x : ℕ). not (eqb x 0)) (sym (s i))) (subst Faults (program-imported e) k)),
+            λ k. subst Faults (sym (program-imported e)) (clear-same (length A) (length A') (t A) (t A') n (λ i. ap (λ (x : ℕ). not (eqb x 0)) (s i)) (subst Faults (whole-parts ps qs starts e) k)),
+          )
 
   -- the two sheets are those of the whole
   pub verdict-lines-import : Checks f (ps ++ qs)
@@ -222,9 +191,9 @@ module _ (f : Format) (ps qs : List Line) (starts : Starts is-head qs) (apart : 
       let us : List TypeInfo = drop (length (program ps)) (run (program ps ++ later ps qs) .infos) in
       let n : length tis ≡ length (groups is-head ps) = told-groups ps tis (run-told (program ps)) in
       let a : run (program (verdicts ps ++ qs)) .infos ≡ tis ++ us =
-          ap (λ (ds : List Decl). run ds .infos) (program-imported (k .ends)) ∙ (sym (imported-infos (program ps) (later ps qs) d apart own) ∙ prefix-infos (program ps) (later ps qs) d apart own) in
+      ap (λ (ds : List Decl). run ds .infos) (program-imported (k .ends)) ∙ (sym (imported-infos (program ps) (later ps qs) d apart own) ∙ prefix-infos (program ps) (later ps qs) d apart own) in
       let b : run (program (ps ++ qs)) .infos ≡ tis ++ us =
-          ap (λ (ds : List Decl). run ds .infos) (whole-parts ps qs starts (k .ends)) ∙ prefix-infos (program ps) (later ps qs) d apart own in
+      ap (λ (ds : List Decl). run ds .infos) (whole-parts ps qs starts (k .ends)) ∙ prefix-infos (program ps) (later ps qs) d apart own in
       ap (verdict-lines (verdicts ps ++ qs)) a ∙ (verdict-lines-cut ps qs tis tis us starts n n ∙ ap (verdict-lines (ps ++ qs)) (sym b))
 
   pub left-lines-import : Checks f (ps ++ qs)
@@ -235,6 +204,6 @@ module _ (f : Format) (ps qs : List Line) (starts : Starts is-head qs) (apart : 
       let tis : List TypeInfo = run (program ps) .infos in
       let n : length tis ≡ length (groups is-head ps) = told-groups ps tis (run-told (program ps)) in
       let e : run (program (verdicts ps ++ qs)) .program ≡ run (program (ps ++ qs)) .program =
-          ap (λ (ds : List Decl). run ds .program) (program-imported (k .ends))
-          ∙ (sym (imported-program (program ps) (later ps qs) d apart own) ∙ ap (λ (ds : List Decl). run ds .program) (sym (whole-parts ps qs starts (k .ends)))) in
+      ap (λ (ds : List Decl). run ds .program) (program-imported (k .ends))
+      ∙ (sym (imported-program (program ps) (later ps qs) d apart own) ∙ ap (λ (ds : List Decl). run ds .program) (sym (whole-parts ps qs starts (k .ends)))) in
       ap (left-lines (verdicts ps ++ qs)) e ∙ left-lines-cut ps qs tis (run (program (ps ++ qs)) .program) n ended
