@@ -15,8 +15,37 @@ use Rattle.columns.specs.Column.{pick, _⇒_∥_}
 use Rattle.sheet.specs.Line.{Line, bad, letter, number}
 use Rattle.sheet.specs.LineLaws.{both}
 use Rattle.custard.specs.Cty.{Cty, TUnit}
-use Rattle.custard.specs.Decl.{Field, Body, TAbstract, TAbbrev, TRecord, TVariant, Dtype, ctors-of, ctors-of-tydef, CtorLayout, Layout, L-erased, L-newtype, L-struct, L-abbrev, L-opaque, close-body}
-use Rattle.custard.specs.Layout.{newtype-of-ctor, newtype-of}
+use Rattle.custard.specs.Decl.{
+  Field,
+  Body,
+  TAbstract,
+  TAbbrev,
+  TRecord,
+  TVariant,
+  Dtype,
+  ctors-of,
+  ctors-of-tydef,
+  CtorLayout,
+  Layout,
+  L-erased,
+  L-newtype,
+  L-struct,
+  L-abbrev,
+  L-opaque,
+  TypeInfo,
+  Origin,
+  here,
+  imported,
+  Decl,
+  no-decl,
+  dtype-at,
+  origin-at,
+  close-body,
+  close-fields,
+}
+use Rattle.custard.specs.Erasure.{marked, erasure-fixpoint}
+use Rattle.custard.specs.Layout.{ctor-layouts, newtype-of-ctor, newtype-of, dropped, layout-of}
+use Rattle.custard.specs.Run.{layouts-of}
 use Rattle.custard.specs.Program.{
   ctor-line,
   field-line,
@@ -38,11 +67,17 @@ use Rattle.custard.specs.Program.{
   layout-by,
   info-of,
   verdict-of,
+  trees,
+  dtype-of,
+  decl-of,
+  program,
 }
 use Rattle.custard.specs.Rows.{line-at, last-head, head-of, kept-after, one-ctor, good-verdict, good-verdicts, row7}
 use Rattle.custard.specs.AnswerLaws.{Clear}
-use Rattle.custard.specs.ProgramLaws.{None, false-true}
-use Rattle.custard.specs.ResolveLaws.{StructMatches, OpaqueMatches, Matches}
+use Rattle.custard.specs.ProgramLaws.{None, false-true, length-program, program-at, HeadAt, head-at}
+use Rattle.custard.specs.ResolveLaws.{StructMatches, OpaqueMatches, Matches, Newtype, candidate-newtype, layout-matches}
+use Rattle.custard.specs.LayoutLaws.{candidates-of, getD-candidates, getD-layouts}
+use Rattle.custard.specs.RunLaws.{lay, layout-of-decl, left-at}
 
 -- ---- an import's layout goes with its body
 or-true : (a b : Bool) → (a || b) ≡ true → (a ≡ true) ⊎ (b ≡ true)
@@ -245,3 +280,50 @@ module _ (ls : List Line) (pass : Clear (length ls) (row7 ls)) where
           let t = row7-verdict ls j (pass j l) (ap letter (sym q) ∙ r .is-verdict) (ap (is import-line) g ∙ m) in
           rw (r .found, q)
           (verdict-matches (line-at ls i) (line-at ls j) (kept-after 0 (take j ls)) b cls n s (ap (λ (x : Line). good-verdict x (kept-after 0 (take j ls)) (line-at ls j)) (sym g) ∙ t))
+
+  import-matches : (i : ℕ) → i < length ls → is-head (line-at ls i) ≡ true → (d : Decl) → d ≡ decl-of (trees ls) (record { head = line-at ls i; rest = before is-head (drop (suc i) ls) }) →
+      (ti : TypeInfo) → d .origin ≡ imported ti → Matches (d .dtype .dt-body) (ti .ti-layout)
+  unfolding decl-of info-of close-fields dtype-of
+  import-matches i h e d q ti o = rw q (go (is import-line (line-at ls i)) refl (ap (λ (x : Decl). x .origin) (sym q) ∙ o))
+    where
+      g : Group
+      g = record { head = line-at ls i; rest = before is-head (drop (suc i) ls) }
+
+      t : Dtype
+      t = close-fields (dtype-of (trees ls) g)
+
+      own : TypeInfo
+      own = info-of t (g .rest) (verdict-of (g .rest))
+
+      go : (c : Bool) → is import-line (line-at ls i) ≡ c → pick c (imported own) here ≡ imported ti → Matches (t .dt-body) (ti .ti-layout)
+      go true m p =
+          let z : own ≡ ti = cc in
+          subst (λ (x : TypeInfo). Matches (t .dt-body) (x .ti-layout)) z
+          (group-matches i h e m (t .dt-body) (ctor-layouts-by (ctors-of-tydef t) (keeps-of (t .dt-body) (g .rest)))
+          (λ k. close-number (dtype-of (trees ls) g .dt-params) (dtype-of (trees ls) g .dt-body) ∙ body-of-number (trees ls) (number (line-at ls i) 2) (number (line-at ls i) 4) (g .rest) k)
+          (λ k. by-matches (t .dt-name) (t .dt-body) (g .rest) k))
+      go false m p = let z : _≡_ {A = ℕ} 0 1 = cc in absurd (omega arith)
+
+  -- Where row 7 passes, every declaration's layout goes with its body.
+  pub program-matches : (i : ℕ) → i < length (program ls) → Matches (dtype-at (program ls) i .dt-body) (layout-of-decl (program ls) i)
+  unfolding layouts-of layout-of
+  program-matches i h = rw (getD-layouts ds s i L-opaque h) (go (origin-at ds i) refl)
+    where
+      ds : List Decl
+      ds = program ls
+
+      s : List Bool
+      s = erasure-fixpoint ds .marks
+
+      cand : Option Layout
+      cand = getD (candidates-of ds s) i none
+
+      newtype-cand : Newtype cand
+      newtype-cand = rw (getD-candidates ds (marked ds s) s i none h) (candidate-newtype (dtype-at ds i) (origin-at ds i) (getD s i false) (ctor-layouts (marked ds s) (dtype-at ds i)))
+
+      go : (o : Origin) → origin-at ds i ≡ o → Matches (dtype-at ds i .dt-body) (layout-of (dtype-at ds i) o (getD s i false) (dropped ds (candidates-of ds s) i) cand (ctor-layouts (marked ds s) (dtype-at ds i)))
+      go here e = layout-matches (marked ds s) (dtype-at ds i) (getD s i false) (dropped ds (candidates-of ds s) i) cand newtype-cand
+      go (imported ti) e =
+          let r : HeadAt ls i = head-at ls i (omega (arith, length-program ls)) in
+          let q = ap (λ (k : ℕ). getD ds k no-decl) (sym (r .passed)) ∙ program-at ls (r .place) no-decl (r .inside) (r .heads-it) in
+          import-matches (r .place) (r .inside) (r .heads-it) (getD ds i no-decl) q ti e
