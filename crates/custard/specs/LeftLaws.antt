@@ -509,7 +509,7 @@ module _ (f : Format) (b : List ℕ) (v l : ℕ) (ample : Ample f) (pass : Passe
   unfolding verdict-sheet row1
   verdict-sheet-length =
       let w : ℕ = f .columns in
-      let e : length (groups is-head sheet-lines) ≡ length (run sheet-program .infos) = length-groups sheet-lines ∙ (sym (length-program sheet-lines) ∙ sym (length-infos sheet-program)) in
+      let e : length (groups is-head sheet-lines) ≡ length (run sheet-program .infos) = length-groups sheet-lines ∙ sym (length-infos sheet-program ∙ length-program sheet-lines) in
       let z : length b % lineBytes w ≡ 0 = eqb-true (length b % lineBytes w) 0 (not-false (eqb (length b % lineBytes w) 0) (or-false (ltb (lineBytes w * f .lines) (length b)) (not (eqb (length b % lineBytes w) 0)) (pass .pass1) .1)) in
       verdict-bytes w sheet-lines (run sheet-program .infos) (omega (arith, ample .kinds)) pass-fit e
       ∙ (ap (λ (n : ℕ). lineBytes w * n) (length-lines w b) ∙ omega (arith, div-add-mod (length b) (lineBytes w), z))
