@@ -2,22 +2,59 @@
 -- that is unfolded or erased. Assumes nothing.
 use mathlib.Core.Logic.{_⊎_, inl, inr, ⊎-elim}
 use mathlib.Core.Path.{_≡_, refl, ap, sym, _∙_, subst}
-use mathlib.Core.List.{List, [], _∷_, _++_, map, append-assoc}
-use mathlib.Core.Bool.{Bool, true, false, _&&_, _||_}
-use mathlib.Core.Option.{Option, none, some}
-use Prim.Native.Nat.{ℕ, zero, suc, _+_, _*_, _^_, _≤_, _<_}
+use mathlib.Core.List.{List, [], _∷_, _++_, map, List·Memᴰ}
+use mathlib.Core.Bool.{Bool, true, false, _&&_, _||_, not}
+use mathlib.Core.Option.{Option, none}
+use Prim.Native.Nat.{ℕ, zero, suc, _+_, _*_, _%_, _^_, _≤_, _<_}
 use native.Mathlib.Omega.{arith}
+use native.Mathlib.Nat.{mul-suc, mul-le-mul-left, div-add-mod}
 use lib.Dec.{eqb, leb, ltb}
-use lib.ListN.{length, getD, take, drop, length-append, length-drop}
+use lib.ListN.{length, getD, take, drop, length-drop}
 use lib.Seq.{take-suc, take-add, getD-drop}
 use borrow.Author.Tests.{eqb-true, eqb-false, ltb-true, ltb-false, leb-false, not-false}
 use Rattle.columns.specs.Column.{pick, _⇒_∥_}
 use Rattle.sheet.specs.Line.{Line, bad, letter, number}
+use Rattle.sheet.specs.Format.{Format, lineBytes, base}
 use Rattle.sheet.specs.LineLaws.{both}
-use Rattle.custard.specs.Cty.{Cty, TUnit}
-use Rattle.custard.specs.Decl.{Field, Body, TAbstract, TAbbrev, TRecord, TVariant, Dtype, ctors-of, ctors-of-tydef, CtorLayout, Layout, L-erased, L-newtype, L-struct, L-abbrev, L-opaque, close-body}
-use Rattle.custard.specs.Layout.{newtype-of-ctor, newtype-of}
+use Rattle.sheet.specs.Sheet.{count, lines, row1}
+use Rattle.sheet.specs.SheetLaws.{AllFit, length-lines, within-count, fit-lines}
+use Rattle.custard.specs.Cty.{Cty, TUnit, size}
+use Rattle.custard.specs.Decl.{
+  Field,
+  Body,
+  TAbstract,
+  TAbbrev,
+  TRecord,
+  TVariant,
+  Dtype,
+  ctors-of,
+  ctors-of-tydef,
+  CtorLayout,
+  Layout,
+  L-erased,
+  L-struct,
+  L-opaque,
+  TypeInfo,
+  Origin,
+  here,
+  imported,
+  Decl,
+  no-decl,
+  dtype-at,
+  origin-at,
+  close-body,
+  close-fields,
+}
+use Rattle.custard.specs.Erasure.{marked, erasure-fixpoint}
+use Rattle.custard.specs.Layout.{ctor-layouts, newtype-of-ctor, newtype-of, dropped, layout-of}
+use Rattle.custard.specs.Resolve.{stays, resolve, resolve-checked}
+use Rattle.custard.specs.Run.{fuel, layouts-of, run, returns, resolves, decl-fault}
 use Rattle.custard.specs.Program.{
+  name-line,
+  arg-line,
+  type-line,
+  local-line,
+  param-line,
   ctor-line,
   field-line,
   verdict-line,
@@ -38,11 +75,25 @@ use Rattle.custard.specs.Program.{
   layout-by,
   info-of,
   verdict-of,
+  trees,
+  dtype-of,
+  decl-of,
+  program,
 }
-use Rattle.custard.specs.Rows.{line-at, last-head, head-of, kept-after, one-ctor, good-verdict, good-verdicts, row7}
-use Rattle.custard.specs.AnswerLaws.{Clear}
-use Rattle.custard.specs.ProgramLaws.{None, false-true}
-use Rattle.custard.specs.ResolveLaws.{StructMatches, OpaqueMatches, Matches}
+use Rattle.custard.specs.Rows.{line-at, count-of, count-before, heads-before, params-after, row4, last-head, head-of, kept-after, one-ctor, good-verdict, good-verdicts, row7}
+use Rattle.custard.specs.Output.{verdict-lines, left-lines}
+use Rattle.custard.specs.Answer.{row8, row9, verdict-sheet, left-sheet}
+use Rattle.custard.specs.AnswerLaws.{Clear, Passes}
+use Rattle.custard.specs.PassLaws.{clear-heads}
+use Rattle.custard.specs.FuelLaws.{NoReturn, fuel-unspent}
+use Rattle.custard.specs.CtyLaws.{Every, mem-every, every-map}
+use Rattle.custard.specs.OutputLaws.{verdict-bytes, verdict-round}
+use Rattle.custard.specs.WrittenLaws.{left-program-read}
+use Rattle.custard.specs.NumbersLaws.{sheet-round, left-sheet-normal}
+use Rattle.custard.specs.ProgramLaws.{None, false-true, or-false, heads, head-cases, length-groups, length-program, program-at, HeadAt, head-at}
+use Rattle.custard.specs.ResolveLaws.{StructMatches, OpaqueMatches, Matches, Newtype, candidate-newtype, layout-matches, Unspent, Normal, Resolved, decl-resolved, LeftTypes, left-types}
+use Rattle.custard.specs.LayoutLaws.{candidates-of, getD-candidates, getD-layouts}
+use Rattle.custard.specs.RunLaws.{lay, layout-of-decl, left-at, length-infos}
 
 -- ---- an import's layout goes with its body
 or-true : (a b : Bool) → (a || b) ≡ true → (a ≡ true) ⊎ (b ≡ true)
@@ -245,3 +296,220 @@ module _ (ls : List Line) (pass : Clear (length ls) (row7 ls)) where
           let t = row7-verdict ls j (pass j l) (ap letter (sym q) ∙ r .is-verdict) (ap (is import-line) g ∙ m) in
           rw (r .found, q)
           (verdict-matches (line-at ls i) (line-at ls j) (kept-after 0 (take j ls)) b cls n s (ap (λ (x : Line). good-verdict x (kept-after 0 (take j ls)) (line-at ls j)) (sym g) ∙ t))
+
+  import-matches : (i : ℕ) → i < length ls → is-head (line-at ls i) ≡ true → (d : Decl) → d ≡ decl-of (trees ls) (record { head = line-at ls i; rest = before is-head (drop (suc i) ls) }) →
+      (ti : TypeInfo) → d .origin ≡ imported ti → Matches (d .dtype .dt-body) (ti .ti-layout)
+  unfolding decl-of info-of close-fields dtype-of
+  import-matches i h e d q ti o = rw q (go (is import-line (line-at ls i)) refl (ap (λ (x : Decl). x .origin) (sym q) ∙ o))
+    where
+      g : Group
+      g = record { head = line-at ls i; rest = before is-head (drop (suc i) ls) }
+
+      t : Dtype
+      t = close-fields (dtype-of (trees ls) g)
+
+      own : TypeInfo
+      own = info-of t (g .rest) (verdict-of (g .rest))
+
+      go : (c : Bool) → is import-line (line-at ls i) ≡ c → pick c (imported own) here ≡ imported ti → Matches (t .dt-body) (ti .ti-layout)
+      go true m p =
+          let z : own ≡ ti = cc in
+          subst (λ (x : TypeInfo). Matches (t .dt-body) (x .ti-layout)) z
+          (group-matches i h e m (t .dt-body) (ctor-layouts-by (ctors-of-tydef t) (keeps-of (t .dt-body) (g .rest)))
+          (λ k. close-number (dtype-of (trees ls) g .dt-params) (dtype-of (trees ls) g .dt-body) ∙ body-of-number (trees ls) (number (line-at ls i) 2) (number (line-at ls i) 4) (g .rest) k)
+          (λ k. by-matches (t .dt-name) (t .dt-body) (g .rest) k))
+      go false m p = let z : _≡_ {A = ℕ} 0 1 = cc in absurd (omega arith)
+
+  -- Where row 7 passes, every declaration's layout goes with its body.
+  pub program-matches : (i : ℕ) → i < length (program ls) → Matches (dtype-at (program ls) i .dt-body) (layout-of-decl (program ls) i)
+  unfolding layouts-of layout-of
+  program-matches i h = rw (getD-layouts ds s i L-opaque h) (go (origin-at ds i) refl)
+    where
+      ds : List Decl
+      ds = program ls
+
+      s : List Bool
+      s = erasure-fixpoint ds .marks
+
+      cand : Option Layout
+      cand = getD (candidates-of ds s) i none
+
+      newtype-cand : Newtype cand
+      newtype-cand = rw (getD-candidates ds (marked ds s) s i none h) (candidate-newtype (dtype-at ds i) (origin-at ds i) (getD s i false) (ctor-layouts (marked ds s) (dtype-at ds i)))
+
+      go : (o : Origin) → origin-at ds i ≡ o → Matches (dtype-at ds i .dt-body) (layout-of (dtype-at ds i) o (getD s i false) (dropped ds (candidates-of ds s) i) cand (ctor-layouts (marked ds s) (dtype-at ds i)))
+      go here e = layout-matches (marked ds s) (dtype-at ds i) (getD s i false) (dropped ds (candidates-of ds s) i) cand newtype-cand
+      go (imported ti) e =
+          let r : HeadAt ls i = head-at ls i (omega (arith, length-program ls)) in
+          let q = ap (λ (k : ℕ). getD ds k no-decl) (sym (r .passed)) ∙ program-at ls (r .place) no-decl (r .inside) (r .heads-it) in
+          import-matches (r .place) (r .inside) (r .heads-it) (getD ds i no-decl) q ti e
+
+-- ---- limits
+-- the line of a letter before which there are k of that letter
+record LetterAt (x : ℕ) (ls : List Line) (k : ℕ) : Type 0 where
+  spot : ℕ
+  within : spot < length ls
+  lettered : letter (line-at ls spot) ≡ x
+  earlier : count-before x ls spot ≡ k
+
+letter-at : (x : ℕ) (ls : List Line) (k : ℕ) → k < count-of x ls → LetterAt x ls k
+unfolding select
+letter-at x [] k h = absurd (omega arith)
+letter-at x (l ∷ ls) k h = go (is x l) refl k h (letter-at x ls)
+  where
+    go : (c : Bool) → is x l ≡ c → (j : ℕ) → j < length (pick c (l ∷ select x ls) (select x ls)) → ((i : ℕ) → i < count-of x ls → LetterAt x ls i) → LetterAt x (l ∷ ls) j
+    go true e zero m ih = record { spot = 0; within = omega arith; lettered = eqb-true (letter l) x e; earlier = refl }
+    go true e (suc j) m ih =
+        let r = ih j (omega arith) in
+        record { spot = suc (r .spot); within = omega (arith, r .within); lettered = r .lettered; earlier = rw e (ap suc (r .earlier)) }
+    go false e j m ih =
+        let r = ih j m in
+        record { spot = suc (r .spot); within = omega (arith, r .within); lettered = r .lettered; earlier = rw e (r .earlier) }
+
+-- row 4 by a line's letter
+by-letter : Bool → Bool → Bool → Bool → Bool → Bool → Bool → ℕ → Bool
+by-letter b1 b2 b3 b4 b5 b6 b7 n =
+    eqb n name-line ⇒ b1 ∥
+    eqb n arg-line ⇒ b2 ∥
+    eqb n type-line ⇒ b3 ∥
+    (eqb n local-line || eqb n import-line) ⇒ b4 ∥
+    eqb n param-line ⇒ b5 ∥
+    eqb n ctor-line ⇒ b6 ∥
+    eqb n field-line ⇒ b7 ∥
+    false
+
+module _ (f : Format) (ls : List Line) (pass : Clear (length ls) (row4 f ls)) where
+  row4-letter : (i x : ℕ) → i < length ls → letter (line-at ls i) ≡ x →
+      by-letter (leb (f .names) (count-before name-line ls i)) (leb (f .args) (count-before arg-line ls i)) (leb (f .types) (count-before type-line ls i)) (leb (f .decls) (heads-before ls i)) (leb (f .params) (params-after 0 (take i ls))) (leb (f .ctors) (count-before ctor-line ls i)) (leb (f .fields) (count-before field-line ls i)) x ≡ false
+  unfolding row4 by-letter
+  row4-letter i x h e =
+      ap (by-letter (leb (f .names) (count-before name-line ls i)) (leb (f .args) (count-before arg-line ls i)) (leb (f .types) (count-before type-line ls i)) (leb (f .decls) (heads-before ls i)) (leb (f .params) (params-after 0 (take i ls))) (leb (f .ctors) (count-before ctor-line ls i)) (leb (f .fields) (count-before field-line ls i))) (sym e)
+      ∙ pass i h
+
+  -- no more declarations and no more F lines than their limits
+  pub decls-limit : heads ls ≤ f .decls
+  unfolding by-letter
+  decls-limit = go (ltb (f .decls) (heads ls)) refl
+    where
+      head-row : (i : ℕ) → i < length ls → is-head (line-at ls i) ≡ true → leb (f .decls) (heads-before ls i) ≡ false
+      head-row i h e = ⊎-elim (λ q. row4-letter i local-line h q) (λ q. row4-letter i import-line h q) (head-cases (line-at ls i) e)
+
+      go : (c : Bool) → ltb (f .decls) (heads ls) ≡ c → heads ls ≤ f .decls
+      go true e =
+          let r : HeadAt ls (f .decls) = head-at ls (f .decls) (ltb-true (f .decls) (heads ls) e) in
+          absurd (omega (arith, r .passed, leb-false (f .decls) (heads-before ls (r .place)) (head-row (r .place) (r .inside) (r .heads-it))))
+      go false e = ltb-false (f .decls) (heads ls) e
+
+  pub fields-limit : count-of field-line ls ≤ f .fields
+  unfolding by-letter
+  fields-limit = go (ltb (f .fields) (count-of field-line ls)) refl
+    where
+      go : (c : Bool) → ltb (f .fields) (count-of field-line ls) ≡ c → count-of field-line ls ≤ f .fields
+      go true e =
+          let r = letter-at field-line ls (f .fields) (ltb-true (f .fields) (count-of field-line ls) e) in
+          absurd (omega (arith, r .earlier, leb-false (f .fields) (count-before field-line ls (r .spot)) (row4-letter (r .spot) field-line (r .within) (r .lettered))))
+      go false e = ltb-false (f .fields) (count-of field-line ls) e
+
+pub lines-limit : (f : Format) (b : List ℕ) → row1 f b ≡ false → length (lines (f .columns) b) ≤ f .lines
+unfolding row1
+lines-limit f b e =
+    let w : ℕ = f .columns in
+    let h : length b ≤ lineBytes w * f .lines = ltb-false (lineBytes w * f .lines) (length b) (or-false (ltb (lineBytes w * f .lines) (length b)) _ e .0) in
+    go w h (ltb (f .lines) (count w b)) refl
+  where
+    go : (w : ℕ) → length b ≤ lineBytes w * f .lines → (c : Bool) → ltb (f .lines) (count w b) ≡ c → length (lines w b) ≤ f .lines
+    go w h true q =
+        let k : f .lines < count w b = ltb-true (f .lines) (count w b) q in
+        absurd (omega (arith, within-count w b (f .lines) k, mul-suc (lineBytes w) (f .lines)))
+    go w h false q = omega (arith, length-lines w b, ltb-false (f .lines) (count w b) q)
+
+-- ---- the left sheet of an accepted sheet
+-- Columns and fuel that a format's limits do not outgrow: its kinds, its lines, and the nodes of a type for each declaration and each field.
+pub record Ample (f : Format) : Type 0 where
+  pub kinds : 12 < 10 ^ f .columns
+  pub counts : f .lines < 10 ^ f .columns
+  pub nodes : f .nodes * (f .decls + f .fields) < 10 ^ f .columns
+  pub depth : f .decls < fuel
+
+-- document 01's own
+pub base-ample : Ample base
+base-ample = record { kinds = omega arith; counts = omega arith; nodes = omega arith; depth = omega arith }
+
+module _ (f : Format) (b : List ℕ) (v l : ℕ) (ample : Ample f) (pass : Passes f b v l) where
+  abbrev pub sheet-lines : List Line
+  sheet-lines = lines (f .columns) b
+
+  abbrev pub sheet-program : List Decl
+  sheet-program = program sheet-lines
+
+  abbrev pub left-program : List Dtype
+  left-program = run sheet-program .program
+
+  clear : (p : ℕ → Bool) → Clear (count (f .columns) b) p → Clear (length sheet-lines) p
+  clear p h i k = h i (omega (arith, length-lines (f .columns) b))
+
+  few-decls : length sheet-program < fuel
+  few-decls = omega (arith, length-program sheet-lines, decls-limit f sheet-lines (clear (row4 f sheet-lines) (pass .pass4)), ample .depth)
+
+  pub pass-no-return : NoReturn sheet-program
+  unfolding row8
+  pass-no-return = clear-heads sheet-lines (returns sheet-program (layouts-of sheet-program)) (clear (row8 sheet-program sheet-lines) (pass .pass8))
+
+  -- every type that is resolved resolves without fault, and is small
+  pub pass-resolved : (i : ℕ) → i < length sheet-program → Every (Resolved (f .nodes) (lay sheet-program) fuel) (resolves (layout-of-decl sheet-program i))
+  unfolding row9
+  pass-resolved i h =
+      let u : (c : Cty) → Unspent (resolve-checked (f .nodes) (lay sheet-program) fuel c) = λ c. fuel-unspent sheet-program pass-no-return 99 (omega (arith, few-decls)) (f .nodes) c in
+      let n = clear-heads sheet-lines (λ k. not (eqb (decl-fault (f .nodes) sheet-program (layouts-of sheet-program) k) 0)) (clear (row9 f sheet-program sheet-lines) (pass .pass9)) i h in
+      decl-resolved (f .nodes) sheet-program (layouts-of sheet-program) i
+      (mem-every (λ c. Unspent (resolve-checked (f .nodes) (lay sheet-program) fuel c)) (resolves (layout-of-decl sheet-program i)) (λ c m. u c))
+      (eqb-true (decl-fault (f .nodes) sheet-program (layouts-of sheet-program) i) 0 (not-false (eqb (decl-fault (f .nodes) sheet-program (layouts-of sheet-program) i) 0) n))
+
+  left-all : (P : Cty → Type 0) → ((c : Cty) → Resolved (f .nodes) (lay sheet-program) fuel c → P (resolve (lay sheet-program) fuel c)) → (i : ℕ) → i < length sheet-program → LeftTypes P (left-at sheet-program i)
+  unfolding left-at
+  left-all P g i h =
+      left-types P (resolve (lay sheet-program) fuel) (dtype-at sheet-program i) (layout-of-decl sheet-program i) (program-matches sheet-lines (clear (row7 sheet-lines) (pass .pass7)) i h)
+      (every-map (Resolved (f .nodes) (lay sheet-program) fuel) (λ c. P (resolve (lay sheet-program) fuel c)) g (resolves (layout-of-decl sheet-program i)) (pass-resolved i h))
+
+  pub pass-fit : AllFit (f .columns) sheet-lines
+  pass-fit = fit-lines (f .columns) b (pass .pass2)
+
+  room : f .nodes * (heads sheet-lines + count-of field-line sheet-lines) < 10 ^ f .columns
+  room =
+      let h : heads sheet-lines + count-of field-line sheet-lines ≤ f .decls + f .fields =
+      omega (arith, decls-limit f sheet-lines (clear (row4 f sheet-lines) (pass .pass4)), fields-limit f sheet-lines (clear (row4 f sheet-lines) (pass .pass4))) in
+      omega (arith, mul-le-mul-left (f .nodes) h, ample .nodes)
+
+  -- the lines of the left sheet are what its bytes read as
+  pub left-sheet-lines : lines (f .columns) (left-sheet f sheet-lines) ≡ left-lines sheet-lines left-program
+  unfolding left-sheet
+  left-sheet-lines =
+      sheet-round (f .columns) (f .nodes) sheet-lines (ample .kinds) pass-fit (omega (arith, lines-limit f b (pass .pass1), ample .counts)) room
+      (left-all (λ t. size t ≤ f .nodes) (λ c r. r .small))
+
+  -- Read as a sheet, it declares what is left, each as a local declaration.
+  pub left-sheet-program : program (lines (f .columns) (left-sheet f sheet-lines)) ≡ map (λ d. record { dtype = close-fields d; origin = here }) left-program
+  left-sheet-program = rw left-sheet-lines (left-program-read sheet-lines left-program)
+
+  -- Its types name nothing that is unfolded or erased.
+  pub left-sheet-names : (y : Line) → List·Memᴰ y (lines (f .columns) (left-sheet f sheet-lines)) → letter y ≡ type-line → number y 0 ≡ 8 → lay sheet-program (number y 1) ≡ stays
+  left-sheet-names = rw left-sheet-lines (left-sheet-normal sheet-lines sheet-program (left-all (Normal (lay sheet-program)) (λ c r. r .normal)))
+
+  -- ---- the verdict sheet
+  pub verdict-sheet-lines : lines (f .columns) (verdict-sheet f sheet-lines) ≡ verdict-lines sheet-lines (run sheet-program .infos)
+  unfolding verdict-sheet
+  verdict-sheet-lines = verdict-round (f .columns) sheet-lines (run sheet-program .infos) (columns (f .columns) (ample .kinds)) pass-fit
+    where
+      columns : (w : ℕ) → 12 < 10 ^ w → 0 < w
+      columns zero h = absurd (omega arith)
+      columns (suc w) h = omega arith
+
+  -- It is as long as the sheet.
+  pub verdict-sheet-length : length (verdict-sheet f sheet-lines) ≡ length b
+  unfolding verdict-sheet row1
+  verdict-sheet-length =
+      let w : ℕ = f .columns in
+      let e : length (groups is-head sheet-lines) ≡ length (run sheet-program .infos) = length-groups sheet-lines ∙ sym (length-infos sheet-program ∙ length-program sheet-lines) in
+      let z : length b % lineBytes w ≡ 0 = eqb-true (length b % lineBytes w) 0 (not-false (eqb (length b % lineBytes w) 0) (or-false (ltb (lineBytes w * f .lines) (length b)) (not (eqb (length b % lineBytes w) 0)) (pass .pass1) .1)) in
+      verdict-bytes w sheet-lines (run sheet-program .infos) (omega (arith, ample .kinds)) pass-fit e
+      ∙ (ap (λ (n : ℕ). lineBytes w * n) (length-lines w b) ∙ omega (arith, div-add-mod (length b) (lineBytes w), z))

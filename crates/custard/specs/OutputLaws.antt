@@ -21,7 +21,7 @@ use Rattle.custard.specs.CtyLaws.{Every, every-mem, mem-every, every-map
 use Rattle.custard.specs.Decl.{Field, Ctor, Body, TAbstract, TAbbrev, TRecord, TVariant, Dtype, Layout, L-erased, L-newtype, L-struct, L-abbrev, L-opaque, layout-number, TypeInfo}
 use Rattle.custard.specs.Output.{bit, fill-keeps, fill-verdict, all-slots, fill, fill-all, verdict-lines, Written, put, last, Members, listed, first-arg, emit, emits, Lines, field-lines, ctor-lines, decl-frame, decl-lines, program-lines, left-lines}
 use Rattle.custard.specs.Names.{fields-names, ctors-names, body-names, dtype-names}
-use Rattle.custard.specs.ProgramLaws.{flat, before-flat}
+use Rattle.custard.specs.ProgramLaws.{flat, before-flat, length-verdict-lines}
 
 -- ---- lists
 pub every-append : {A : Type 0} (P : A → Type 0) (xs ys : List A) → Every P xs → Every P ys → Every P (xs ++ ys)
@@ -836,45 +836,10 @@ module _ (w : ℕ) (four : 4 < 10 ^ w) where
       every-allFit w (p ++ fill-all (groups is-head ls) tis)
       (every-append (Fits w) p (fill-all (groups is-head ls) tis) (every-left (Fits w) p q k) (fill-all-fits (groups is-head ls) tis (every-right (Fits w) p q k)))
 
--- ---- its length
-length-keeps : (bs : List Bool) (ls : List Line) → length (fill-keeps bs ls) ≡ length ls
-unfolding fill-keeps
-length-keeps bs [] = refl
-length-keeps [] (l ∷ ls) = ap suc (length-keeps [] ls)
-length-keeps (b ∷ bs) (l ∷ ls) = go (is field-line l) (length-keeps bs ls) (length-keeps (b ∷ bs) ls)
-  where
-    go : (c : Bool) → length (fill-keeps bs ls) ≡ length ls → length (fill-keeps (b ∷ bs) ls) ≡ length ls →
-        length {A = Line} (elim c [ true ↦ row field-line (number l 0 ∷ number l 1 ∷ bit b ∷ 0 ∷ 0 ∷ []) ∷ fill-keeps bs ls | false ↦ l ∷ fill-keeps (b ∷ bs) ls ]) ≡ suc (length ls)
-    go true i j = ap suc i
-    go false i j = ap suc j
-
-length-fill : (g : Group) (ti : TypeInfo) → length (fill g ti) ≡ suc (length (g .rest))
-unfolding fill fill-verdict
-length-fill g ti = go (is import-line (g .head))
-  where
-    go : (c : Bool) → length {A = Line} (elim c [
-      | true ↦ g .head ∷ g .rest
-      | false ↦ row import-line (map (number (g .head)) (0 ∷ 1 ∷ 2 ∷ 3 ∷ 4 ∷ [])) ∷ fill-verdict ti (fill-keeps (all-slots (ti .ti-ctors)) (g .rest))
-    ]) ≡ suc (length (g .rest))
-    go true = refl
-    go false = ap suc (simp length-map (length-keeps (all-slots (ti .ti-ctors)) (g .rest)))
-
-length-fill-all : (gs : List Group) (tis : List TypeInfo) → length gs ≡ length tis → length (fill-all gs tis) ≡ length (flat gs)
-unfolding fill-all flat
-length-fill-all [] tis e = refl
-length-fill-all (g ∷ gs) [] e = absurd (omega arith)
-length-fill-all (g ∷ gs) (ti ∷ tis) e =
-    rw (length-append (fill g ti) (fill-all gs tis), length-append (g .head ∷ g .rest) (flat gs), length-fill g ti, length-fill-all gs tis (omega arith))
-
--- one line for each line of the input
-pub verdict-lines-length : (ls : List Line) (tis : List TypeInfo) → length (groups is-head ls) ≡ length tis → length (verdict-lines ls tis) ≡ length ls
-unfolding verdict-lines
-verdict-lines-length ls tis e =
-    rw (length-append, length-fill-all (groups is-head ls) tis e) (sym (length-append (before is-head ls) (flat (groups is-head ls))) ∙ ap length (before-flat is-head ls))
-
+-- as many bytes as the lines of the input have, and they read as its lines
 pub verdict-bytes : (w : ℕ) (ls : List Line) (tis : List TypeInfo) → 4 < 10 ^ w → AllFit w ls → length (groups is-head ls) ≡ length tis →
     length (encodes w (verdict-lines ls tis)) ≡ lineBytes w * length ls
-verdict-bytes w ls tis f h e = rw (length-encodes w (verdict-lines ls tis) (verdict-fits w f ls tis h), verdict-lines-length ls tis e)
+verdict-bytes w ls tis f h e = rw (length-encodes w (verdict-lines ls tis) (verdict-fits w f ls tis h), length-verdict-lines ls tis (sym e))
 
 pub verdict-round : (w : ℕ) (ls : List Line) (tis : List TypeInfo) → 0 < w → AllFit w ls → lines w (encodes w (verdict-lines ls tis)) ≡ verdict-lines ls tis
 verdict-round w ls tis z h = lines-encodes w (verdict-lines ls tis) z (verdict-fits w (ten w z) ls tis h)
