@@ -247,3 +247,36 @@ build-equal f b c v l h e = go (build f v l b) (build f v l c) refl refl
     go (some x) (some y) p q =
         let k = build-passes f b v l x p in
         sym p ∙ (passes-build f b v l k ∙ (ap some (e k) ∙ (sym (passes-build f c v l (h .0 k)) ∙ q)))
+
+-- ---- the refusal line
+-- code 0 exactly where no row applies
+pub accepted-passes : (f : Format) (b : List ℕ) (v l : ℕ) → answer f b v l .code ≡ 0 → Passes f b v l
+unfolding answer answered
+accepted-passes f b v l h = rows-clear f b v l (accepted-clear (rows f b v l) (go (refusal (rows f b v l)) (refusal-coded (rows f b v l) (rows-coded f b v l)) h))
+  where
+    go : (r : Refusal) → CodeOf r → answered f b r .code ≡ 0 → r ≡ Accepted
+    go Accepted c k = refl
+    go (Refused code place) c k = absurd (c k)
+
+-- the answer where no row applies
+pub passes-answer : (f : Format) (b : List ℕ) (v l : ℕ) → Passes f b v l → answer f b v l ≡ answered f b Accepted
+unfolding answer
+passes-answer f b v l h = ap (answered f b) (clear-accepted (rows f b v l) (clear-rows f b v l h))
+
+pub passes-accepted : (f : Format) (b : List ℕ) (v l : ℕ) → Passes f b v l → answer f b v l .code ≡ 0
+unfolding answered
+passes-accepted f b v l h = ap (λ (a : Answer). a .code) (passes-answer f b v l h)
+
+-- a refusal writes nothing and counts no rounds
+pub record Nothing (a : Answer) : Type 0 where
+  pub no-rounds : a .rounds ≡ 0
+  pub no-verdict : a .verdict ≡ []
+  pub no-left : a .left ≡ []
+
+pub refused-nothing : (f : Format) (b : List ℕ) (v l : ℕ) → (answer f b v l .code ≡ 0 → ⊥) → Nothing (answer f b v l)
+unfolding answer answered
+refused-nothing f b v l h = go (refusal (rows f b v l)) h
+  where
+    go : (r : Refusal) → (answered f b r .code ≡ 0 → ⊥) → Nothing (answered f b r)
+    go Accepted k = absurd (k refl)
+    go (Refused code place) k = record { no-rounds = refl; no-verdict = refl; no-left = refl }

@@ -7,31 +7,31 @@ use mathlib.Core.Bool.{Bool, true, false, _||_, not}
 use mathlib.Core.Option.{Option, none, some}
 use Prim.Native.Nat.{ℕ, zero, suc, _+_, _*_, _-_, _/_, _%_, _^_, _≤_, _<_}
 use native.Mathlib.Omega.{arith}
-use native.Mathlib.Nat.{div-add-mod, mul-add, mul-mod-right}
+use native.Mathlib.Nat.{div-add-mod, mul-add, mul-mod-right, zero-div, zero-mod}
 use lib.Dec.{eqb, ltb}
 use lib.ListN.{length, getD, drop, length-append, List·getD-append}
 use lib.Seq.{getD-append-add}
 use borrow.Author.Tests.{ltb-true, ltb-false, le-ltb, eq-eqb, eqb-true, not-false}
 use Rattle.sheet.specs.Format.{Format, lineBytes}
 use Rattle.sheet.specs.Line.{Line, named, row, bad, isBad, letter}
-use Rattle.sheet.specs.Sheet.{count, line, lines, encodes, row1}
+use Rattle.sheet.specs.Sheet.{count, line, linesFrom, lines, encodes, row1}
 use Rattle.sheet.specs.LineLaws.{Fits}
-use Rattle.sheet.specs.SheetLaws.{AllFit, length-lines, getD-lines, lines-append, fit-lines, length-encodes, encodes-lines}
-use Rattle.custard.specs.Decl.{Decl, Dtype, TypeInfo}
+use Rattle.sheet.specs.SheetLaws.{AllFit, length-lines, getD-lines, lines-append, fit-lines, encodes-append}
+use Rattle.custard.specs.Decl.{Decl, Dtype, TypeInfo, position}
 use Rattle.custard.specs.Program.{name-line, is-head, select, groups, program}
 use Rattle.custard.specs.Rows.{raw, raws, row3, row4, row5, row6, row7}
 use Rattle.custard.specs.Run.{run, layouts-of, somes, returns, decl-fault}
-use Rattle.custard.specs.Output.{verdict-lines, left-lines}
+use Rattle.custard.specs.Output.{fill-all, verdict-lines, left-lines}
 use Rattle.custard.specs.Answer.{row8, row9, verdict-sheet, left-sheet}
 use Rattle.custard.specs.Cut.{Sheets, build, Whole}
-use Rattle.custard.specs.Names.{Distinct}
+use Rattle.custard.specs.Names.{Distinct, undeclared}
 use Rattle.custard.specs.CtyLaws.{Every, every-map}
-use Rattle.custard.specs.ProgramLaws.{Starts, select-append, told-groups, run-told}
+use Rattle.custard.specs.ProgramLaws.{Starts, select-append, told-groups, run-told, verdict-lines-append}
 use Rattle.custard.specs.RowsLaws.{Ends, row3-ends, ends-row3, row3-raws, NoHeader, no-header, row5-prefix}
 use Rattle.custard.specs.OutputLaws.{Sized, fits-sized, allFit-every, left-bytes-prefix, ten, verdict-fits, verdict-bytes, verdict-round}
 use Rattle.custard.specs.AnswerLaws.{Clear, Passes, sheets, passes-build, build-passes, build-equal}
 use Rattle.custard.specs.PassLaws.{clear-heads, heads-clear, own-imports}
-use Rattle.custard.specs.Pinning.{Apart, prefix-program}
+use Rattle.custard.specs.Pinning.{Apart, prefix-program, prefix-infos}
 use Rattle.custard.specs.StepLaws.{
   Checks,
   later,
@@ -348,3 +348,53 @@ split-steps f v l pos =
   where
     some-same : (x y : Sheets) → _≡_ {A = Option Sheets} (some x) (some y) → x ≡ y
     some-same x y e = cc
+
+-- ---- the verdict sheet of the first part begins that of the whole
+pub prefix-verdict : (f : Format) (v l : ℕ) (p q : List ℕ) → Split (f .columns) p q → (y : Sheets) → build f v l (p ++ q) ≡ some y → (r : List ℕ) × (y .verdict ≡ sheets f p .verdict ++ r)
+unfolding sheets verdict-sheet
+prefix-verdict f v l p q s y e =
+    let k : Sound f (p ++ q) v l = passes-sound f (p ++ q) v l (build-passes f (p ++ q) v l y e) in
+    let z : y ≡ sheets f (p ++ q) = some-sheets y (sheets f (p ++ q)) (sym e ∙ passes-build f (p ++ q) v l (build-passes f (p ++ q) v l y e)) in
+    let ps : List Line = lines (f .columns) p in
+    let qs : List Line = lines (f .columns) q in
+    let parts : lines (f .columns) (p ++ q) ≡ ps ++ qs = lines-parts f v l p q s in
+    let nb : NoBad (ps ++ qs) = subst NoBad parts (k .no-bad) in
+    let c : Checks f (ps ++ qs) = subst (Checks f) parts (k .checks) in
+    let h : Sound f p v l = sound-prefix f v l p q s k in
+    let st : Starts is-head qs = s .starts (no-bad-right ps qs nb) in
+    let far : Apart (program ps) (later ps qs) = s .apart nb (c .ends) (h .checks .clear5) (c .clear6) in
+    let d : Distinct (program ps ++ later ps qs) = parts-distinct ps qs st (c .ends) (c .clear6) in
+    let tis : List TypeInfo = run (program ps) .infos in
+    let us : List TypeInfo = drop (length (program ps)) (run (program ps ++ later ps qs) .infos) in
+    let i : run (program (ps ++ qs)) .infos ≡ tis ++ us = ap (λ (ds : List Decl). run ds .infos) (whole-parts ps qs st (c .ends)) ∙ prefix-infos (program ps) (later ps qs) d far (own-imports ps) in
+    let n : length tis ≡ length (groups is-head ps) = told-groups ps tis (run-told (program ps)) in (
+      encodes (f .columns) (fill-all (groups is-head qs) us),
+      ap (λ (x : Sheets). x .verdict) z
+          ∙ (ap (λ (ls : List Line). encodes (f .columns) (verdict-lines ls (run (program ls) .infos))) parts
+          ∙ (ap (λ (t : List TypeInfo). encodes (f .columns) (verdict-lines (ps ++ qs) t)) i
+          ∙ (ap (encodes (f .columns)) (verdict-lines-append ps qs tis us st n) ∙ encodes-append (f .columns) (verdict-lines ps tis) (fill-all (groups is-head qs) us)))),
+    )
+  where
+    some-sheets : (x y : Sheets) → _≡_ {A = Option Sheets} (some x) (some y) → x ≡ y
+    some-sheets x y e = cc
+
+-- every sheet is its own first part, with nothing behind it
+pub split-nothing : (w : ℕ) (p : List ℕ) → Whole w p → Split w p []
+unfolding lines linesFrom groups undeclared position
+split-nothing w p h =
+    let e : lines w [] ≡ [] = rw (zero-div (lineBytes w)) in
+    record {
+      first-whole = h;
+      second-whole = zero-mod (lineBytes w);
+      starts = λ nb. rw e tt;
+      apart = λ nb ends c5 c6 i k n m. rw (zero-div (lineBytes w)) refl;
+    }
+
+-- a sheet that row 1 passes is whole lines
+pub pass-whole : (f : Format) (b : List ℕ) (v l : ℕ) → Passes f b v l → Whole (f .columns) b
+unfolding row1
+pass-whole f b v l h = eqb-true (length b % lineBytes (f .columns)) 0 (right (ltb (lineBytes (f .columns) * f .lines) (length b)) (h .pass1))
+  where
+    right : (a : Bool) → (a || not (eqb (length b % lineBytes (f .columns)) 0)) ≡ false → eqb (length b % lineBytes (f .columns)) 0 ≡ true
+    right true k = let z : _≡_ {A = ℕ} 0 1 = cc in absurd (omega arith)
+    right false k = not-false (eqb (length b % lineBytes (f .columns)) 0) k

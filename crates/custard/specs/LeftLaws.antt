@@ -448,7 +448,7 @@ module _ (f : Format) (b : List ℕ) (v l : ℕ) (ample : Ample f) (pass : Passe
   clear : (p : ℕ → Bool) → Clear (count (f .columns) b) p → Clear (length sheet-lines) p
   clear p h i k = h i (omega (arith, length-lines (f .columns) b))
 
-  few-decls : length sheet-program < fuel
+  pub few-decls : length sheet-program < fuel
   few-decls = omega (arith, length-program sheet-lines, decls-limit f sheet-lines (clear (row4 f sheet-lines) (pass .pass4)), ample .depth)
 
   pub pass-no-return : NoReturn sheet-program

@@ -108,7 +108,7 @@ unfolding join
 join-whole w [] h = zero-mod (lineBytes w)
 join-whole w (u ∷ us) h = whole-append w u (join us) (h .0 .0) (join-whole w us (h .1))
 
-join-append : (xs ys : List (List ℕ)) → join (xs ++ ys) ≡ join xs ++ join ys
+pub join-append : (xs ys : List (List ℕ)) → join (xs ++ ys) ≡ join xs ++ join ys
 unfolding join
 join-append [] ys = refl
 join-append (x ∷ xs) ys = ap (λ (r : List ℕ). x ++ r) (join-append xs ys) ∙ sym (append-assoc x (join xs) (join ys))

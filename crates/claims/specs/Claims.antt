@@ -1,0 +1,262 @@
+-- What is promised of the layout build's answer: demands 2 and 3 of document 01 and the operator's
+-- checklist, as theorems about the definitions in the crate `custard`. The lemmas stand there.
+--
+-- A sheet b is a list of bytes. v and l are the lengths of the outputs that are lent for the verdict sheet
+-- and the left sheet. f is the format; `base` is document 01's own, and `Ample f` says that its limits do
+-- not outgrow its columns and the fuel, which `base-ample` shows of it. Assumes nothing.
+use mathlib.Core.Logic.{_↔_}
+use mathlib.Core.Path.{_≡_, refl, sym, _∙_, ap, subst}
+use mathlib.Core.List.{List, [], _∷_, _++_, map, append-nil, List·Memᴰ}
+use mathlib.Core.Bool.{Bool, true, false, not}
+use mathlib.Core.Option.{Option, none, some}
+use Prim.Native.Nat.{ℕ, zero, suc, _≤_, _<_}
+use native.Mathlib.Omega.{arith}
+use lib.Dec.{T}
+use lib.ListN.{length, getD}
+use Rattle.columns.specs.Column.{pick}
+use Rattle.sheet.specs.Format.{Format, base}
+use Rattle.sheet.specs.Line.{Line, letter, number}
+use Rattle.sheet.specs.Sheet.{lines, encodes}
+use Rattle.custard.specs.Cty.{Cty}
+use Rattle.custard.specs.Decl.{
+  Field,
+  Ctor,
+  Dtype,
+  CtorLayout,
+  NewtypeLayout,
+  Layout,
+  L-newtype,
+  L-opaque,
+  TypeInfo,
+  Origin,
+  here,
+  imported,
+  Decl,
+  dtype-at,
+  origin-at,
+  position,
+  ctors-of-tydef,
+}
+use Rattle.custard.specs.Erasure.{cty-erased, marked, rule, start, erasure-fixpoint}
+use Rattle.custard.specs.Reach.{Reach}
+use Rattle.custard.specs.Layout.{slots, kept, ctor-layout, ctor-layouts, guard-next}
+use Rattle.custard.specs.Resolve.{stays, resolve, ok, resolve-checked}
+use Rattle.custard.specs.Run.{fuel, info, run, layouts-of, resolves, decl-fault, returns}
+use Rattle.custard.specs.Program.{type-line, program}
+use Rattle.custard.specs.Output.{verdict-lines, left-lines}
+use Rattle.custard.specs.Answer.{Answer, verdict-sheet, left-sheet, answered, answer, after}
+use Rattle.custard.specs.Names.{Declared, Agree}
+use Rattle.custard.specs.Cut.{Sheets, build, builds, join, Cut}
+use Rattle.custard.specs.RoundsLaws.{Made}
+use Rattle.custard.specs.ErasureLaws.{locals, erasure-solves, erasure-least, erasure-made, erasure-rounds}
+use Rattle.custard.specs.LayoutLaws.{Candidate, candidates-of}
+use Rattle.custard.specs.LayoutLaws as layouts
+use Rattle.custard.specs.CtyLaws.{every-mem}
+use Rattle.custard.specs.RunLaws.{lay, layout-of-decl, left-at, info-at, getD-infos}
+use Rattle.custard.specs.Locality.{OwnImports, marks-local, layouts-local, info-local, left-local, fault-local, returns-local}
+use Rattle.custard.specs.FuelLaws.{fuel-more}
+use Rattle.custard.specs.AnswerLaws.{Passes, sheets, passes-build, build-passes, accepted-passes, passes-answer, passes-accepted, Nothing, refused-nothing}
+use Rattle.custard.specs.LeftLaws.{Ample, base-ample, pass-no-return, pass-resolved, few-decls, left-sheet-names, verdict-sheet-length}
+use Rattle.custard.specs.BuildLaws.{Split, split-steps, split-nothing, prefix-verdict, pass-whole}
+use Rattle.custard.specs.SplitLaws.{cut-builds, cut-splits}
+use Rattle.claims.specs.Unerased.{unerased}
+use Rattle.claims.specs.ClaimsLaws.{
+  true-of,
+  answer-rounds,
+  answer-verdict,
+  answer-left,
+  local-erased,
+  local-ctors,
+  import-info,
+  map-ctors,
+  at-least,
+  joined-parts,
+  first-accepted,
+}
+
+-- ---- words
+-- accepted: the refusal line shows code 0
+abbrev pub Accepted : Format → List ℕ → ℕ → ℕ → Type 0
+Accepted f b v l = answer f b v l .code ≡ 0
+
+-- the declarations of a sheet, which of them are erased, and which names
+abbrev pub decls : Format → List ℕ → List Decl
+decls f b = program (lines (f .columns) b)
+
+abbrev pub marks : List Decl → List Bool
+marks ds = erasure-fixpoint ds .marks
+
+abbrev pub erased : List Decl → ℕ → Bool
+erased ds = marked ds (marks ds)
+
+-- ---- for every accepted sheet
+-- LEAST. Erasure solves the rules of the declarations over the imported verdicts, and every other solution
+-- erases at least as much.
+pub record Least (ds : List Decl) : Type 0 where
+  pub solves : (i : ℕ) → i < length ds → getD (marks ds) i false ≡ rule ds (marks ds) i
+  pub below :
+      (t : List Bool) → length t ≡ length ds → ((i : ℕ) → i < length ds → getD t i false ≡ rule ds t i)
+      → (i : ℕ) → getD (marks ds) i false ≡ true → getD t i false ≡ true
+
+pub least : (f : Format) (b : List ℕ) (v l : ℕ) → Accepted f b v l → Least (decls f b)
+least f b v l a =
+    let ds : List Decl = decls f b in
+    record {
+      solves = erasure-solves ds;
+      below = λ t e s i h. true-of (getD t i false) (erasure-least ds t e (λ j k r. subst T (sym (s j (rw e at k))) r) i (subst T (sym h) tt));
+    }
+
+-- ROUNDS. The reported number is that of the rounds made, the last one, which changes nothing, included:
+-- each round before it changed a mark. It is at most one more than there are local types.
+pub record Rounds (ds : List Decl) (n : ℕ) : Type 0 where
+  pub reported : n ≡ erasure-fixpoint ds .rounds
+  pub made : Made (rule ds) (start ds) (erasure-fixpoint ds)
+  pub few : n ≤ suc (locals ds)
+
+pub rounds : (f : Format) (b : List ℕ) (v l : ℕ) → Accepted f b v l → Rounds (decls f b) (answer f b v l .rounds)
+rounds f b v l a =
+    let ds : List Decl = decls f b in
+    let e : answer f b v l .rounds ≡ erasure-fixpoint ds .rounds = answer-rounds f b v l a in
+    record { reported = e; made = erasure-made ds; few = rw e (erasure-rounds ds) }
+
+-- KEPT. A local type keeps exactly the fields whose types are not erased, in order, and its verdict says
+-- whether it is erased.
+pub record Kept (ds : List Decl) (i : ℕ) (ti : TypeInfo) : Type 0 where
+  pub is-erased : ti .ti-erased ≡ getD (marks ds) i false
+  pub fields :
+      ti .ti-ctors
+      ≡ map (λ c. record { cl-name = c .ct-name; cl-slots = map (λ x. not (cty-erased (erased ds) (x .fd-type))) (c .ct-fields); cl-fields = unerased (erased ds) (c .ct-fields) }) (ctors-of-tydef (dtype-at ds i))
+
+pub kept-fields : (f : Format) (b : List ℕ) (v l : ℕ) → Accepted f b v l → (i : ℕ) → i < length (decls f b) → origin-at (decls f b) i ≡ here
+    → (d : TypeInfo) → Kept (decls f b) i (getD (run (decls f b) .infos) i d)
+unfolding ctor-layouts
+kept-fields f b v l a i h o d =
+    let ds : List Decl = decls f b in
+    rw (getD-infos ds i d h) (record { is-erased = local-erased ds i o; fields = local-ctors ds i o ∙ map-ctors (erased ds) (ctors-of-tydef (dtype-at ds i)) })
+
+-- IMPORTS. An import keeps what its lines say: erasure, layout, kept fields and record.
+pub imports : (f : Format) (b : List ℕ) (v l : ℕ) → Accepted f b v l → (i : ℕ) (ti : TypeInfo) → i < length (decls f b) → origin-at (decls f b) i ≡ imported ti
+    → (d : TypeInfo) → getD (run (decls f b) .infos) i d ≡ ti
+imports f b v l a i ti h o d = getD-infos (decls f b) i d h ∙ import-info (decls f b) i ti o
+
+-- COLLAPSED. A local type is a newtype exactly where its guards allow it (`Candidate`: not erased, without
+-- `NoNewtype`, one constructor, one kept field, whose type less one `TInline` is the payload) and its own
+-- name can't be reached from its payload through payloads of candidates, dropped ones too.
+pub collapsed : (f : Format) (b : List ℕ) (v l : ℕ) → Accepted f b v l → (i : ℕ) → i < length (decls f b) → origin-at (decls f b) i ≡ here → (nt : NewtypeLayout)
+    → (layout-of-decl (decls f b) i ≡ L-newtype nt)
+    ↔ (Candidate (erased (decls f b)) (dtype-at (decls f b) i) (getD (marks (decls f b)) i false) nt
+    × (Reach (guard-next (decls f b) (candidates-of (decls f b) (marks (decls f b)))) i i → ⊥))
+unfolding layouts-of
+collapsed f b v l a i h o nt = layouts.collapsed (decls f b) (marks (decls f b)) i h o nt
+
+-- RESOLVED. No type in the left sheet names a collapsed, erased or unfolded type: the name of every `TApp`
+-- line read from its bytes stays. (The checklist's third line.)
+pub resolved : (f : Format) (b : List ℕ) (v l : ℕ) → Ample f → Accepted f b v l → (y : Line) → List·Memᴰ y (lines (f .columns) (answer f b v l .left))
+    → letter y ≡ type-line → number y 0 ≡ 8 → lay (decls f b) (number y 1) ≡ stays
+resolved f b v l ample a =
+    subst (λ (x : List ℕ). (y : Line) → List·Memᴰ y (lines (f .columns) x) → letter y ≡ type-line → number y 0 ≡ 8 → lay (decls f b) (number y 1) ≡ stays)
+    (sym (answer-left f b v l a)) (left-sheet-names f b v l ample (accepted-passes f b v l a))
+
+-- UNSPENT. The fuel of 100 is never spent: every type that is resolved is resolved to the end, without a
+-- fault, and any larger fuel gives the same.
+pub record Unspent (f : Format) (ds : List Decl) (c : Cty) : Type 0 where
+  pub answered : resolve-checked (f .nodes) (lay ds) fuel c ≡ ok (resolve (lay ds) fuel c)
+  pub more : (m : ℕ) → fuel ≤ m → resolve (lay ds) m c ≡ resolve (lay ds) fuel c
+
+pub unspent : (f : Format) (b : List ℕ) (v l : ℕ) → Ample f → Accepted f b v l → (i : ℕ) → i < length (decls f b)
+    → (c : Cty) → List·Memᴰ c (resolves (layout-of-decl (decls f b) i)) → Unspent f (decls f b) c
+unspent f b v l ample a i h c m =
+    let p : Passes f b v l = accepted-passes f b v l a in
+    let few : length (decls f b) < fuel = few-decls f b v l ample p in
+    record {
+      answered = every-mem _ (resolves (layout-of-decl (decls f b) i)) (pass-resolved f b v l ample p i h) c m .answers;
+      more = λ k q. at-least (λ j. resolve (lay (decls f b)) j c) (resolve (lay (decls f b)) fuel c) k q (λ j r. sym (fuel-more (decls f b) (pass-no-return f b v l ample p) 99 (omega arith) j r c));
+    }
+
+-- RUN. The verdicts and the declarations that are left are those of the model of the source's `run`.
+pub record Ran (f : Format) (b : List ℕ) (a : Answer) : Type 0 where
+  pub verdicts : a .verdict ≡ encodes (f .columns) (verdict-lines (lines (f .columns) b) (run (decls f b) .infos))
+  pub declarations : a .left ≡ encodes (f .columns) (left-lines (lines (f .columns) b) (run (decls f b) .program))
+
+pub run-of-source : (f : Format) (b : List ℕ) (v l : ℕ) → Accepted f b v l → Ran f b (answer f b v l)
+unfolding verdict-sheet left-sheet
+run-of-source f b v l a = record { verdicts = answer-verdict f b v l a; declarations = answer-left f b v l a }
+
+-- VERDICT LENGTH. The verdict sheet is as long as the sheet (the checklist's first line), and building it
+-- alone is accepted and gives it back with the same left sheet.
+pub verdict-length : (f : Format) (b : List ℕ) (v l : ℕ) → Ample f → Accepted f b v l → length (answer f b v l .verdict) ≡ length b
+verdict-length f b v l ample a = ap length (answer-verdict f b v l a) ∙ verdict-sheet-length f b v l ample (accepted-passes f b v l a)
+
+pub verdict-again : (f : Format) (b : List ℕ) (v l : ℕ) → 0 < f .columns → (x : Sheets) → build f v l b ≡ some x → build f v l (x .verdict) ≡ some x
+verdict-again f b v l pos x e =
+    ap (build f v l) (sym (append-nil (x .verdict)))
+    ∙ (split-steps f v l pos .import-step b [] x (split-nothing (f .columns) b (pass-whole f b v l (build-passes f b v l x e))) e
+    ∙ (ap (build f v l) (append-nil b) ∙ e))
+
+-- REFUSED. The refusal line shows 0 exactly where no row of document 01's table applies (the checklist's
+-- fourth line). On every refusal both outputs keep their bytes; on acceptance the bytes past the written
+-- length keep theirs (`after`).
+pub refused : (f : Format) (b : List ℕ) (v l : ℕ) → Accepted f b v l ↔ Passes f b v l
+refused f b v l = (accepted-passes f b v l, passes-accepted f b v l)
+
+pub record Unchanged (a : Answer) : Type 0 where
+  pub no-rounds : a .rounds ≡ 0
+  pub verdict-output : (old : List ℕ) → after (a .verdict) old ≡ old
+  pub left-output : (old : List ℕ) → after (a .left) old ≡ old
+
+pub unchanged : (f : Format) (b : List ℕ) (v l : ℕ) → (Accepted f b v l → ⊥) → Unchanged (answer f b v l)
+unchanged f b v l h =
+    let n : Nothing (answer f b v l) = refused-nothing f b v l h in
+    record {
+      no-rounds = n .no-rounds;
+      verdict-output = λ old. ap (λ (x : List ℕ). after x old) (n .no-verdict);
+      left-output = λ old. ap (λ (x : List ℕ). after x old) (n .no-left);
+    }
+
+-- ---- locality
+-- LOCALITY. Two programs that agree on a set of names closed under what their declarations name, imports
+-- counting by their verdicts, give these names the same erasure, layouts, keeps, verdicts, left declarations,
+-- faults and loops. Any declarations, any limit.
+pub record Same (limit : ℕ) (ds ds' : List Decl) (n : ℕ) : Type 0 where
+  pub same-erasure : getD (marks ds) (position ds n) false ≡ getD (marks ds') (position ds' n) false
+  pub same-layout : layout-of-decl ds (position ds n) ≡ layout-of-decl ds' (position ds' n)
+  pub same-verdict : info-at ds (position ds n) ≡ info-at ds' (position ds' n)
+  pub same-left : left-at ds (position ds n) ≡ left-at ds' (position ds' n)
+  pub same-fault : decl-fault limit ds (layouts-of ds) (position ds n) ≡ decl-fault limit ds' (layouts-of ds') (position ds' n)
+  pub same-loop : returns ds (layouts-of ds) (position ds n) ≡ returns ds' (layouts-of ds') (position ds' n)
+
+pub locality : (limit : ℕ) (S : ℕ → Bool) (ds ds' : List Decl) → Agree S ds ds' → OwnImports ds → OwnImports ds' → (n : ℕ) → S n ≡ true → Declared ds n → Same limit ds ds' n
+locality limit S ds ds' agree own own' n h d =
+    record {
+      same-erasure = marks-local S ds ds' agree own n h;
+      same-layout = layouts-local S ds ds' agree own n h;
+      same-verdict = info-local S ds ds' agree own n h d;
+      same-left = left-local S ds ds' agree own n h d;
+      same-fault = fault-local S ds ds' agree own limit n h d;
+      same-loop = returns-local S ds ds' agree own own' n h d;
+    }
+
+-- ---- the cut
+-- CUT (demand 3). For every sheet b cut into its N, A and Y lines and a list of one or more units, each of
+-- whole declarations, empty ones allowed, and each naming only its own types, those of earlier units and
+-- names that the whole declares nowhere: build the units in turn, the first from the N, A and Y lines and
+-- its own declarations, each later one from the verdict sheet that the build before it returned and its own
+-- declarations, stopping at a refusal. Every unit is accepted exactly when one build of the whole with the
+-- same output lengths is, and then the last unit's two sheets are the whole's, byte for byte. Of the sheet
+-- nothing more is asked: it may break any row.
+pub cut : (f : Format) (v l : ℕ) (b header u : List ℕ) (us : List (List ℕ)) → 0 < f .columns → Cut (f .columns) b header (u ∷ us)
+    → builds f v l header u us ≡ build f v l b
+cut = cut-builds
+
+-- SAME FIELDS (the checklist's second line). In an accepted sheet that is cut so, the verdict sheet of the
+-- first units is accepted and begins the whole's verdict sheet: every line of a type, its keeps among them,
+-- is the same in every unit from the one that declares it.
+pub same-fields : (f : Format) (v l : ℕ) (b header : List ℕ) (xs ys : List (List ℕ)) → 0 < f .columns → Cut (f .columns) b header (xs ++ ys)
+    → (y : Sheets) → build f v l b ≡ some y
+    → (x : Sheets) × (build f v l (header ++ join xs) ≡ some x) × ((r : List ℕ) × (y .verdict ≡ x .verdict ++ r))
+same-fields f v l b header xs ys pos c y e =
+    let p : List ℕ = header ++ join xs in
+    let q : List ℕ = join ys in
+    let s : Split (f .columns) p q = cut-splits (f .columns) b header (xs ++ ys) c xs ys [] (ap (λ (t : List (List ℕ)). xs ++ t) (sym (append-nil ys))) in
+    let k : build f v l (p ++ q) ≡ some y = ap (build f v l) (sym (c .joined ∙ joined-parts header xs ys)) ∙ e in
+    (sheets f p, first-accepted f v l pos p q s y k, prefix-verdict f v l p q s y k)

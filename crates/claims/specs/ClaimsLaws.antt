@@ -1,0 +1,94 @@
+-- Steps from the laws of `custard` to the claims. Assumes nothing.
+use mathlib.Core.Path.{_≡_, refl, sym, _∙_, ap, ap₂, subst}
+use mathlib.Core.List.{List, [], _∷_, _++_, map, append-assoc, append-nil}
+use mathlib.Core.Bool.{Bool, true, false, not}
+use mathlib.Core.Option.{Option, none, some}
+use Prim.Native.Nat.{ℕ, zero, suc, _≤_, _<_}
+use native.Mathlib.Omega.{arith}
+use lib.Dec.{T}
+use lib.ListN.{length, getD}
+use Rattle.columns.specs.Column.{pick}
+use Rattle.sheet.specs.Format.{Format}
+use Rattle.sheet.specs.Sheet.{lines}
+use Rattle.custard.specs.Cty.{Cty}
+use Rattle.custard.specs.Decl.{Field, Ctor, CtorLayout, TypeInfo, Origin, here, imported, Decl, dtype-at, origin-at}
+use Rattle.custard.specs.Erasure.{cty-erased, marked, erasure-fixpoint}
+use Rattle.custard.specs.Layout.{slots, kept, ctor-layout, ctor-layouts}
+use Rattle.custard.specs.Run.{info, run}
+use Rattle.custard.specs.Program.{program}
+use Rattle.custard.specs.Answer.{Answer, verdict-sheet, left-sheet, answered, answer}
+use Rattle.custard.specs.Cut.{Sheets, build, join}
+use Rattle.custard.specs.RunLaws.{info-at, left-at, layout-of-decl}
+use Rattle.custard.specs.AnswerLaws.{sheets, passes-build, build-passes, accepted-passes, passes-answer}
+use Rattle.custard.specs.BuildLaws.{Split, split-steps}
+use Rattle.custard.specs.SplitLaws.{join-append}
+use Rattle.claims.specs.Unerased.{unerased}
+
+pub true-of : (b : Bool) → T b → b ≡ true
+true-of true h = refl
+true-of false h = absurd h
+
+-- ---- an accepted answer
+module _ (f : Format) (b : List ℕ) (v l : ℕ) (a : answer f b v l .code ≡ 0) where
+  pub answer-rounds : answer f b v l .rounds ≡ erasure-fixpoint (program (lines (f .columns) b)) .rounds
+  unfolding answered run
+  answer-rounds = ap (λ (x : Answer). x .rounds) (passes-answer f b v l (accepted-passes f b v l a))
+
+  pub answer-verdict : answer f b v l .verdict ≡ verdict-sheet f (lines (f .columns) b)
+  unfolding answered
+  answer-verdict = ap (λ (x : Answer). x .verdict) (passes-answer f b v l (accepted-passes f b v l a))
+
+  pub answer-left : answer f b v l .left ≡ left-sheet f (lines (f .columns) b)
+  unfolding answered
+  answer-left = ap (λ (x : Answer). x .left) (passes-answer f b v l (accepted-passes f b v l a))
+
+-- ---- one verdict
+local-info : (ds : List Decl) (i : ℕ) → origin-at ds i ≡ here
+    → info-at ds i ≡ info (marked ds (erasure-fixpoint ds .marks)) (dtype-at ds i) here (getD (erasure-fixpoint ds .marks) i false) (layout-of-decl ds i) (left-at ds i)
+unfolding info-at
+local-info ds i o =
+    ap (λ (x : Origin). info (marked ds (erasure-fixpoint ds .marks)) (dtype-at ds i) x (getD (erasure-fixpoint ds .marks) i false) (layout-of-decl ds i) (left-at ds i)) o
+
+pub local-erased : (ds : List Decl) (i : ℕ) → origin-at ds i ≡ here → info-at ds i .ti-erased ≡ getD (erasure-fixpoint ds .marks) i false
+unfolding info
+local-erased ds i o = ap (λ (t : TypeInfo). t .ti-erased) (local-info ds i o)
+
+pub local-ctors : (ds : List Decl) (i : ℕ) → origin-at ds i ≡ here → info-at ds i .ti-ctors ≡ ctor-layouts (marked ds (erasure-fixpoint ds .marks)) (dtype-at ds i)
+unfolding info
+local-ctors ds i o = ap (λ (t : TypeInfo). t .ti-ctors) (local-info ds i o)
+
+pub import-info : (ds : List Decl) (i : ℕ) (ti : TypeInfo) → origin-at ds i ≡ imported ti → info-at ds i ≡ ti
+unfolding info-at info
+import-info ds i ti o =
+    ap (λ (x : Origin). info (marked ds (erasure-fixpoint ds .marks)) (dtype-at ds i) x (getD (erasure-fixpoint ds .marks) i false) (layout-of-decl ds i) (left-at ds i)) o
+
+kept-unerased : (er : ℕ → Bool) (fs : List Field) → kept (slots er fs) fs ≡ unerased er fs
+unfolding kept slots unerased
+kept-unerased er [] = refl
+kept-unerased er (f ∷ fs) = go (cty-erased er (f .fd-type)) (kept-unerased er fs)
+  where
+    go : (e : Bool) → kept (slots er fs) fs ≡ unerased er fs → pick (not e) (f ∷ kept (slots er fs) fs) (kept (slots er fs) fs) ≡ pick e (unerased er fs) (f ∷ unerased er fs)
+    go true h = h
+    go false h = ap (λ (gs : List Field). f ∷ gs) h
+
+pub map-ctors : (er : ℕ → Bool) (cs : List Ctor)
+    → map (λ c. ctor-layout c (slots er (c .ct-fields))) cs
+    ≡ map (λ c. record { cl-name = c .ct-name; cl-slots = map (λ x. not (cty-erased er (x .fd-type))) (c .ct-fields); cl-fields = unerased er (c .ct-fields) }) cs
+unfolding ctor-layout slots
+map-ctors er [] = refl
+map-ctors er (c ∷ cs) =
+    ap₂ (λ (fs : List Field) (r : List CtorLayout). record { cl-name = c .ct-name; cl-slots = slots er (c .ct-fields); cl-fields = fs } ∷ r) (kept-unerased er (c .ct-fields)) (map-ctors er cs)
+
+-- ---- fuel
+pub at-least : (g : ℕ → Cty) (x : Cty) (k : ℕ) → 100 ≤ k → ((j : ℕ) → 99 ≤ j → g (suc j) ≡ x) → g k ≡ x
+at-least g x zero h f = absurd (omega arith)
+at-least g x (suc k) h f = f k (omega arith)
+
+-- ---- the cut
+pub joined-parts : (header : List ℕ) (xs ys : List (List ℕ)) → header ++ join (xs ++ ys) ≡ header ++ join xs ++ join ys
+joined-parts header xs ys = ap (λ (r : List ℕ). header ++ r) (join-append xs ys) ∙ sym (append-assoc header (join xs) (join ys))
+
+pub first-accepted : (f : Format) (v l : ℕ) → 0 < f .columns → (p q : List ℕ) → Split (f .columns) p q → (y : Sheets) → build f v l (p ++ q) ≡ some y → build f v l p ≡ some (sheets f p)
+first-accepted f v l pos p q s y e =
+    let r = split-steps f v l pos .prefix-step p q y s e in
+    passes-build f p v l (build-passes f p v l (r .0) (r .1))

@@ -1,0 +1,3 @@
+pub mod Unerased
+pub mod ClaimsLaws
+pub mod Claims

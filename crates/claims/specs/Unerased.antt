@@ -1,0 +1,12 @@
+-- A word of the claims. Assumes nothing.
+use mathlib.Core.List.{List, [], _∷_}
+use mathlib.Core.Bool.{Bool}
+use Prim.Native.Nat.{ℕ}
+use Rattle.columns.specs.Column.{pick}
+use Rattle.custard.specs.Decl.{Field}
+use Rattle.custard.specs.Erasure.{cty-erased}
+
+-- the fields whose types are not erased, in order
+unfoldable pub unerased : (ℕ → Bool) → List Field → List Field
+unerased er [] = []
+unerased er (f ∷ fs) = let gs : List Field = unerased er fs in pick (cty-erased er (f .fd-type)) gs (f ∷ gs)

@@ -1,0 +1,1 @@
+// The claims are in specs/Claims.antt.
