@@ -47,18 +47,18 @@ use Rattle.custard.specs.Output.{verdict-lines, left-lines}
 use Rattle.custard.specs.Answer.{Answer, verdict-sheet, left-sheet, answered, answer, after}
 use Rattle.custard.specs.Names.{Declared, Agree}
 use Rattle.custard.specs.Cut.{Sheets, build, builds, join, Cut}
-use Rattle.custard.specs.RoundsLaws.{Made}
-use Rattle.custard.specs.ErasureLaws.{locals, erasure-solves, erasure-least, erasure-made, erasure-rounds}
-use Rattle.custard.specs.LayoutLaws.{Candidate, candidates-of}
-use Rattle.custard.specs.LayoutLaws as layouts
-use Rattle.custard.specs.CtyLaws.{every-mem}
-use Rattle.custard.specs.RunLaws.{lay, layout-of-decl, left-at, info-at, getD-infos}
-use Rattle.custard.specs.Locality.{OwnImports, marks-local, layouts-local, info-local, left-local, fault-local, returns-local}
-use Rattle.custard.specs.FuelLaws.{fuel-more}
-use Rattle.custard.specs.AnswerLaws.{Passes, sheets, passes-build, build-passes, accepted-passes, passes-answer, passes-accepted, Nothing, refused-nothing}
-use Rattle.custard.specs.LeftLaws.{Ample, base-ample, pass-no-return, pass-resolved, few-decls, left-sheet-names, verdict-sheet-length}
-use Rattle.custard.specs.BuildLaws.{Split, split-steps, split-nothing, prefix-verdict, pass-whole}
-use Rattle.custard.specs.SplitLaws.{cut-builds, cut-splits}
+use Rattle.custard.specs.Laws.Rounds.{Made}
+use Rattle.custard.specs.Laws.Erasure.{locals, erasure-solves, erasure-least, erasure-made, erasure-rounds}
+use Rattle.custard.specs.Laws.Layout.{Candidate, candidates-of}
+use Rattle.custard.specs.Laws.Layout as layouts
+use Rattle.custard.specs.Laws.Cty.{every-mem}
+use Rattle.custard.specs.Laws.Run.{lay, layout-of-decl, left-at, info-at, getD-infos}
+use Rattle.custard.specs.Laws.Locality.{OwnImports, marks-local, layouts-local, info-local, left-local, fault-local, returns-local}
+use Rattle.custard.specs.Laws.Fuel.{fuel-more}
+use Rattle.custard.specs.Laws.Answer.{Passes, sheets, passes-build, build-passes, accepted-passes, passes-answer, passes-accepted, Nothing, refused-nothing}
+use Rattle.custard.specs.Laws.Left.{Ample, base-ample, pass-no-return, pass-resolved, few-decls, left-sheet-names, verdict-sheet-length}
+use Rattle.custard.specs.Laws.Build.{Split, split-steps, split-nothing, prefix-verdict, pass-whole}
+use Rattle.custard.specs.Laws.Split.{cut-builds, cut-splits}
 use Rattle.claims.specs.Unerased.{unerased}
 use Rattle.claims.specs.ClaimsLaws.{
   true-of,

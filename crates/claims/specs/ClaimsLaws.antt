@@ -18,10 +18,10 @@ use Rattle.custard.specs.Run.{info, run}
 use Rattle.custard.specs.Program.{program}
 use Rattle.custard.specs.Answer.{Answer, verdict-sheet, left-sheet, answered, answer}
 use Rattle.custard.specs.Cut.{Sheets, build, join}
-use Rattle.custard.specs.RunLaws.{info-at, left-at, layout-of-decl}
-use Rattle.custard.specs.AnswerLaws.{sheets, passes-build, build-passes, accepted-passes, passes-answer}
-use Rattle.custard.specs.BuildLaws.{Split, split-steps}
-use Rattle.custard.specs.SplitLaws.{join-append}
+use Rattle.custard.specs.Laws.Run.{info-at, left-at, layout-of-decl}
+use Rattle.custard.specs.Laws.Answer.{sheets, passes-build, build-passes, accepted-passes, passes-answer}
+use Rattle.custard.specs.Laws.Build.{Split, split-steps}
+use Rattle.custard.specs.Laws.Split.{join-append}
 use Rattle.claims.specs.Unerased.{unerased}
 
 pub true-of : (b : Bool) → T b → b ≡ true

@@ -35,16 +35,16 @@ use Rattle.custard.specs.Decl.{Decl, no-decl, dtype-at, position}
 use Rattle.custard.specs.Program.{arg-line, type-line, is-head, select, Group, groups, trees, decl-of, program}
 use Rattle.custard.specs.Rows.{line-at, raw, heads-before, row5, row6}
 use Rattle.custard.specs.Names.{dtype-names, Declared, undeclared, Distinct}
-use Rattle.custard.specs.NamesLaws.{position-le, position-name, position-first, position-append-left, position-append-right, undeclared-of}
+use Rattle.custard.specs.Laws.Names.{position-le, position-name, position-first, position-append-left, position-append-right, undeclared-of}
 use Rattle.custard.specs.Cut.{build, builds, join, Whole, Declarations, program-names, Cut}
-use Rattle.custard.specs.ProgramLaws.{Starts, None, select-append, program-append, groups-append, groups-none, length-program, program-at, HeadAt, head-at, heads-before-program}
-use Rattle.custard.specs.RowsLaws.{Ends, raw-rawly, ends-prefix, NoHeader, no-header, row5-prefix}
-use Rattle.custard.specs.AnswerLaws.{Clear}
-use Rattle.custard.specs.PassLaws.{name-at, distinct-program}
-use Rattle.custard.specs.Pinning.{Apart, distinct-undeclared}
-use Rattle.custard.specs.StepLaws.{later, program-parts}
-use Rattle.custard.specs.BuildLaws.{whole-length, whole-append, NoBad, no-bad-left, no-bad-right, no-bad-pass, Split, split-steps}
-use Rattle.custard.specs.CutLaws.{Splits, chain}
+use Rattle.custard.specs.Laws.Program.{Starts, None, select-append, program-append, groups-append, groups-none, length-program, program-at, HeadAt, head-at, heads-before-program}
+use Rattle.custard.specs.Laws.Rows.{Ends, raw-rawly, ends-prefix, NoHeader, no-header, row5-prefix}
+use Rattle.custard.specs.Laws.Answer.{Clear}
+use Rattle.custard.specs.Laws.Pass.{name-at, distinct-program}
+use Rattle.custard.specs.Laws.Pinning.{Apart, distinct-undeclared}
+use Rattle.custard.specs.Laws.Step.{later, program-parts}
+use Rattle.custard.specs.Laws.Build.{whole-length, whole-append, NoBad, no-bad-left, no-bad-right, no-bad-pass, Split, split-steps}
+use Rattle.custard.specs.Laws.Cut.{Splits, chain}
 
 -- ---- declared names, by the lines where declarations begin
 pub record HeadNamed (ls : List Line) (n : ℕ) : Type 0 where

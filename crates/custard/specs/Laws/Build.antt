@@ -25,14 +25,14 @@ use Rattle.custard.specs.Output.{fill-all, verdict-lines, left-lines}
 use Rattle.custard.specs.Answer.{row8, row9, verdict-sheet, left-sheet}
 use Rattle.custard.specs.Cut.{Sheets, build, Whole}
 use Rattle.custard.specs.Names.{Distinct, undeclared}
-use Rattle.custard.specs.CtyLaws.{Every, every-map}
-use Rattle.custard.specs.ProgramLaws.{Starts, select-append, told-groups, run-told, verdict-lines-append}
-use Rattle.custard.specs.RowsLaws.{Ends, row3-ends, ends-row3, row3-raws, NoHeader, no-header, row5-prefix}
-use Rattle.custard.specs.OutputLaws.{Sized, fits-sized, allFit-every, left-bytes-prefix, ten, verdict-fits, verdict-bytes, verdict-round}
-use Rattle.custard.specs.AnswerLaws.{Clear, Passes, sheets, passes-build, build-passes, build-equal}
-use Rattle.custard.specs.PassLaws.{clear-heads, heads-clear, own-imports}
-use Rattle.custard.specs.Pinning.{Apart, prefix-program, prefix-infos}
-use Rattle.custard.specs.StepLaws.{
+use Rattle.custard.specs.Laws.Cty.{Every, every-map}
+use Rattle.custard.specs.Laws.Program.{Starts, select-append, told-groups, run-told, verdict-lines-append}
+use Rattle.custard.specs.Laws.Rows.{Ends, row3-ends, ends-row3, row3-raws, NoHeader, no-header, row5-prefix}
+use Rattle.custard.specs.Laws.Output.{Sized, fits-sized, allFit-every, left-bytes-prefix, ten, verdict-fits, verdict-bytes, verdict-round}
+use Rattle.custard.specs.Laws.Answer.{Clear, Passes, sheets, passes-build, build-passes, build-equal}
+use Rattle.custard.specs.Laws.Pass.{clear-heads, heads-clear, own-imports}
+use Rattle.custard.specs.Laws.Pinning.{Apart, prefix-program, prefix-infos}
+use Rattle.custard.specs.Laws.Step.{
   Checks,
   later,
   whole-parts,
@@ -45,7 +45,7 @@ use Rattle.custard.specs.StepLaws.{
   verdict-lines-import,
   left-lines-import,
 }
-use Rattle.custard.specs.CutLaws.{Steps}
+use Rattle.custard.specs.Laws.Cut.{Steps}
 
 -- ---- bytes and lines
 pub whole-length : (w : ℕ) (b : List ℕ) → Whole w b → length b ≡ lineBytes w * count w b

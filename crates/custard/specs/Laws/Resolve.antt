@@ -40,7 +40,7 @@ use Rattle.custard.specs.Cty.{
   names-of-cty,
   cty-vars,
 }
-use Rattle.custard.specs.CtyLaws.{
+use Rattle.custard.specs.Laws.Cty.{
   Every,
   every-map,
   Any,

@@ -9,7 +9,7 @@ use native.Mathlib.Omega.{arith}
 use lib.Dec.{T, eqb, eqb→eq, eqb-refl}
 use lib.ListN.{length, getD, set, replicate, length-set, length-replicate}
 use lib.Seq.{getD-set-same, getD-set-other}
-use Rattle.custard.specs.RoundsLaws.{At, Le, At-lt, cases-eq, bit, trues, trues-le, trues-mono}
+use Rattle.custard.specs.Laws.Rounds.{At, Le, At-lt, cases-eq, bit, trues, trues-le, trues-mono}
 use Rattle.custard.specs.Reach.{Reach, one, more, go, cyclic}
 
 -- ---- tests

@@ -15,12 +15,12 @@ use Rattle.custard.specs.Reach.{Reach, cyclic}
 use Rattle.custard.specs.Resolve.{Unfold, gone, newtype, abbreviation, stays, unfold-name, unfolds, resolve, resolve-checked}
 use Rattle.custard.specs.Run.{layouts-of, unfold-names, unfold-next, returns}
 use Rattle.custard.specs.Names.{Declared}
-use Rattle.custard.specs.ReachLaws.{cyclic-complete, rank, rank-less, rank-bound}
-use Rattle.custard.specs.LayoutLaws.{Placed, names-in-iff, unfold-below}
-use Rattle.custard.specs.CtyLaws.{All, names-all}
-use Rattle.custard.specs.ResolveLaws.{Unspent, Unfolds, BodyAll, Normal, Under, Ranked, resolve-done, resolve-more, checked-unspent, checked-more}
-use Rattle.custard.specs.RunLaws.{lay}
-use Rattle.custard.specs.Locality.{lay-foreign}
+use Rattle.custard.specs.Laws.Reach.{cyclic-complete, rank, rank-less, rank-bound}
+use Rattle.custard.specs.Laws.Layout.{Placed, names-in-iff, unfold-below}
+use Rattle.custard.specs.Laws.Cty.{All, names-all}
+use Rattle.custard.specs.Laws.Resolve.{Unspent, Unfolds, BodyAll, Normal, Under, Ranked, resolve-done, resolve-more, checked-unspent, checked-more}
+use Rattle.custard.specs.Laws.Run.{lay}
+use Rattle.custard.specs.Laws.Locality.{lay-foreign}
 
 -- no unfolded name returns to itself: row 8
 abbrev pub NoReturn : List Decl → Type 0

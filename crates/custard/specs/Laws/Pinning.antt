@@ -32,12 +32,12 @@ use Rattle.custard.specs.Erasure.{marked, rule, rule-of, erasure-fixpoin
 use Rattle.custard.specs.Layout.{ctor-layouts, dropped, layout-of, compute-layouts}
 use Rattle.custard.specs.Run.{info, layouts-of, somes, run, returns, decl-fault}
 use Rattle.custard.specs.Names.{dtype-names, Declared, undeclared, Distinct, Agree, Pin, Pinned}
-use Rattle.custard.specs.NamesLaws.{position-le, position-name, position-distinct, position-declared, position-append-left, position-append-right, agree-prefix, undeclared-of}
-use Rattle.custard.specs.ErasureLaws.{erasure-solves, erasure-pinned}
-use Rattle.custard.specs.LayoutLaws.{length-table, getD-table, Placed, candidates-of, layout-at, PinnedLayouts, pinned-layouts, getD-layouts, table-cong}
-use Rattle.custard.specs.RunLaws.{lay, layout-of-decl, left-at, info-at, run-program, run-infos, getD-infos, length-infos, places-same, left-same, program-same, fault-same, returns-same}
-use Rattle.custard.specs.ProgramLaws.{pins}
-use Rattle.custard.specs.Locality.{OwnImports, info-local, left-local, fault-local, returns-local}
+use Rattle.custard.specs.Laws.Names.{position-le, position-name, position-distinct, position-declared, position-append-left, position-append-right, agree-prefix, undeclared-of}
+use Rattle.custard.specs.Laws.Erasure.{erasure-solves, erasure-pinned}
+use Rattle.custard.specs.Laws.Layout.{length-table, getD-table, Placed, candidates-of, layout-at, PinnedLayouts, pinned-layouts, getD-layouts, table-cong}
+use Rattle.custard.specs.Laws.Run.{lay, layout-of-decl, left-at, info-at, run-program, run-infos, getD-infos, length-infos, places-same, left-same, program-same, fault-same, returns-same}
+use Rattle.custard.specs.Laws.Program.{pins}
+use Rattle.custard.specs.Laws.Locality.{OwnImports, info-local, left-local, fault-local, returns-local}
 
 -- ---- pinned programs
 pub pin-length : (ds : List Decl) (tis : List TypeInfo) → length tis ≡ length ds → length (pins ds tis) ≡ length ds

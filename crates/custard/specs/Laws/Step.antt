@@ -17,12 +17,12 @@ use Rattle.custard.specs.Rows.{row3, row4, row5, row6, row7}
 use Rattle.custard.specs.Run.{run, layouts-of, returns, decl-fault}
 use Rattle.custard.specs.Output.{verdict-lines, left-lines}
 use Rattle.custard.specs.Names.{Distinct}
-use Rattle.custard.specs.ProgramLaws.{Starts, pins, program-append, AllEnded, AllTold, length-verdict-lines, told-groups, run-told, program-cut, verdict-lines-cut, left-lines-cut}
-use Rattle.custard.specs.RowsLaws.{Ends, row3-ends, ends-row3, ends-prefix, ends-whole, ended-row5, row3-verdict, row4-verdict, row5-verdict, row6-verdict, row7-cut, NoHeader, no-header, row4-prefix, row5-prefix, row6-prefix, row7-prefix}
-use Rattle.custard.specs.AnswerLaws.{Clear}
-use Rattle.custard.specs.PassLaws.{distinct-program, own-imports}
-use Rattle.custard.specs.Pinning.{Apart, prefix-fault, prefix-returns, first-length, prefix-infos, imported-program, imported-infos, imported-fault, imported-returns}
-use Rattle.custard.specs.Locality.{OwnImports}
+use Rattle.custard.specs.Laws.Program.{Starts, pins, program-append, AllEnded, AllTold, length-verdict-lines, told-groups, run-told, program-cut, verdict-lines-cut, left-lines-cut}
+use Rattle.custard.specs.Laws.Rows.{Ends, row3-ends, ends-row3, ends-prefix, ends-whole, ended-row5, row3-verdict, row4-verdict, row5-verdict, row6-verdict, row7-cut, NoHeader, no-header, row4-prefix, row5-prefix, row6-prefix, row7-prefix}
+use Rattle.custard.specs.Laws.Answer.{Clear}
+use Rattle.custard.specs.Laws.Pass.{distinct-program, own-imports}
+use Rattle.custard.specs.Laws.Pinning.{Apart, prefix-fault, prefix-returns, first-length, prefix-infos, imported-program, imported-infos, imported-fault, imported-returns}
+use Rattle.custard.specs.Laws.Locality.{OwnImports}
 
 -- ---- rows 3 to 10 on lines
 pub record Checks (f : Format) (ls : List Line) : Type 0 where

@@ -121,13 +121,13 @@ use Rattle.custard.specs.Program.{
   program,
 }
 use Rattle.custard.specs.Rows.{count-of}
-use Rattle.custard.specs.ProgramLaws.{select-append, flat, before-flat, heads, length-groups}
+use Rattle.custard.specs.Laws.Program.{select-append, flat, before-flat, heads, length-groups}
 use Rattle.custard.specs.Output.{left-lines}
-use Rattle.custard.specs.CtyLaws.{Every, every-map, all-names}
-use Rattle.custard.specs.ResolveLaws.{Stays, Normal, Fields, Ctors, BodyTypes, LeftTypes}
-use Rattle.custard.specs.LayoutLaws.{getD-table, getD-table-past, candidates-of, getD-candidates, getD-layouts, getD-layouts-past}
-use Rattle.custard.specs.RunLaws.{lay, left-at, run-program}
-use Rattle.custard.specs.OutputLaws.{every-append, every-over, types-of-fields, types-of-ctors, types-of-body, types-of, TypeNumbers, TypesNumbers, FieldNumbers, CtorNumbers, BodyNumbers, DtypeNumbers, total, total-bound, ProgramFits, every-select, number-fits, allFit-every, left-fits, NamesIn, left-names}
+use Rattle.custard.specs.Laws.Cty.{Every, every-map, all-names}
+use Rattle.custard.specs.Laws.Resolve.{Stays, Normal, Fields, Ctors, BodyTypes, LeftTypes}
+use Rattle.custard.specs.Laws.Layout.{getD-table, getD-table-past, candidates-of, getD-candidates, getD-layouts, getD-layouts-past}
+use Rattle.custard.specs.Laws.Run.{lay, left-at, run-program}
+use Rattle.custard.specs.Laws.Output.{every-append, every-over, types-of-fields, types-of-ctors, types-of-body, types-of, TypeNumbers, TypesNumbers, FieldNumbers, CtorNumbers, BodyNumbers, DtypeNumbers, total, total-bound, ProgramFits, every-select, number-fits, allFit-every, left-fits, NamesIn, left-names}
 
 -- ---- the numbers of types
 module _ (Q : ℕ → Type 0) where

@@ -35,11 +35,11 @@ use Rattle.custard.specs.Layout.{
 }
 use Rattle.custard.specs.Resolve.{Unfold, gone, newtype, abbreviation, stays, unfolds}
 use Rattle.custard.specs.Run.{unfold-names, unfold-next}
-use Rattle.custard.specs.ErasureLaws.{ctor-layouts-local}
+use Rattle.custard.specs.Laws.Erasure.{ctor-layouts-local}
 use Rattle.custard.specs.Names.{fields-names, ctors-names, body-names, dtype-names, Declared, Agree, Pin}
-use Rattle.custard.specs.NamesLaws.{position-name, position-same, agree-sym}
+use Rattle.custard.specs.Laws.Names.{position-name, position-same, agree-sym}
 use Rattle.custard.specs.Reach.{Reach, one, more}
-use Rattle.custard.specs.ReachLaws.{true-false, reach-loop, reach-stays, cyclic-iff}
+use Rattle.custard.specs.Laws.Reach.{true-false, reach-loop, reach-stays, cyclic-iff}
 
 -- ---- tests
 -- two tests that hold alike are equal

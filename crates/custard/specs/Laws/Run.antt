@@ -15,8 +15,8 @@ use Rattle.custard.specs.Layout.{positions, names-in, compute-layouts}
 use Rattle.custard.specs.Reach.{cyclic}
 use Rattle.custard.specs.Resolve.{Unfold, gone, newtype, abbreviation, stays, unfold-of, unfolds, unfold-name, resolve, resolve-checked}
 use Rattle.custard.specs.Run.{fuel, rw-decl, info, layouts-of, somes, run, unfold-names, unfold-next, returns, resolves, fault-code, decl-fault}
-use Rattle.custard.specs.NamesLaws.{position-same}
-use Rattle.custard.specs.LayoutLaws.{length-table, getD-table, table-cong, length-layouts}
+use Rattle.custard.specs.Laws.Names.{position-same}
+use Rattle.custard.specs.Laws.Layout.{length-table, getD-table, table-cong, length-layouts}
 
 -- ---- one declaration
 -- what the names of a program become

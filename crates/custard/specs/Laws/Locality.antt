@@ -62,10 +62,10 @@ use Rattle.custard.specs.Run.{
   decl-fault,
 }
 use Rattle.custard.specs.Names.{fields-names, dtype-names, body-names, Declared, Agree}
-use Rattle.custard.specs.NamesLaws.{position-le, agree-sym}
-use Rattle.custard.specs.ErasureLaws.{erasure-local, ctor-layouts-local}
-use Rattle.custard.specs.ReachLaws.{cyclic-iff, reach-loop}
-use Rattle.custard.specs.LayoutLaws.{
+use Rattle.custard.specs.Laws.Names.{position-le, agree-sym}
+use Rattle.custard.specs.Laws.Erasure.{erasure-local, ctor-layouts-local}
+use Rattle.custard.specs.Laws.Reach.{cyclic-iff, reach-loop}
+use Rattle.custard.specs.Laws.Layout.{
   candidates-of,
   getD-table,
   getD-table-past,
@@ -79,10 +79,10 @@ use Rattle.custard.specs.LayoutLaws.{
   names-in-iff,
   unfold-below,
 }
-use Rattle.custard.specs.CtyLaws.{Every, All, names-all, all-names}
-use Rattle.custard.specs.ResolveLaws.{BodyAll, Fields, Kept, kept-field-types, rw-decl-local, decl-fault-local}
-use Rattle.custard.specs.OwnLaws.{cls-names, layout-names, Among, layout-own}
-use Rattle.custard.specs.RunLaws.{lay, layout-of-decl, left-at, info-at}
+use Rattle.custard.specs.Laws.Cty.{Every, All, names-all, all-names}
+use Rattle.custard.specs.Laws.Resolve.{BodyAll, Fields, Kept, kept-field-types, rw-decl-local, decl-fault-local}
+use Rattle.custard.specs.Laws.Own.{cls-names, layout-names, Among, layout-own}
+use Rattle.custard.specs.Laws.Run.{lay, layout-of-decl, left-at, info-at}
 
 -- ---- layouts name what their declarations name
 -- an import's layout is made of its own declaration's types

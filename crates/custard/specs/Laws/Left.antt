@@ -83,17 +83,17 @@ use Rattle.custard.specs.Program.{
 use Rattle.custard.specs.Rows.{line-at, count-of, count-before, heads-before, params-after, row4, last-head, head-of, kept-after, one-ctor, good-verdict, good-verdicts, row7}
 use Rattle.custard.specs.Output.{verdict-lines, left-lines}
 use Rattle.custard.specs.Answer.{row8, row9, verdict-sheet, left-sheet}
-use Rattle.custard.specs.AnswerLaws.{Clear, Passes}
-use Rattle.custard.specs.PassLaws.{clear-heads}
-use Rattle.custard.specs.FuelLaws.{NoReturn, fuel-unspent}
-use Rattle.custard.specs.CtyLaws.{Every, mem-every, every-map}
-use Rattle.custard.specs.OutputLaws.{verdict-bytes, verdict-round}
-use Rattle.custard.specs.WrittenLaws.{left-program-read}
-use Rattle.custard.specs.NumbersLaws.{sheet-round, left-sheet-normal}
-use Rattle.custard.specs.ProgramLaws.{None, false-true, or-false, heads, head-cases, length-groups, length-program, program-at, HeadAt, head-at}
-use Rattle.custard.specs.ResolveLaws.{StructMatches, OpaqueMatches, Matches, Newtype, candidate-newtype, layout-matches, Unspent, Normal, Resolved, decl-resolved, LeftTypes, left-types}
-use Rattle.custard.specs.LayoutLaws.{candidates-of, getD-candidates, getD-layouts}
-use Rattle.custard.specs.RunLaws.{lay, layout-of-decl, left-at, length-infos}
+use Rattle.custard.specs.Laws.Answer.{Clear, Passes}
+use Rattle.custard.specs.Laws.Pass.{clear-heads}
+use Rattle.custard.specs.Laws.Fuel.{NoReturn, fuel-unspent}
+use Rattle.custard.specs.Laws.Cty.{Every, mem-every, every-map}
+use Rattle.custard.specs.Laws.Output.{verdict-bytes, verdict-round}
+use Rattle.custard.specs.Laws.Written.{left-program-read}
+use Rattle.custard.specs.Laws.Numbers.{sheet-round, left-sheet-normal}
+use Rattle.custard.specs.Laws.Program.{None, false-true, or-false, heads, head-cases, length-groups, length-program, program-at, HeadAt, head-at}
+use Rattle.custard.specs.Laws.Resolve.{StructMatches, OpaqueMatches, Matches, Newtype, candidate-newtype, layout-matches, Unspent, Normal, Resolved, decl-resolved, LeftTypes, left-types}
+use Rattle.custard.specs.Laws.Layout.{candidates-of, getD-candidates, getD-layouts}
+use Rattle.custard.specs.Laws.Run.{lay, layout-of-decl, left-at, length-infos}
 
 -- ---- an import's layout goes with its body
 or-true : (a b : Bool) → (a || b) ≡ true → (a ≡ true) ⊎ (b ≡ true)

@@ -15,8 +15,8 @@ use Rattle.custard.specs.Decl.{Field, Ctor, Body, TAbstract, TAbbrev, TR
 use Rattle.custard.specs.Erasure.{is-pure, cty-erased, ctys-erased, fields-erased, body-erased, dtype-erased, marked, rule-of, rule, start-of, start, erasure-fixpoint}
 use Rattle.custard.specs.Layout.{slots, ctor-layout, ctor-layouts}
 use Rattle.custard.specs.Names.{fields-names, ctors-names, body-names, dtype-names, Declared, Distinct, Agree, Pin, Pinned}
-use Rattle.custard.specs.NamesLaws.{position-name, position-declared, position-distinct, position-pinned, agree-sym}
-use Rattle.custard.specs.RoundsLaws.{T-ext, At, Le, At-lt, Le-antisym, bit, trues, Monotone, Sound, Closed, Made, settle-length, settle-sound, settle-least, settle-closed, settle-made, settle-rounds}
+use Rattle.custard.specs.Laws.Names.{position-name, position-declared, position-distinct, position-pinned, agree-sym}
+use Rattle.custard.specs.Laws.Rounds.{T-ext, At, Le, At-lt, Le-antisym, bit, trues, Monotone, Sound, Closed, Made, settle-length, settle-sound, settle-least, settle-closed, settle-made, settle-rounds}
 
 -- ---- tests
 -- a conjunction of tests, each of which implies another

@@ -116,7 +116,7 @@ use Rattle.custard.specs.Rows.{
   good-verdicts,
   row7,
 }
-use Rattle.custard.specs.ProgramLaws.{
+use Rattle.custard.specs.Laws.Program.{
   false-true,
   contrary,
   None,
