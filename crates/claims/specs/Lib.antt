@@ -1,3 +1,5 @@
 pub mod Unerased
 pub mod ClaimsLaws
 pub mod Claims
+pub mod CutTest
+pub mod Instance
