@@ -75,7 +75,7 @@ Holds Zero p = p ≡ write (length p) 0
 Holds (In v) p = (0 < v) × (v < 10 ^ length p) × (p ≡ shown (length p) v)
 Holds Broken p = Unit {0}
 
-ten-pos : (w : ℕ) → 0 < 10 ^ w
+pub ten-pos : (w : ℕ) → 0 < 10 ^ w
 ten-pos zero = omega arith
 ten-pos (suc w) = omega (arith, ten-pos w)
 

@@ -1,0 +1,142 @@
+// Reading one line of a sheet of six columns.
+use columns::Number;
+ghost use mathlib.Core.Path.{_≡_};
+ghost use Prim.Native.Nat.{ℕ, _≤_, _<_};
+ghost use lib.ListN.{length, drop};
+ghost use Rattle.sheet.specs.Line as line;
+ghost use Rattle.lines.specs.Shape as shape;
+
+// The columns of a number, the numbers of a line, and a line's bytes.
+const COLUMNS: usize = 6;
+
+const NUMBERS: usize = 5;
+
+pub const LINE: usize = 32;
+// The text of a name: from the number's end to the last byte.
+pub const TEXT: usize = 7;
+
+const LAST: usize = 31;
+
+// What a line is: an N line with its number and the length of its text, a line of five numbers, or no line.
+pub enum Shape {
+    Named(u32, usize),
+    Row,
+    Bad,
+}
+
+// Number k of a line.
+pub fn cell(l: &[u8], k: usize) -> Number
+    requires { ⌜ (32 ≤ length (now l)) × (k < 5) ⌝ }
+    ensures { λ r. ⌜ r ≡ line.cell 6 (now (l .entry)) k ⌝ }
+{
+    let at = 1 + k * COLUMNS;
+    let end = at + COLUMNS;
+    columns::read_number(&l[at..end])
+}
+
+fn is_value(n: Number) -> bool
+    ensures { λ r. ⌜ r ≡ line.isValue n ⌝ }
+{
+    match n {
+        Number::Value(_) => true,
+        Number::Bad => false,
+    }
+}
+
+// A byte of a name's text.
+fn graphic(b: u8) -> bool
+    ensures { λ r. ⌜ r ≡ line.graphic b ⌝ }
+{
+    if b < 33 { false } else { b <= 126 }
+}
+
+// How many bytes of text come first.
+fn spelled(t: &[u8]) -> usize
+    ensures { λ r. ⌜ r ≡ length (line.spelling (now (t .entry))) ⌝ }
+{
+    let mut i = 0;
+    while i < t.len() {
+        if !graphic(t[i]) {
+            return i;
+        }
+        i += 1;
+    }
+    i
+}
+
+// Whether spaces alone stand from a place on.
+fn blank(t: &[u8], from: usize) -> bool
+    ensures { λ r. ⌜ r ≡ line.spaces (drop from (now (t .entry))) ⌝ }
+{
+    let mut i = from;
+    while i < t.len() {
+        if t[i] != 32 {
+            return false;
+        }
+        i += 1;
+    }
+    true
+}
+
+// The length of a name's text, 0 where it is not proper.
+fn text_length(t: &[u8]) -> usize
+    ensures { λ r. ⌜ r ≡ shape.textLength (now (t .entry)) ⌝ }
+{
+    let n = spelled(t);
+    if blank(t, n) { n } else { 0 }
+}
+
+fn named_shape(n: Number, k: usize) -> Shape
+    ensures { λ r. ⌜ r ≡ shape.namedShape n k ⌝ }
+{
+    match n {
+        Number::Value(v) => {
+            if k == 0 {
+                return Shape::Bad;
+            }
+            Shape::Named(v, k)
+        }
+        Number::Bad => Shape::Bad,
+    }
+}
+
+// A line of five numbers.
+fn read_row(l: &[u8]) -> Shape
+    requires { ⌜ 32 ≤ length (now l) ⌝ }
+    ensures { λ r. ⌜ r ≡ shape.shapeOf (line.decodeRow 6 (now (l .entry))) ⌝ }
+{
+    let mut k = 0;
+    while k < NUMBERS {
+        if !is_value(cell(l, k)) {
+            return Shape::Bad;
+        }
+        k += 1;
+    }
+    Shape::Row
+}
+
+// An N line.
+fn read_named(l: &[u8]) -> Shape
+    requires { ⌜ 32 ≤ length (now l) ⌝ }
+    ensures { λ r. ⌜ r ≡ shape.shapeOf (line.decodeNamed 6 (now (l .entry))) ⌝ }
+{
+    let n = text_length(&l[TEXT..LAST]);
+    named_shape(cell(l, 0), n)
+}
+
+// The line at the front of any bytes: its letter decides what else it must hold.
+pub fn read_line(l: &[u8]) -> Shape
+    ensures { λ r. ⌜ r ≡ shape.shapeOf (line.decode 6 (now (l .entry))) ⌝ }
+{
+    if l.len() < LINE {
+        return Shape::Bad;
+    }
+    if l[LAST] != 10 {
+        return Shape::Bad;
+    }
+    match l[0] {
+        b'N' => read_named(l),
+        b'A' | b'C' | b'D' | b'F' | b'I' | b'P' | b'V' | b'Y' => read_row(l),
+        _ => Shape::Bad,
+    }
+}
