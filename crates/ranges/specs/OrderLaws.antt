@@ -49,7 +49,7 @@ unfolding due-after due
 broken-stays [] = refl
 broken-stays (l ∷ ls) = broken-stays ls
 
--- A letter x after which a is due if it begins a declaration: the place is kept.
+-- From place p a letter x leads to q: unless that is broken, no place is gone back to.
 Kept : ℕ → ℕ → Due → Type 0
 Kept p x q = is-broken q ≡ false → (p ≤ rank x) × (rank x ≤ least q)
 
@@ -68,6 +68,7 @@ announced-least kind params last = go (leb kind 1) (eqb kind 2) (eqb kind 3)
     go false false true = refl
     go false false false = refl
 
+-- in the header, where a is due after a line that begins a declaration
 abbrev InHeader : ℕ → Due → ℕ → Type 0
 InHeader p a x = Kept (min p 3) x (eqb x 78 && leb p 0 ⇒ Header 0 ∥ eqb x 65 && leb p 1 ⇒ Header 1 ∥ eqb x 89 && leb p 2 ⇒ Header 2 ∥ eqb x 68 || eqb x 73 ⇒ a ∥ Broken)
 
