@@ -1,0 +1,530 @@
+-- Names are numbers, and no verdict depends on their choice: a program whose names are renumbered by an
+-- injective ρ runs as the program itself, with renumbered verdicts and left declarations. With locality,
+-- two programs may so be compared whose numbers for the same names differ. Assumes nothing.
+use mathlib.Core.Path.{_≡_, refl, sym, _∙_, ap, ap₂, subst, fun-ext}
+use mathlib.Core.List.{List, [], _∷_, _++_, map, map-append, List·Memᴰ, Memᴰ·map, Memᴰ·of-map}
+use mathlib.Core.Bool.{Bool, true, false, _&&_, _||_, not}
+use mathlib.Core.Option.{Option, none, some, Option·map}
+use Prim.Native.Nat.{ℕ, zero, suc, _+_, _<_}
+use native.Mathlib.Omega.{arith}
+use lib.Dec.{eqb, leb, ltb}
+use lib.ListN.{length, getD, length-map, List·getD-map}
+use borrow.Author.Tests.{eqb-true, eq-eqb}
+use Rattle.columns.specs.Column.{pick}
+use Rattle.custard.specs.Cty.{
+  Cty,
+  Ctys,
+  TUnit,
+  TAny,
+  TExn,
+  TVar,
+  TInt,
+  TFloat,
+  TConst,
+  TArrow,
+  TApp,
+  TTuple,
+  TBuf,
+  TRef,
+  TInline,
+  nil,
+  cons,
+  lengths,
+  append,
+  firsts,
+  others,
+  walk,
+  walks,
+  gather,
+  gathers,
+  names-of-cty,
+  cty-vars,
+  size,
+  sizes,
+  uninline,
+  Binding,
+  zip,
+  look,
+  subst-cty,
+}
+use Rattle.custard.specs.Decl.{
+  Field,
+  Ctor,
+  Body,
+  TAbstract,
+  TAbbrev,
+  TRecord,
+  TVariant,
+  Dtype,
+  Erased,
+  Realized,
+  NoNewtype,
+  NoUnfold,
+  has-flag,
+  ctors-of,
+  ctors-of-tydef,
+  CtorLayout,
+  NewtypeLayout,
+  Layout,
+  L-erased,
+  L-newtype,
+  L-struct,
+  L-abbrev,
+  L-opaque,
+  TypeInfo,
+  Origin,
+  here,
+  imported,
+  Decl,
+  no-decl,
+  dtype-at,
+  origin-at,
+  table,
+  position,
+  member,
+  close,
+  close-field,
+  close-body,
+  close-fields,
+}
+use Rattle.custard.specs.Erasure.{
+  cty-erased,
+  ctys-erased,
+  is-pure,
+  fields-erased,
+  body-erased,
+  dtype-erased,
+  marked,
+  rule-of,
+  rule,
+  Settled,
+  settle,
+  start-of,
+  start,
+  erasure-fixpoint,
+}
+use Rattle.custard.specs.Resolve.{Unfold, gone, newtype, abbreviation, stays, attach, instance, Result, ok, fault, spent, bind}
+use Rattle.custard.specs.Run.{all-in}
+use Rattle.custard.specs.Laws.Layout.{same-test, table-cong}
+
+-- ---- lists
+-- two ways round through two maps
+pub map-square : {A B C D : Type 0} (f : A → B) (g : A → C) (h : B → D) (k : C → D) → ((x : A) → k (g x) ≡ h (f x)) → (xs : List A) → map k (map g xs) ≡ map h (map f xs)
+map-square f g h k e [] = refl
+map-square f g h k e (x ∷ xs) = ap₂ _∷_ (e x) (map-square f g h k e xs)
+
+-- what is read of an entry of a mapped list, where it is what is read of the entry itself, past the end too
+pub getD-read : {A B C : Type 0} (f : A → B) (p : A → C) (q : B → C) → ((x : A) → q (f x) ≡ p x) → (a : A) (b : B) → q b ≡ p a → (xs : List A) (i : ℕ) → q (getD (map f xs) i b) ≡ p (getD xs i a)
+getD-read f p q e a b z [] i = z
+getD-read f p q e a b z (x ∷ xs) zero = e x
+getD-read f p q e a b z (x ∷ xs) (suc i) = getD-read f p q e a b z xs i
+
+-- an entry of a mapped list, before its end
+pub getD-mapped : {A B : Type 0} (f : A → B) (a : A) (b : B) (xs : List A) (i : ℕ) → i < length xs → getD (map f xs) i b ≡ f (getD xs i a)
+getD-mapped f a b [] i h = absurd (omega arith)
+getD-mapped f a b (x ∷ xs) zero h = refl
+getD-mapped f a b (x ∷ xs) (suc i) h = getD-mapped f a b xs i (omega arith)
+
+pub table-map : {A B : Type 0} (g : A → B) (f : ℕ → A) (n : ℕ) → table (λ i. g (f i)) n ≡ map g (table f n)
+unfolding table
+table-map g f zero = refl
+table-map g f (suc n) = ap (λ xs. g (f 0) ∷ xs) (table-map g (λ i. f (suc i)) n)
+
+-- ---- renumbering
+-- no two numbers become one
+abbrev pub Injective : (ℕ → ℕ) → Type 0
+Injective ρ = (a b : ℕ) → ρ a ≡ ρ b → a ≡ b
+
+-- Names are those of types, parameters, constructors and fields; every other number is kept.
+module _ (ρ : ℕ → ℕ) where
+  abbrev pub rename-cty : Cty → Cty
+  rename-cty = walk (λ v. TVar (ρ v)) (λ n us. TApp (ρ n) us)
+
+  abbrev pub rename-ctys : Ctys → Ctys
+  rename-ctys = walks (λ v. TVar (ρ v)) (λ n us. TApp (ρ n) us)
+
+  abbrev pub rename-field : Field → Field
+  rename-field f = record { fd-name = ρ (f .fd-name); fd-type = rename-cty (f .fd-type) }
+
+  abbrev pub rename-ctor : Ctor → Ctor
+  rename-ctor c = record { ct-name = ρ (c .ct-name); ct-fields = map rename-field (c .ct-fields) }
+
+  abbrev pub rename-body : Body → Body
+  rename-body TAbstract = TAbstract
+  rename-body (TAbbrev c) = TAbbrev (rename-cty c)
+  rename-body (TRecord fs) = TRecord (map rename-field fs)
+  rename-body (TVariant cs) = TVariant (map rename-ctor cs)
+
+  abbrev pub rename-dtype : Dtype → Dtype
+  rename-dtype d =
+      record { dt-name = ρ (d .dt-name); dt-flags = d .dt-flags; dt-params = map ρ (d .dt-params); dt-body = rename-body (d .dt-body) }
+
+  abbrev pub rename-ctor-layout : CtorLayout → CtorLayout
+  rename-ctor-layout cl = record { cl-name = ρ (cl .cl-name); cl-slots = cl .cl-slots; cl-fields = map rename-field (cl .cl-fields) }
+
+  abbrev pub rename-newtype : NewtypeLayout → NewtypeLayout
+  rename-newtype nt =
+      record { nt-ctor = ρ (nt .nt-ctor); nt-field = ρ (nt .nt-field); nt-index = nt .nt-index; nt-ty = rename-cty (nt .nt-ty) }
+
+  abbrev pub rename-layout : Layout → Layout
+  rename-layout L-erased = L-erased
+  rename-layout (L-newtype nt) = L-newtype (rename-newtype nt)
+  rename-layout (L-struct cls) = L-struct (map rename-ctor-layout cls)
+  rename-layout (L-abbrev c) = L-abbrev (rename-cty c)
+  rename-layout L-opaque = L-opaque
+
+  abbrev pub rename-info : TypeInfo → TypeInfo
+  rename-info ti =
+      record { ti-erased = ti .ti-erased; ti-layout = rename-layout (ti .ti-layout); ti-ctors = map rename-ctor-layout (ti .ti-ctors); ti-record = ti .ti-record }
+
+  abbrev pub rename-origin : Origin → Origin
+  rename-origin here = here
+  rename-origin (imported ti) = imported (rename-info ti)
+
+  abbrev pub rename-decl : Decl → Decl
+  rename-decl d = record { dtype = rename-dtype (d .dtype); origin = rename-origin (d .origin) }
+
+  -- a program
+  abbrev pub rename-decls : List Decl → List Decl
+  rename-decls = map rename-decl
+
+  abbrev pub rename-unfold : Unfold → Unfold
+  rename-unfold gone = gone
+  rename-unfold (newtype ps c) = newtype (map ρ ps) (rename-cty c)
+  rename-unfold (abbreviation ps c) = abbreviation (map ρ ps) (rename-cty c)
+  rename-unfold stays = stays
+
+  abbrev pub rename-binding : Binding → Binding
+  rename-binding b = record { param = ρ (b .param); arg = rename-cty (b .arg) }
+
+  -- a candidate, and what is left of a declaration
+  abbrev pub rename-candidate : Option Layout → Option Layout
+  rename-candidate = Option·map rename-layout
+
+  abbrev pub rename-left : Option Dtype → Option Dtype
+  rename-left = Option·map rename-dtype
+
+-- ---- types
+-- a walk after renaming, where its two functions rename
+module _ (ρ : ℕ → ℕ) (var var' : ℕ → Cty) (app app' : ℕ → Ctys → Cty)
+    (hv : (v : ℕ) → var' (ρ v) ≡ rename-cty ρ (var v))
+    (ha : (n : ℕ) (us : Ctys) → app' (ρ n) (rename-ctys ρ us) ≡ rename-cty ρ (app n us)) where
+  mutual
+    unfolding walk
+
+    pub walk-rename : (c : Cty) → walk var' app' (rename-cty ρ c) ≡ rename-cty ρ (walk var app c)
+    walk-rename TUnit = refl
+    walk-rename TAny = refl
+    walk-rename TExn = refl
+    walk-rename (TVar v) = hv v
+    walk-rename (TInt s w) = refl
+    walk-rename (TFloat f) = refl
+    walk-rename (TConst c) = refl
+    walk-rename (TArrow a e b) = ap₂ (λ (x y : Cty). TArrow x e y) (walk-rename a) (walk-rename b)
+    walk-rename (TApp n ts) = ap (app' (ρ n)) (walks-rename ts) ∙ ha n (walks var app ts)
+    walk-rename (TTuple ts) = ap TTuple (walks-rename ts)
+    walk-rename (TBuf t) = ap TBuf (walk-rename t)
+    walk-rename (TRef k t) = ap (TRef k) (walk-rename t)
+    walk-rename (TInline t) = ap TInline (walk-rename t)
+
+    pub walks-rename : (ts : Ctys) → walks var' app' (rename-ctys ρ ts) ≡ rename-ctys ρ (walks var app ts)
+    walks-rename nil = refl
+    walks-rename (cons t ts) = ap₂ cons (walk-rename t) (walks-rename ts)
+
+-- what is gathered after renaming
+module _ (ρ : ℕ → ℕ) (var var' app app' : ℕ → List ℕ)
+    (hv : (v : ℕ) → var' (ρ v) ≡ map ρ (var v)) (ha : (n : ℕ) → app' (ρ n) ≡ map ρ (app n)) where
+  joined : (xs ys : List ℕ) {xs' ys' : List ℕ} → xs' ≡ map ρ xs → ys' ≡ map ρ ys → xs' ++ ys' ≡ map ρ (xs ++ ys)
+  joined xs ys e f = ap₂ (λ (x y : List ℕ). x ++ y) e f ∙ sym (map-append ρ xs ys)
+
+  mutual
+    unfolding walk gather
+
+    pub gather-rename : (c : Cty) → gather var' app' (rename-cty ρ c) ≡ map ρ (gather var app c)
+    gather-rename TUnit = refl
+    gather-rename TAny = refl
+    gather-rename TExn = refl
+    gather-rename (TVar v) = hv v
+    gather-rename (TInt s w) = refl
+    gather-rename (TFloat f) = refl
+    gather-rename (TConst c) = refl
+    gather-rename (TArrow a e b) = joined (gather var app a) (gather var app b) (gather-rename a) (gather-rename b)
+    gather-rename (TApp n ts) = joined (app n) (gathers var app ts) (ha n) (gathers-rename ts)
+    gather-rename (TTuple ts) = gathers-rename ts
+    gather-rename (TBuf t) = gather-rename t
+    gather-rename (TRef k t) = gather-rename t
+    gather-rename (TInline t) = gather-rename t
+
+    pub gathers-rename : (ts : Ctys) → gathers var' app' (rename-ctys ρ ts) ≡ map ρ (gathers var app ts)
+    gathers-rename nil = refl
+    gathers-rename (cons t ts) = joined (gather var app t) (gathers var app ts) (gather-rename t) (gathers-rename ts)
+
+-- which types are erased
+module _ (ρ : ℕ → ℕ) (er er' : ℕ → Bool) (e : (n : ℕ) → er' (ρ n) ≡ er n) where
+  mutual
+    unfolding walk cty-erased
+
+    pub cty-erased-rename : (c : Cty) → cty-erased er' (rename-cty ρ c) ≡ cty-erased er c
+    cty-erased-rename TUnit = refl
+    cty-erased-rename TAny = refl
+    cty-erased-rename TExn = refl
+    cty-erased-rename (TVar v) = refl
+    cty-erased-rename (TInt s w) = refl
+    cty-erased-rename (TFloat f) = refl
+    cty-erased-rename (TConst c) = refl
+    cty-erased-rename (TArrow a k b) = ap (λ (x : Bool). is-pure k && x) (cty-erased-rename b)
+    cty-erased-rename (TApp n ts) = e n
+    cty-erased-rename (TTuple ts) = ctys-erased-rename ts
+    cty-erased-rename (TBuf t) = refl
+    cty-erased-rename (TRef k t) = refl
+    cty-erased-rename (TInline t) = cty-erased-rename t
+
+    pub ctys-erased-rename : (ts : Ctys) → ctys-erased er' (rename-ctys ρ ts) ≡ ctys-erased er ts
+    ctys-erased-rename nil = refl
+    ctys-erased-rename (cons t ts) = ap₂ (λ (x y : Bool). x && y) (cty-erased-rename t) (ctys-erased-rename ts)
+
+module _ (ρ : ℕ → ℕ) where
+  -- the names and the variables of a type
+  pub names-rename : (c : Cty) → names-of-cty (rename-cty ρ c) ≡ map ρ (names-of-cty c)
+  unfolding names-of-cty
+  names-rename = gather-rename ρ (λ v. []) (λ v. []) (λ n. n ∷ []) (λ n. n ∷ []) (λ v. refl) (λ n. refl)
+
+  pub vars-rename : (c : Cty) → cty-vars (rename-cty ρ c) ≡ map ρ (cty-vars c)
+  unfolding cty-vars
+  vars-rename = gather-rename ρ (λ v. v ∷ []) (λ v. v ∷ []) (λ n. []) (λ n. []) (λ v. refl) (λ n. refl)
+
+  mutual
+    unfolding walk size
+
+    -- nodes
+    pub size-rename : (c : Cty) → size (rename-cty ρ c) ≡ size c
+    size-rename TUnit = refl
+    size-rename TAny = refl
+    size-rename TExn = refl
+    size-rename (TVar v) = refl
+    size-rename (TInt s w) = refl
+    size-rename (TFloat f) = refl
+    size-rename (TConst c) = refl
+    size-rename (TArrow a e b) = ap₂ (λ (m n : ℕ). 1 + (m + n)) (size-rename a) (size-rename b)
+    size-rename (TApp n ts) = ap (λ (m : ℕ). 1 + m) (sizes-rename ts)
+    size-rename (TTuple ts) = ap (λ (m : ℕ). 1 + m) (sizes-rename ts)
+    size-rename (TBuf t) = ap (λ (m : ℕ). 1 + m) (size-rename t)
+    size-rename (TRef k t) = ap (λ (m : ℕ). 1 + m) (size-rename t)
+    size-rename (TInline t) = ap (λ (m : ℕ). 1 + m) (size-rename t)
+
+    pub sizes-rename : (ts : Ctys) → sizes (rename-ctys ρ ts) ≡ sizes ts
+    sizes-rename nil = refl
+    sizes-rename (cons t ts) = ap₂ (λ (m n : ℕ). m + n) (size-rename t) (sizes-rename ts)
+
+  pub uninline-rename : (c : Cty) → uninline (rename-cty ρ c) ≡ rename-cty ρ (uninline c)
+  unfolding walk uninline
+  uninline-rename TUnit = refl
+  uninline-rename TAny = refl
+  uninline-rename TExn = refl
+  uninline-rename (TVar v) = refl
+  uninline-rename (TInt s w) = refl
+  uninline-rename (TFloat f) = refl
+  uninline-rename (TConst c) = refl
+  uninline-rename (TArrow a e b) = refl
+  uninline-rename (TApp n ts) = refl
+  uninline-rename (TTuple ts) = refl
+  uninline-rename (TBuf t) = refl
+  uninline-rename (TRef k t) = refl
+  uninline-rename (TInline t) = refl
+
+  -- lists of types
+  pub lengths-rename : (ts : Ctys) → lengths (rename-ctys ρ ts) ≡ lengths ts
+  unfolding walk lengths
+  lengths-rename nil = refl
+  lengths-rename (cons t ts) = ap suc (lengths-rename ts)
+
+  pub append-rename : (ts us : Ctys) → append (rename-ctys ρ ts) (rename-ctys ρ us) ≡ rename-ctys ρ (append ts us)
+  unfolding walk append
+  append-rename nil us = refl
+  append-rename (cons t ts) us = ap (cons (rename-cty ρ t)) (append-rename ts us)
+
+  pub firsts-rename : (n : ℕ) (ts : Ctys) → firsts n (rename-ctys ρ ts) ≡ rename-ctys ρ (firsts n ts)
+  unfolding walk firsts
+  firsts-rename zero ts = refl
+  firsts-rename (suc n) nil = refl
+  firsts-rename (suc n) (cons t ts) = ap (cons (rename-cty ρ t)) (firsts-rename n ts)
+
+  pub others-rename : (n : ℕ) (ts : Ctys) → others n (rename-ctys ρ ts) ≡ rename-ctys ρ (others n ts)
+  unfolding walk others
+  others-rename zero ts = refl
+  others-rename (suc n) nil = refl
+  others-rename (suc n) (cons t ts) = others-rename n ts
+
+  pub attach-rename : (c : Cty) (us : Ctys) → attach (rename-cty ρ c) (rename-ctys ρ us) ≡ rename-cty ρ (attach c us)
+  unfolding walk attach
+  attach-rename TUnit us = refl
+  attach-rename TAny us = refl
+  attach-rename TExn us = refl
+  attach-rename (TVar v) us = refl
+  attach-rename (TInt s w) us = refl
+  attach-rename (TFloat f) us = refl
+  attach-rename (TConst c) us = refl
+  attach-rename (TArrow a e b) us = refl
+  attach-rename (TApp n ts) us = ap (TApp (ρ n)) (append-rename ts us)
+  attach-rename (TTuple ts) us = refl
+  attach-rename (TBuf t) us = refl
+  attach-rename (TRef k t) us = refl
+  attach-rename (TInline t) us = refl
+
+-- ---- erasure
+module _ (ρ : ℕ → ℕ) (er er' : ℕ → Bool) (e : (n : ℕ) → er' (ρ n) ≡ er n) where
+  pub fields-erased-rename : (fs : List Field) → fields-erased er' (map (rename-field ρ) fs) ≡ fields-erased er fs
+  unfolding fields-erased
+  fields-erased-rename [] = refl
+  fields-erased-rename (f ∷ fs) = ap₂ (λ (x y : Bool). x && y) (cty-erased-rename ρ er er' e (f .fd-type)) (fields-erased-rename fs)
+
+  pub body-erased-rename : (b : Body) → body-erased er' (rename-body ρ b) ≡ body-erased er b
+  unfolding body-erased
+  body-erased-rename TAbstract = refl
+  body-erased-rename (TAbbrev c) = cty-erased-rename ρ er er' e c
+  body-erased-rename (TRecord fs) = fields-erased-rename fs
+  body-erased-rename (TVariant []) = refl
+  body-erased-rename (TVariant (c ∷ [])) = fields-erased-rename (c .ct-fields)
+  body-erased-rename (TVariant (c ∷ d ∷ cs)) = refl
+
+  pub dtype-erased-rename : (d : Dtype) → dtype-erased er' (rename-dtype ρ d) ≡ dtype-erased er d
+  unfolding dtype-erased has-flag
+  dtype-erased-rename d = ap (λ (b : Bool). pick (has-flag d Erased) true (pick (has-flag d Realized) false b)) (body-erased-rename (d .dt-body))
+
+  pub rule-of-rename : (d : Dtype) (o : Origin) → rule-of er' (rename-dtype ρ d) (rename-origin ρ o) ≡ rule-of er d o
+  unfolding rule-of
+  rule-of-rename d here = dtype-erased-rename d
+  rule-of-rename d (imported ti) = refl
+
+-- what is left where no declaration stands
+rule-of-none : (er er' : ℕ → Bool) → rule-of er' (no-decl .dtype) (no-decl .origin) ≡ rule-of er (no-decl .dtype) (no-decl .origin)
+unfolding rule-of dtype-erased body-erased
+rule-of-none er er' = refl
+
+module _ (ρ : ℕ → ℕ) where
+  -- imports start alike
+  pub start-rename : (ds : List Decl) → start (rename-decls ρ ds) ≡ start ds
+  unfolding start start-of
+  start-rename [] = refl
+  start-rename (d ∷ ds) = ap₂ _∷_ (go (d .origin)) (start-rename ds)
+    where
+      go : (o : Origin) → start-of (rename-origin ρ o) ≡ start-of o
+      go here = refl
+      go (imported ti) = refl
+
+  -- the entries of a renamed program
+  pub dtype-rename : (ds : List Decl) (i : ℕ) → i < length ds → dtype-at (rename-decls ρ ds) i ≡ rename-dtype ρ (dtype-at ds i)
+  dtype-rename ds i h = ap (λ (d : Decl). d .dtype) (getD-mapped (rename-decl ρ) no-decl no-decl ds i h)
+
+  pub origin-rename : (ds : List Decl) (i : ℕ) → i < length ds → origin-at (rename-decls ρ ds) i ≡ rename-origin ρ (origin-at ds i)
+  origin-rename ds i h = ap (λ (d : Decl). d .origin) (getD-mapped (rename-decl ρ) no-decl no-decl ds i h)
+
+-- ---- names that are compared
+module _ (ρ : ℕ → ℕ) (inj : Injective ρ) where
+  pub eqb-rename : (a b : ℕ) → eqb (ρ a) (ρ b) ≡ eqb a b
+  eqb-rename a b =
+      same-test (eqb (ρ a) (ρ b)) (eqb a b) (λ e. eq-eqb a b (inj a b (eqb-true (ρ a) (ρ b) e))) (λ e. eq-eqb (ρ a) (ρ b) (ap ρ (eqb-true a b e)))
+
+  -- a name keeps its place
+  pub position-rename : (ds : List Decl) (n : ℕ) → position (rename-decls ρ ds) (ρ n) ≡ position ds n
+  unfolding position
+  position-rename [] n = refl
+  position-rename (d ∷ ds) n =
+      ap₂ (λ (b : Bool) (i : ℕ). pick b 0 (suc i)) (eqb-rename (d .dtype .dt-name) n) (position-rename ds n)
+
+  pub member-rename : (n : ℕ) (ms : List ℕ) → member (ρ n) (map ρ ms) ≡ member n ms
+  unfolding member
+  member-rename n [] = refl
+  member-rename n (m ∷ ms) = ap₂ (λ (b r : Bool). pick b true r) (eqb-rename m n) (member-rename n ms)
+
+  pub all-in-rename : (ms ns : List ℕ) → all-in (map ρ ms) (map ρ ns) ≡ all-in ms ns
+  unfolding all-in
+  all-in-rename [] ns = refl
+  all-in-rename (m ∷ ms) ns = ap₂ (λ (x y : Bool). x && y) (member-rename m ns) (all-in-rename ms ns)
+
+  -- ---- erasure_fixpoint
+  pub marked-rename : (ds : List Decl) (s : List Bool) (n : ℕ) → marked (rename-decls ρ ds) s (ρ n) ≡ marked ds s n
+  unfolding marked
+  marked-rename ds s n = ap (λ (i : ℕ). getD s i false) (position-rename ds n)
+
+  pub rule-rename : (ds : List Decl) (s : List Bool) (i : ℕ) → rule (rename-decls ρ ds) s i ≡ rule ds s i
+  unfolding rule
+  rule-rename ds s i =
+      getD-read (rename-decl ρ)
+      (λ (d : Decl). rule-of (marked ds s) (d .dtype) (d .origin))
+      (λ (d : Decl). rule-of (marked (rename-decls ρ ds) s) (d .dtype) (d .origin))
+      (λ (d : Decl). rule-of-rename ρ (marked ds s) (marked (rename-decls ρ ds) s) (marked-rename ds s) (d .dtype) (d .origin))
+      no-decl no-decl
+      (rule-of-none (marked ds s) (marked (rename-decls ρ ds) s))
+      ds i
+
+  -- the same marks after the same rounds
+  pub erasure-rename : (ds : List Decl) → erasure-fixpoint (rename-decls ρ ds) ≡ erasure-fixpoint ds
+  unfolding erasure-fixpoint
+  erasure-rename ds =
+      ap₂ (λ (n : ℕ) (s : List Bool). settle (rule (rename-decls ρ ds)) (suc n) s) (length-map ds (rename-decl ρ)) (start-rename ρ ds)
+      ∙ ap (λ (r : List Bool → ℕ → Bool). settle r (suc (length ds)) (start ds)) (fun-ext (λ s. fun-ext (λ i. rule-rename ds s i)))
+
+  -- ---- substitution
+  pub zip-rename : (ps : List ℕ) (ts : Ctys) → zip (map ρ ps) (rename-ctys ρ ts) ≡ map (rename-binding ρ) (zip ps ts)
+  unfolding zip walk
+  zip-rename [] ts = refl
+  zip-rename (p ∷ ps) nil = refl
+  zip-rename (p ∷ ps) (cons t ts) = ap (λ (s : List Binding). record { param = ρ p; arg = rename-cty ρ t } ∷ s) (zip-rename ps ts)
+
+  pub look-rename : (s : List Binding) (v : ℕ) → look (map (rename-binding ρ) s) (ρ v) ≡ rename-cty ρ (look s v)
+  unfolding look walk
+  look-rename [] v = refl
+  look-rename (b ∷ s) v =
+      ap₂ (λ (x : Bool) (c : Cty). pick x (rename-cty ρ (b .arg)) c) (eqb-rename (b .param) v) (look-rename s v) ∙ go (eqb (b .param) v)
+    where
+      go : (x : Bool) → pick x (rename-cty ρ (b .arg)) (rename-cty ρ (look s v)) ≡ rename-cty ρ (pick x (b .arg) (look s v))
+      go true = refl
+      go false = refl
+
+  pub subst-rename : (s : List Binding) (c : Cty) → subst-cty (map (rename-binding ρ) s) (rename-cty ρ c) ≡ rename-cty ρ (subst-cty s c)
+  unfolding subst-cty walk
+  subst-rename s = walk-rename ρ (look s) (look (map (rename-binding ρ) s)) TApp TApp (look-rename s) (λ n us. refl)
+
+  pub instance-rename : (ps : List ℕ) (us : Ctys) (c : Cty) → instance (map ρ ps) (rename-ctys ρ us) (rename-cty ρ c) ≡ rename-cty ρ (instance ps us c)
+  unfolding instance
+  instance-rename ps us c =
+      ap (λ (s : List Binding). subst-cty s (rename-cty ρ c))
+      (ap₂ (λ (b : Bool) (s : List Binding). pick b s []) (ap₂ eqb (length-map ps ρ) (lengths-rename ρ us)) (zip-rename ps us) ∙ go (eqb (length ps) (lengths us)))
+      ∙ subst-rename (pick (eqb (length ps) (lengths us)) (zip ps us) []) c
+    where
+      go : (b : Bool) → pick b (map (rename-binding ρ) (zip ps us)) [] ≡ map (rename-binding ρ) (pick b (zip ps us) [])
+      go true = refl
+      go false = refl
+
+  -- variables that are not bound
+  pub close-rename : (ps : List ℕ) (c : Cty) → close (map ρ ps) (rename-cty ρ c) ≡ rename-cty ρ (close ps c)
+  unfolding close walk
+  close-rename ps =
+      walk-rename ρ (λ v. pick (member v ps) (TVar v) TAny) (λ v. pick (member v (map ρ ps)) (TVar v) TAny) TApp TApp
+      (λ v. ap (λ (b : Bool). pick b (TVar (ρ v)) TAny) (member-rename v ps) ∙ go v (member v ps)) (λ n us. refl)
+    where
+      go : (v : ℕ) (b : Bool) → pick b (TVar (ρ v)) TAny ≡ rename-cty ρ (pick b (TVar v) TAny)
+      go v true = refl
+      go v false = refl
+
+  close-field-rename : (ps : List ℕ) (f : Field) → close-field (map ρ ps) (rename-field ρ f) ≡ rename-field ρ (close-field ps f)
+  unfolding close-field
+  close-field-rename ps f = ap (λ (c : Cty). record { fd-name = ρ (f .fd-name); fd-type = c }) (close-rename ps (f .fd-type))
+
+  close-fields-map : (ps : List ℕ) (fs : List Field) → map (close-field (map ρ ps)) (map (rename-field ρ) fs) ≡ map (rename-field ρ) (map (close-field ps) fs)
+  close-fields-map ps = map-square (close-field ps) (rename-field ρ) (rename-field ρ) (close-field (map ρ ps)) (close-field-rename ps)
+
+  close-body-rename : (ps : List ℕ) (b : Body) → close-body (map ρ ps) (rename-body ρ b) ≡ rename-body ρ (close-body ps b)
+  unfolding close-body
+  close-body-rename ps TAbstract = refl
+  close-body-rename ps (TAbbrev c) = ap TAbbrev (close-rename ps c)
+  close-body-rename ps (TRecord fs) = ap TRecord (close-fields-map ps fs)
+  close-body-rename ps (TVariant cs) =
+      ap TVariant
+      (map-square _ (rename-ctor ρ) (rename-ctor ρ) _ (λ (c : Ctor). ap (λ (fs : List Field). record { ct-name = ρ (c .ct-name); ct-fields = fs }) (close-fields-map ps (c .ct-fields))) cs)
+
+  pub close-fields-rename : (d : Dtype) → close-fields (rename-dtype ρ d) ≡ rename-dtype ρ (close-fields d)
+  unfolding close-fields
+  close-fields-rename d =
+      ap (λ (b : Body). record { dt-name = ρ (d .dt-name); dt-flags = d .dt-flags; dt-params = map ρ (d .dt-params); dt-body = b }) (close-body-rename (d .dt-params) (d .dt-body))
