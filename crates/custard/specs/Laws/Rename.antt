@@ -104,8 +104,29 @@ use Rattle.custard.specs.Erasure.{
   erasure-fixpoint,
 }
 use Rattle.custard.specs.Resolve.{Unfold, gone, newtype, abbreviation, stays, attach, instance, Result, ok, fault, spent, bind}
-use Rattle.custard.specs.Run.{all-in}
-use Rattle.custard.specs.Laws.Layout.{same-test, table-cong}
+use Rattle.custard.specs.Layout.{
+  slots,
+  kept,
+  ctor-layout,
+  ctor-layouts,
+  first-kept,
+  newtype-of-ctor,
+  newtype-of,
+  candidate,
+  candidates,
+  positions,
+  names-in,
+  payload-names,
+  guard-next,
+  dropped,
+  collapse,
+  layout-of-body,
+  layout-of,
+  compute-layouts,
+}
+use Rattle.custard.specs.Reach.{cyclic}
+use Rattle.custard.specs.Run.{all-in, layouts-of}
+use Rattle.custard.specs.Laws.Layout.{same-test, table-cong, candidate-at, candidates-of, layout-at}
 
 -- ---- lists
 -- two ways round through two maps
@@ -528,3 +549,159 @@ module _ (ρ : ℕ → ℕ) (inj : Injective ρ) where
   unfolding close-fields
   close-fields-rename d =
       ap (λ (b : Body). record { dt-name = ρ (d .dt-name); dt-flags = d .dt-flags; dt-params = map ρ (d .dt-params); dt-body = b }) (close-body-rename (d .dt-params) (d .dt-body))
+
+-- ---- constructor layouts
+module _ (ρ : ℕ → ℕ) where
+  pub kept-rename : (bs : List Bool) (fs : List Field) → kept bs (map (rename-field ρ) fs) ≡ map (rename-field ρ) (kept bs fs)
+  unfolding kept
+  kept-rename [] fs = refl
+  kept-rename (b ∷ bs) [] = refl
+  kept-rename (b ∷ bs) (f ∷ fs) = ap (λ (gs : List Field). pick b (rename-field ρ f ∷ gs) gs) (kept-rename bs fs) ∙ go b
+    where
+      go : (x : Bool) → pick x (rename-field ρ f ∷ map (rename-field ρ) (kept bs fs)) (map (rename-field ρ) (kept bs fs)) ≡ map (rename-field ρ) (pick x (f ∷ kept bs fs) (kept bs fs))
+      go true = refl
+      go false = refl
+
+  pub ctors-rename : (n : ℕ) (b : Body) → ctors-of (ρ n) (rename-body ρ b) ≡ map (rename-ctor ρ) (ctors-of n b)
+  unfolding ctors-of
+  ctors-rename n TAbstract = refl
+  ctors-rename n (TAbbrev c) = refl
+  ctors-rename n (TRecord fs) = refl
+  ctors-rename n (TVariant cs) = refl
+
+  module _ (er er' : ℕ → Bool) (e : (n : ℕ) → er' (ρ n) ≡ er n) where
+    pub slots-rename : (fs : List Field) → slots er' (map (rename-field ρ) fs) ≡ slots er fs
+    unfolding slots
+    slots-rename [] = refl
+    slots-rename (f ∷ fs) = ap₂ _∷_ (ap not (cty-erased-rename ρ er er' e (f .fd-type))) (slots-rename fs)
+
+    ctor-layout-rename : (c : Ctor) → ctor-layout (rename-ctor ρ c) (slots er' (map (rename-field ρ) (c .ct-fields))) ≡ rename-ctor-layout ρ (ctor-layout c (slots er (c .ct-fields)))
+    unfolding ctor-layout
+    ctor-layout-rename c =
+        ap (ctor-layout (rename-ctor ρ c)) (slots-rename (c .ct-fields))
+        ∙ ap (λ (fs : List Field). record { cl-name = ρ (c .ct-name); cl-slots = slots er (c .ct-fields); cl-fields = fs }) (kept-rename (slots er (c .ct-fields)) (c .ct-fields))
+
+    pub ctor-layouts-rename : (d : Dtype) → ctor-layouts er' (rename-dtype ρ d) ≡ map (rename-ctor-layout ρ) (ctor-layouts er d)
+    unfolding ctor-layouts
+    ctor-layouts-rename d =
+        ap (map (λ c. ctor-layout c (slots er' (c .ct-fields)))) (ctors-rename (d .dt-name) (d .dt-body))
+        ∙ map-square (λ c. ctor-layout c (slots er (c .ct-fields))) (rename-ctor ρ) (rename-ctor-layout ρ) (λ c. ctor-layout c (slots er' (c .ct-fields))) ctor-layout-rename (ctors-of-tydef d)
+
+  -- ---- newtypes
+  newtype-of-ctor-rename : (n : ℕ) (bs : List Bool) (fs : List Field) → newtype-of-ctor (ρ n) bs (map (rename-field ρ) fs) ≡ rename-candidate ρ (newtype-of-ctor n bs fs)
+  unfolding newtype-of-ctor
+  newtype-of-ctor-rename n bs [] = refl
+  newtype-of-ctor-rename n bs (f ∷ []) =
+      ap (λ (c : Cty). some (L-newtype (record { nt-ctor = ρ n; nt-field = ρ (f .fd-name); nt-index = first-kept bs; nt-ty = c }))) (uninline-rename ρ (f .fd-type))
+  newtype-of-ctor-rename n bs (f ∷ g ∷ fs) = refl
+
+  pub newtype-of-rename : (cls : List CtorLayout) → newtype-of (map (rename-ctor-layout ρ) cls) ≡ rename-candidate ρ (newtype-of cls)
+  unfolding newtype-of
+  newtype-of-rename [] = refl
+  newtype-of-rename (cl ∷ []) = newtype-of-ctor-rename (cl .cl-name) (cl .cl-slots) (cl .cl-fields)
+  newtype-of-rename (cl ∷ cm ∷ cls) = refl
+
+  pub candidate-rename : (d : Dtype) (o : Origin) (e : Bool) (cls : List CtorLayout)
+      → candidate (rename-dtype ρ d) (rename-origin ρ o) e (map (rename-ctor-layout ρ) cls) ≡ rename-candidate ρ (candidate d o e cls)
+  unfolding candidate has-flag
+  candidate-rename d (imported ti) e cls = refl
+  candidate-rename d here e cls = ap (λ (x : Option Layout). pick (e || has-flag d NoNewtype) none x) (newtype-of-rename cls) ∙ go (e || has-flag d NoNewtype)
+    where
+      go : (b : Bool) → pick b none (rename-candidate ρ (newtype-of cls)) ≡ rename-candidate ρ (pick b none (newtype-of cls))
+      go true = refl
+      go false = refl
+
+  collapse-rename : (drop : Bool) (cand : Option Layout) (cls : List CtorLayout) → collapse drop (rename-candidate ρ cand) (map (rename-ctor-layout ρ) cls) ≡ rename-layout ρ (collapse drop cand cls)
+  unfolding collapse
+  collapse-rename true cand cls = refl
+  collapse-rename false none cls = refl
+  collapse-rename false (some l) cls = refl
+
+  layout-of-body-rename : (b : Body) (drop : Bool) (cand : Option Layout) (cls : List CtorLayout)
+      → layout-of-body (rename-body ρ b) drop (rename-candidate ρ cand) (map (rename-ctor-layout ρ) cls) ≡ rename-layout ρ (layout-of-body b drop cand cls)
+  unfolding layout-of-body
+  layout-of-body-rename TAbstract drop cand cls = refl
+  layout-of-body-rename (TAbbrev c) drop cand cls = refl
+  layout-of-body-rename (TRecord fs) drop cand cls = collapse-rename drop cand cls
+  layout-of-body-rename (TVariant cs) drop cand cls = collapse-rename drop cand cls
+
+  pub layout-of-rename : (d : Dtype) (o : Origin) (e drop : Bool) (cand : Option Layout) (cls : List CtorLayout)
+      → layout-of (rename-dtype ρ d) (rename-origin ρ o) e drop (rename-candidate ρ cand) (map (rename-ctor-layout ρ) cls) ≡ rename-layout ρ (layout-of d o e drop cand cls)
+  unfolding layout-of
+  layout-of-rename d (imported ti) e drop cand cls = refl
+  layout-of-rename d here true drop cand cls = refl
+  layout-of-rename d here false drop cand cls = layout-of-body-rename (d .dt-body) drop cand cls
+
+-- ---- compute_layouts
+module _ (ρ : ℕ → ℕ) (inj : Injective ρ) where
+  pub positions-rename : (ds : List Decl) (ns : List ℕ) → positions (rename-decls ρ ds) (map ρ ns) ≡ positions ds ns
+  unfolding positions
+  positions-rename ds [] = refl
+  positions-rename ds (n ∷ ns) =
+      ap₂ (λ (i : ℕ) (is : List ℕ). pick (ltb i (length (rename-decls ρ ds))) (i ∷ is) is) (position-rename ρ inj ds n) (positions-rename ds ns)
+      ∙ ap (λ (k : ℕ). pick (ltb (position ds n) k) (position ds n ∷ positions ds ns) (positions ds ns)) (length-map ds (rename-decl ρ))
+
+  pub names-in-rename : (ds : List Decl) (c : Cty) → names-in (rename-decls ρ ds) (rename-cty ρ c) ≡ names-in ds c
+  names-in-rename ds c = ap (positions (rename-decls ρ ds)) (names-rename ρ c) ∙ positions-rename ds (names-of-cty c)
+
+  payload-names-rename : (ds : List Decl) (o : Option Layout) → payload-names (rename-decls ρ ds) (rename-candidate ρ o) ≡ payload-names ds o
+  unfolding payload-names
+  payload-names-rename ds none = refl
+  payload-names-rename ds (some L-erased) = refl
+  payload-names-rename ds (some (L-newtype nt)) = names-in-rename ds (nt .nt-ty)
+  payload-names-rename ds (some (L-struct cls)) = refl
+  payload-names-rename ds (some (L-abbrev c)) = refl
+  payload-names-rename ds (some L-opaque) = refl
+
+  pub guard-rename : (ds : List Decl) (cands : List (Option Layout)) (i : ℕ) → guard-next (rename-decls ρ ds) (map (rename-candidate ρ) cands) i ≡ guard-next ds cands i
+  unfolding guard-next
+  guard-rename ds cands i =
+      ap (payload-names (rename-decls ρ ds)) (List·getD-map (rename-candidate ρ) cands i none) ∙ payload-names-rename ds (getD cands i none)
+
+  -- the same candidates dropped
+  pub dropped-rename : (ds : List Decl) (cands : List (Option Layout)) (i : ℕ) → dropped (rename-decls ρ ds) (map (rename-candidate ρ) cands) i ≡ dropped ds cands i
+  unfolding dropped
+  dropped-rename ds cands i =
+      ap₂ (λ (next : ℕ → List ℕ) (n : ℕ). cyclic next n i) (fun-ext (λ j. guard-rename ds cands j)) (length-map ds (rename-decl ρ))
+
+  module _ (ds : List Decl) (s : List Bool) where
+    cls-at : (i : ℕ) → i < length ds
+        → ctor-layouts (marked (rename-decls ρ ds) s) (dtype-at (rename-decls ρ ds) i) ≡ map (rename-ctor-layout ρ) (ctor-layouts (marked ds s) (dtype-at ds i))
+    cls-at i h =
+        ap (ctor-layouts (marked (rename-decls ρ ds) s)) (dtype-rename ρ ds i h)
+        ∙ ctor-layouts-rename ρ (marked ds s) (marked (rename-decls ρ ds) s) (marked-rename ρ inj ds s) (dtype-at ds i)
+
+    candidate-at-rename : (i : ℕ) → i < length ds → candidate-at (rename-decls ρ ds) (marked (rename-decls ρ ds) s) s i ≡ rename-candidate ρ (candidate-at ds (marked ds s) s i)
+    candidate-at-rename i h =
+        ap₂ (λ (d : Dtype) (o : Origin). candidate d o (getD s i false) (ctor-layouts (marked (rename-decls ρ ds) s) (dtype-at (rename-decls ρ ds) i))) (dtype-rename ρ ds i h) (origin-rename ρ ds i h)
+        ∙ (ap (candidate (rename-dtype ρ (dtype-at ds i)) (rename-origin ρ (origin-at ds i)) (getD s i false)) (cls-at i h)
+        ∙ candidate-rename ρ (dtype-at ds i) (origin-at ds i) (getD s i false) (ctor-layouts (marked ds s) (dtype-at ds i)))
+
+    pub candidates-rename : candidates-of (rename-decls ρ ds) s ≡ map (rename-candidate ρ) (candidates-of ds s)
+    unfolding candidates
+    candidates-rename =
+        ap (table (candidate-at (rename-decls ρ ds) (marked (rename-decls ρ ds) s) s)) (length-map ds (rename-decl ρ))
+        ∙ (table-cong _ _ (length ds) candidate-at-rename
+        ∙ table-map (rename-candidate ρ) (candidate-at ds (marked ds s) s) (length ds))
+
+    layout-at-rename : (i : ℕ) → i < length ds → layout-at (rename-decls ρ ds) s i ≡ rename-layout ρ (layout-at ds s i)
+    layout-at-rename i h =
+        rw (dtype-rename ρ ds i h, origin-rename ρ ds i h)
+        (ap₂ (λ (cands : List (Option Layout)) (cls : List CtorLayout). layout-of (rename-dtype ρ (dtype-at ds i)) (rename-origin ρ (origin-at ds i)) (getD s i false) (dropped (rename-decls ρ ds) cands i) (getD cands i none) cls)
+        candidates-rename (ctor-layouts-rename ρ (marked ds s) (marked (rename-decls ρ ds) s) (marked-rename ρ inj ds s) (dtype-at ds i))
+        ∙ (ap₂ (λ (drop : Bool) (cand : Option Layout). layout-of (rename-dtype ρ (dtype-at ds i)) (rename-origin ρ (origin-at ds i)) (getD s i false) drop cand (map (rename-ctor-layout ρ) (ctor-layouts (marked ds s) (dtype-at ds i))))
+        (dropped-rename ds (candidates-of ds s) i) (List·getD-map (rename-candidate ρ) (candidates-of ds s) i none)
+        ∙ layout-of-rename ρ (dtype-at ds i) (origin-at ds i) (getD s i false) (dropped ds (candidates-of ds s) i) (getD (candidates-of ds s) i none) (ctor-layouts (marked ds s) (dtype-at ds i))))
+
+    pub compute-layouts-rename : compute-layouts (rename-decls ρ ds) s ≡ map (rename-layout ρ) (compute-layouts ds s)
+    unfolding compute-layouts
+    compute-layouts-rename =
+        ap (table (layout-at (rename-decls ρ ds) s)) (length-map ds (rename-decl ρ))
+        ∙ (table-cong _ _ (length ds) layout-at-rename
+        ∙ table-map (rename-layout ρ) (layout-at ds s) (length ds))
+
+  -- the layouts of a renamed program
+  pub layouts-rename : (ds : List Decl) → layouts-of (rename-decls ρ ds) ≡ map (rename-layout ρ) (layouts-of ds)
+  unfolding layouts-of
+  layouts-rename ds =
+      ap (λ (s : Settled). compute-layouts (rename-decls ρ ds) (s .marks)) (erasure-rename ρ inj ds) ∙ compute-layouts-rename ds (erasure-fixpoint ds .marks)
