@@ -103,7 +103,35 @@ use Rattle.custard.specs.Erasure.{
   start,
   erasure-fixpoint,
 }
-use Rattle.custard.specs.Resolve.{Unfold, gone, newtype, abbreviation, stays, attach, instance, Result, ok, fault, spent, bind}
+use Rattle.custard.specs.Resolve.{
+  Unfold,
+  gone,
+  newtype,
+  abbreviation,
+  stays,
+  unfold-body,
+  unfold-dtype,
+  unfold-of,
+  unfolds,
+  unfold-name,
+  attach,
+  instance,
+  applied,
+  resolve,
+  Result,
+  ok,
+  fault,
+  spent,
+  bind,
+  sized,
+  within,
+  is-app,
+  surplus,
+  checked-applied,
+  checked,
+  checkeds,
+  resolve-checked,
+}
 use Rattle.custard.specs.Layout.{
   slots,
   kept,
@@ -705,3 +733,201 @@ module _ (ρ : ℕ → ℕ) (inj : Injective ρ) where
   unfolding layouts-of
   layouts-rename ds =
       ap (λ (s : Settled). compute-layouts (rename-decls ρ ds) (s .marks)) (erasure-rename ρ inj ds) ∙ compute-layouts-rename ds (erasure-fixpoint ds .marks)
+
+-- ---- what becomes of a name
+module _ (ρ : ℕ → ℕ) where
+  unfold-dtype-rename : (d : Dtype) → unfold-dtype (rename-dtype ρ d) ≡ rename-unfold ρ (unfold-dtype d)
+  unfolding unfold-dtype unfold-body has-flag
+  unfold-dtype-rename d = go (has-flag d Realized || has-flag d NoUnfold) (d .dt-body)
+    where
+      go : (b : Bool) (y : Body) → pick b stays (unfold-body (map ρ (d .dt-params)) (rename-body ρ y)) ≡ rename-unfold ρ (pick b stays (unfold-body (d .dt-params) y))
+      go true y = refl
+      go false TAbstract = refl
+      go false (TAbbrev c) = refl
+      go false (TRecord fs) = refl
+      go false (TVariant cs) = refl
+
+  pub unfold-of-rename : (d : Dtype) (l : Layout) → unfold-of (rename-dtype ρ d) (rename-layout ρ l) ≡ rename-unfold ρ (unfold-of d l)
+  unfolding unfold-of
+  unfold-of-rename d L-erased = refl
+  unfold-of-rename d (L-newtype nt) = refl
+  unfold-of-rename d (L-struct cls) = unfold-dtype-rename d
+  unfold-of-rename d (L-abbrev c) = unfold-dtype-rename d
+  unfold-of-rename d L-opaque = unfold-dtype-rename d
+
+  pub unfolds-rename : (ds : List Decl) (ls : List Layout) → unfolds (rename-decls ρ ds) (map (rename-layout ρ) ls) ≡ map (rename-unfold ρ) (unfolds ds ls)
+  unfolding unfolds
+  unfolds-rename ds ls =
+      ap (table (λ i. unfold-of (dtype-at (rename-decls ρ ds) i) (getD (map (rename-layout ρ) ls) i L-opaque))) (length-map ds (rename-decl ρ))
+      ∙ (table-cong _ _ (length ds) (λ i h. ap₂ unfold-of (dtype-rename ρ ds i h) (List·getD-map (rename-layout ρ) ls i L-opaque) ∙ unfold-of-rename (dtype-at ds i) (getD ls i L-opaque))
+      ∙ table-map (rename-unfold ρ) (λ i. unfold-of (dtype-at ds i) (getD ls i L-opaque)) (length ds))
+
+-- ---- results
+-- the answer mapped, a fault kept
+abbrev pub map-result : {A B : Type 0} → (A → B) → Result A → Result B
+map-result f (ok a) = ok (f a)
+map-result f (fault e) = fault e
+map-result f spent = spent
+
+pub bind-map : {A B C D : Type 0} (f : A → C) (g : B → D) (r : Result A) (k : A → Result B) (r' : Result C) (k' : C → Result D)
+    → r' ≡ map-result f r → ((a : A) → k' (f a) ≡ map-result g (k a)) → bind r' k' ≡ map-result g (bind r k)
+unfolding bind
+bind-map {A = A} {C = C} f g r k r' k' e h = ap (λ (x : Result C). bind x k') e ∙ go r
+  where
+    go : (x : Result A) → bind (map-result f x) k' ≡ map-result g (bind x k)
+    go (ok a) = h a
+    go (fault c) = refl
+    go spent = refl
+
+-- ---- resolve
+module _ (ρ : ℕ → ℕ) (inj : Injective ρ) where
+  pub unfold-name-rename : (ds : List Decl) (ls : List Layout) (n : ℕ) → unfold-name (rename-decls ρ ds) (map (rename-layout ρ) ls) (ρ n) ≡ rename-unfold ρ (unfold-name ds ls n)
+  unfolding unfold-name
+  unfold-name-rename ds ls n =
+      ap₂ (λ (us : List Unfold) (i : ℕ). getD us i stays) (unfolds-rename ρ ds ls) (position-rename ρ inj ds n)
+      ∙ List·getD-map (rename-unfold ρ) (unfolds ds ls) (position ds n) stays
+
+  -- a name's type with its first arguments, and with the others attached
+  first-args-rename : (ps : List ℕ) (us : Ctys) (c : Cty)
+      → instance (map ρ ps) (firsts (length (map ρ ps)) (rename-ctys ρ us)) (rename-cty ρ c) ≡ rename-cty ρ (instance ps (firsts (length ps) us) c)
+  first-args-rename ps us c =
+      ap (λ (ts : Ctys). instance (map ρ ps) ts (rename-cty ρ c)) (ap (λ (n : ℕ). firsts n (rename-ctys ρ us)) (length-map ps ρ) ∙ firsts-rename ρ (length ps) us)
+      ∙ instance-rename ρ inj ps (firsts (length ps) us) c
+
+  other-args-rename : (ps : List ℕ) (us : Ctys) → others (length (map ρ ps)) (rename-ctys ρ us) ≡ rename-ctys ρ (others (length ps) us)
+  other-args-rename ps us = ap (λ (n : ℕ). others n (rename-ctys ρ us)) (length-map ps ρ) ∙ others-rename ρ (length ps) us
+
+  pub applied-rename : (next next' : Cty → Cty) → ((c : Cty) → next' (rename-cty ρ c) ≡ rename-cty ρ (next c))
+      → (n : ℕ) (us : Ctys) (u : Unfold) → applied next' (ρ n) (rename-ctys ρ us) (rename-unfold ρ u) ≡ rename-cty ρ (applied next n us u)
+  unfolding applied walk
+  applied-rename next next' h n us gone = refl
+  applied-rename next next' h n us (newtype ps c) = ap next' (instance-rename ρ inj ps us c) ∙ h (instance ps us c)
+  applied-rename next next' h n us (abbreviation ps c) =
+      ap next' (ap₂ attach (first-args-rename ps us c) (other-args-rename ps us) ∙ attach-rename ρ (instance ps (firsts (length ps) us) c) (others (length ps) us))
+      ∙ h (attach (instance ps (firsts (length ps) us) c) (others (length ps) us))
+  applied-rename next next' h n us stays = refl
+
+  module _ (lay lay' : ℕ → Unfold) (hl : (n : ℕ) → lay' (ρ n) ≡ rename-unfold ρ (lay n)) where
+    -- a renamed type resolves to the renamed type that it resolves to
+    pub resolve-rename : (k : ℕ) (c : Cty) → resolve lay' k (rename-cty ρ c) ≡ rename-cty ρ (resolve lay k c)
+    unfolding resolve walk
+    resolve-rename zero c = refl
+    resolve-rename (suc k) c =
+        walk-rename ρ TVar TVar (λ n us. applied (resolve lay k) n us (lay n)) (λ n us. applied (resolve lay' k) n us (lay' n)) (λ v. refl)
+        (λ n us. ap (applied (resolve lay' k) (ρ n) (rename-ctys ρ us)) (hl n) ∙ applied-rename (resolve lay k) (resolve lay' k) (resolve-rename k) n us (lay n))
+        c
+
+  -- ---- the checked resolution
+  sized-rename : (limit : ℕ) (c : Cty) → sized limit (rename-cty ρ c) ≡ map-result (rename-cty ρ) (sized limit c)
+  unfolding sized
+  sized-rename limit c = ap (λ (n : ℕ). pick (leb n limit) (ok (rename-cty ρ c)) (fault 10)) (size-rename ρ c) ∙ go (leb (size c) limit)
+    where
+      go : (b : Bool) → pick b (ok (rename-cty ρ c)) (fault 10) ≡ map-result (rename-cty ρ) (pick b (ok c) (fault 10))
+      go true = refl
+      go false = refl
+
+  within-rename : (limit : ℕ) (c : Cty) (r r' : Result Cty) → r' ≡ map-result (rename-cty ρ) r → within limit (rename-cty ρ c) r' ≡ map-result (rename-cty ρ) (within limit c r)
+  unfolding within
+  within-rename limit c r r' e = ap (λ (n : ℕ). elim (leb n limit) [ true ↦ bind r' (sized limit) | false ↦ fault 10 ]) (size-rename ρ c) ∙ go (leb (size c) limit)
+    where
+      go : (b : Bool) → elim b [ true ↦ bind r' (sized limit) | false ↦ fault 10 ] ≡ map-result (rename-cty ρ) (elim b [ true ↦ bind r (sized limit) | false ↦ fault 10 ])
+      go true = bind-map (rename-cty ρ) (rename-cty ρ) r (sized limit) r' (sized limit) e (sized-rename limit)
+      go false = refl
+
+  is-app-rename : (c : Cty) → is-app (rename-cty ρ c) ≡ is-app c
+  unfolding walk
+  is-app-rename TUnit = refl
+  is-app-rename TAny = refl
+  is-app-rename TExn = refl
+  is-app-rename (TVar v) = refl
+  is-app-rename (TInt s w) = refl
+  is-app-rename (TFloat f) = refl
+  is-app-rename (TConst c) = refl
+  is-app-rename (TArrow a e b) = refl
+  is-app-rename (TApp n ts) = refl
+  is-app-rename (TTuple ts) = refl
+  is-app-rename (TBuf t) = refl
+  is-app-rename (TRef k t) = refl
+  is-app-rename (TInline t) = refl
+
+  module _ (next next' : Cty → Result Cty) (hn : (c : Cty) → next' (rename-cty ρ c) ≡ map-result (rename-cty ρ) (next c)) where
+    surplus-rename : (c : Cty) (us : Ctys) → surplus next' (rename-cty ρ c) (rename-ctys ρ us) ≡ map-result (rename-cty ρ) (surplus next c us)
+    unfolding surplus walk
+    surplus-rename c nil = hn c
+    surplus-rename c (cons u us) =
+        ap₂ (λ (b : Bool) (r : Result Cty). elim b [ true ↦ r | false ↦ fault 9 ]) (is-app-rename c) (ap next' (attach-rename ρ c (cons u us)) ∙ hn (attach c (cons u us)))
+        ∙ go (is-app c)
+      where
+        go : (b : Bool) → elim b [ true ↦ map-result (rename-cty ρ) (next (attach c (cons u us))) | false ↦ fault 9 ] ≡ map-result (rename-cty ρ) (elim b [ true ↦ next (attach c (cons u us)) | false ↦ fault 9 ])
+        go true = refl
+        go false = refl
+
+    checked-applied-rename : (n : ℕ) (us : Ctys) (u : Unfold) → checked-applied next' (ρ n) (rename-ctys ρ us) (rename-unfold ρ u) ≡ map-result (rename-cty ρ) (checked-applied next n us u)
+    unfolding checked-applied walk
+    checked-applied-rename n us gone = refl
+    checked-applied-rename n us (newtype ps c) =
+        ap₂ (λ (b : Bool) (r : Result Cty). elim b [ true ↦ r | false ↦ fault 9 ]) (ap₂ eqb (lengths-rename ρ us) (length-map ps ρ)) (ap next' (instance-rename ρ inj ps us c) ∙ hn (instance ps us c))
+        ∙ go (eqb (lengths us) (length ps))
+      where
+        go : (b : Bool) → elim b [ true ↦ map-result (rename-cty ρ) (next (instance ps us c)) | false ↦ fault 9 ] ≡ map-result (rename-cty ρ) (elim b [ true ↦ next (instance ps us c) | false ↦ fault 9 ])
+        go true = refl
+        go false = refl
+    checked-applied-rename n us (abbreviation ps c) =
+        ap₂ (λ (b : Bool) (r : Result Cty). elim b [ true ↦ fault 9 | false ↦ r ]) (ap₂ ltb (lengths-rename ρ us) (length-map ps ρ))
+        (ap₂ (surplus next') (first-args-rename ps us c) (other-args-rename ps us) ∙ surplus-rename (instance ps (firsts (length ps) us) c) (others (length ps) us))
+        ∙ go (ltb (lengths us) (length ps))
+      where
+        rest : Result Cty
+        rest = surplus next (instance ps (firsts (length ps) us) c) (others (length ps) us)
+
+        go : (b : Bool) → elim b [ true ↦ fault 9 | false ↦ map-result (rename-cty ρ) rest ] ≡ map-result (rename-cty ρ) (elim b [ true ↦ fault 9 | false ↦ rest ])
+        go true = refl
+        go false = refl
+    checked-applied-rename n us stays = refl
+
+    module _ (limit : ℕ) (lay lay' : ℕ → Unfold) (hl : (n : ℕ) → lay' (ρ n) ≡ rename-unfold ρ (lay n)) where
+      mutual
+        unfolding checked walk
+
+        checked-rename : (c : Cty) → checked limit lay' next' (rename-cty ρ c) ≡ map-result (rename-cty ρ) (checked limit lay next c)
+        checked-rename TUnit = within-rename limit TUnit (ok TUnit) (ok TUnit) refl
+        checked-rename TAny = within-rename limit TAny (ok TAny) (ok TAny) refl
+        checked-rename TExn = within-rename limit TExn (ok TExn) (ok TExn) refl
+        checked-rename (TVar v) = within-rename limit (TVar v) (ok (TVar v)) (ok (TVar (ρ v))) refl
+        checked-rename (TInt s w) = within-rename limit (TInt s w) (ok (TInt s w)) (ok (TInt s w)) refl
+        checked-rename (TFloat f) = within-rename limit (TFloat f) (ok (TFloat f)) (ok (TFloat f)) refl
+        checked-rename (TConst c) = within-rename limit (TConst c) (ok (TConst c)) (ok (TConst c)) refl
+        checked-rename (TArrow a e b) =
+            within-rename limit (TArrow a e b) _ _
+            (bind-map (rename-cty ρ) (rename-cty ρ) (checked limit lay next a) (λ x. bind (checked limit lay next b) (λ y. ok (TArrow x e y))) (checked limit lay' next' (rename-cty ρ a)) (λ x. bind (checked limit lay' next' (rename-cty ρ b)) (λ y. ok (TArrow x e y))) (checked-rename a)
+            (λ x. bind-map (rename-cty ρ) (rename-cty ρ) (checked limit lay next b) (λ y. ok (TArrow x e y)) (checked limit lay' next' (rename-cty ρ b)) (λ y. ok (TArrow (rename-cty ρ x) e y)) (checked-rename b) (λ y. refl)))
+        checked-rename (TApp n ts) =
+            within-rename limit (TApp n ts) _ _
+            (bind-map (rename-ctys ρ) (rename-cty ρ) (checkeds limit lay next ts) (λ us. checked-applied next n us (lay n)) (checkeds limit lay' next' (rename-ctys ρ ts)) (λ us. checked-applied next' (ρ n) us (lay' (ρ n))) (checkeds-rename ts)
+            (λ us. ap (checked-applied next' (ρ n) (rename-ctys ρ us)) (hl n) ∙ checked-applied-rename n us (lay n)))
+        checked-rename (TTuple ts) =
+            within-rename limit (TTuple ts) _ _
+            (bind-map (rename-ctys ρ) (rename-cty ρ) (checkeds limit lay next ts) (λ us. ok (TTuple us)) (checkeds limit lay' next' (rename-ctys ρ ts)) (λ us. ok (TTuple us)) (checkeds-rename ts) (λ us. refl))
+        checked-rename (TBuf t) =
+            within-rename limit (TBuf t) _ _
+            (bind-map (rename-cty ρ) (rename-cty ρ) (checked limit lay next t) (λ x. ok (TBuf x)) (checked limit lay' next' (rename-cty ρ t)) (λ x. ok (TBuf x)) (checked-rename t) (λ x. refl))
+        checked-rename (TRef k t) =
+            within-rename limit (TRef k t) _ _
+            (bind-map (rename-cty ρ) (rename-cty ρ) (checked limit lay next t) (λ x. ok (TRef k x)) (checked limit lay' next' (rename-cty ρ t)) (λ x. ok (TRef k x)) (checked-rename t) (λ x. refl))
+        checked-rename (TInline t) =
+            within-rename limit (TInline t) _ _
+            (bind-map (rename-cty ρ) (rename-cty ρ) (checked limit lay next t) (λ x. ok (TInline x)) (checked limit lay' next' (rename-cty ρ t)) (λ x. ok (TInline x)) (checked-rename t) (λ x. refl))
+
+        checkeds-rename : (ts : Ctys) → checkeds limit lay' next' (rename-ctys ρ ts) ≡ map-result (rename-ctys ρ) (checkeds limit lay next ts)
+        checkeds-rename nil = refl
+        checkeds-rename (cons t ts) =
+            bind-map (rename-cty ρ) (rename-ctys ρ) (checked limit lay next t) (λ x. bind (checkeds limit lay next ts) (λ xs. ok (cons x xs))) (checked limit lay' next' (rename-cty ρ t)) (λ x. bind (checkeds limit lay' next' (rename-ctys ρ ts)) (λ xs. ok (cons x xs))) (checked-rename t)
+            (λ x. bind-map (rename-ctys ρ) (rename-ctys ρ) (checkeds limit lay next ts) (λ xs. ok (cons x xs)) (checkeds limit lay' next' (rename-ctys ρ ts)) (λ xs. ok (cons (rename-cty ρ x) xs)) (checkeds-rename ts) (λ xs. refl))
+
+  -- the same faults, and renamed answers
+  pub resolve-checked-rename : (limit : ℕ) (lay lay' : ℕ → Unfold) → ((n : ℕ) → lay' (ρ n) ≡ rename-unfold ρ (lay n))
+      → (k : ℕ) (c : Cty) → resolve-checked limit lay' k (rename-cty ρ c) ≡ map-result (rename-cty ρ) (resolve-checked limit lay k c)
+  unfolding resolve-checked
+  resolve-checked-rename limit lay lay' hl zero c = refl
+  resolve-checked-rename limit lay lay' hl (suc k) c =
+      checked-rename (resolve-checked limit lay k) (resolve-checked limit lay' k) (λ t. resolve-checked-rename limit lay lay' hl k t) limit lay lay' hl c
