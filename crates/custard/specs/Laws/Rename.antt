@@ -60,6 +60,7 @@ use Rattle.custard.specs.Decl.{
   Realized,
   NoNewtype,
   NoUnfold,
+  SourceRecord,
   has-flag,
   ctors-of,
   ctors-of-tydef,
@@ -153,8 +154,33 @@ use Rattle.custard.specs.Layout.{
   compute-layouts,
 }
 use Rattle.custard.specs.Reach.{cyclic}
-use Rattle.custard.specs.Run.{all-in, layouts-of}
+use Rattle.custard.specs.Run.{
+  fuel,
+  with-body,
+  all-in,
+  collapsed-abbrev,
+  resolved-field,
+  resolved-ctor,
+  struct-body,
+  rw-decl,
+  record-body,
+  record-verdict,
+  record-of,
+  info,
+  somes,
+  layouts-of,
+  Ran,
+  run,
+  unfold-names,
+  unfold-next,
+  returns,
+  field-types,
+  resolves,
+  fault-code,
+  decl-fault,
+}
 use Rattle.custard.specs.Laws.Layout.{same-test, table-cong, candidate-at, candidates-of, layout-at}
+use Rattle.custard.specs.Laws.Run.{lay, layout-of-decl, left-at, info-at, run-program, run-infos}
 
 -- ---- lists
 -- two ways round through two maps
@@ -931,3 +957,194 @@ module _ (ρ : ℕ → ℕ) (inj : Injective ρ) where
   resolve-checked-rename limit lay lay' hl zero c = refl
   resolve-checked-rename limit lay lay' hl (suc k) c =
       checked-rename (resolve-checked limit lay k) (resolve-checked limit lay' k) (λ t. resolve-checked-rename limit lay lay' hl k t) limit lay lay' hl c
+
+-- ---- the left declaration
+module _ (ρ : ℕ → ℕ) (inj : Injective ρ) where
+  pub collapsed-abbrev-rename : (d : Dtype) (c : Cty) → collapsed-abbrev (rename-dtype ρ d) (rename-cty ρ c) ≡ rename-left ρ (collapsed-abbrev d c)
+  unfolding collapsed-abbrev
+  collapsed-abbrev-rename d c =
+      ap₂ (λ (x y : Bool). pick (x && not y) (some (rename-dtype ρ (with-body d (TAbbrev c)))) none)
+      (ap (all-in (map ρ (d .dt-params))) (vars-rename ρ c) ∙ all-in-rename ρ inj (d .dt-params) (cty-vars c))
+      (ap (member (ρ (d .dt-name))) (names-rename ρ c) ∙ member-rename ρ inj (d .dt-name) (names-of-cty c))
+      ∙ go (all-in (d .dt-params) (cty-vars c) && not (member (d .dt-name) (names-of-cty c)))
+    where
+      go : (b : Bool) → pick b (some (rename-dtype ρ (with-body d (TAbbrev c)))) none ≡ rename-left ρ (pick b (some (with-body d (TAbbrev c))) none)
+      go true = refl
+      go false = refl
+
+  module _ (res res' : Cty → Cty) (h : (c : Cty) → res' (rename-cty ρ c) ≡ rename-cty ρ (res c)) where
+    resolved-fields-rename : (fs : List Field) → map (resolved-field res') (map (rename-field ρ) fs) ≡ map (rename-field ρ) (map (resolved-field res) fs)
+    unfolding resolved-field
+    resolved-fields-rename =
+        map-square (resolved-field res) (rename-field ρ) (rename-field ρ) (resolved-field res') (λ (f : Field). ap (λ (c : Cty). record { fd-name = ρ (f .fd-name); fd-type = c }) (h (f .fd-type)))
+
+    resolved-ctors-rename : (cls : List CtorLayout) → map (resolved-ctor res') (map (rename-ctor-layout ρ) cls) ≡ map (rename-ctor ρ) (map (resolved-ctor res) cls)
+    unfolding resolved-ctor
+    resolved-ctors-rename =
+        map-square (resolved-ctor res) (rename-ctor-layout ρ) (rename-ctor ρ) (resolved-ctor res') (λ (cl : CtorLayout). ap (λ (fs : List Field). record { ct-name = ρ (cl .cl-name); ct-fields = fs }) (resolved-fields-rename (cl .cl-fields)))
+
+    struct-body-rename : (b : Body) (cls : List CtorLayout) → struct-body res' (rename-body ρ b) (map (rename-ctor-layout ρ) cls) ≡ rename-body ρ (struct-body res b cls)
+    unfolding struct-body
+    struct-body-rename TAbstract cls = refl
+    struct-body-rename (TAbbrev c) cls = refl
+    struct-body-rename (TRecord fs) [] = refl
+    struct-body-rename (TRecord fs) (cl ∷ []) = ap TRecord (resolved-fields-rename (cl .cl-fields))
+    struct-body-rename (TRecord fs) (cl ∷ cm ∷ cls) = refl
+    struct-body-rename (TVariant cs) cls = ap TVariant (resolved-ctors-rename cls)
+
+    pub rw-decl-rename : (d : Dtype) (l : Layout) → rw-decl res' (rename-dtype ρ d) (rename-layout ρ l) ≡ rename-left ρ (rw-decl res d l)
+    unfolding rw-decl
+    rw-decl-rename d L-erased = refl
+    rw-decl-rename d (L-newtype nt) = ap (collapsed-abbrev (rename-dtype ρ d)) (h (nt .nt-ty)) ∙ collapsed-abbrev-rename d (res (nt .nt-ty))
+    rw-decl-rename d (L-struct cls) = ap (λ (b : Body). some (with-body (rename-dtype ρ d) b)) (struct-body-rename (d .dt-body) cls)
+    rw-decl-rename d (L-abbrev c) = ap (λ (t : Cty). some (with-body (rename-dtype ρ d) (TAbbrev t))) (h c)
+    rw-decl-rename d L-opaque = refl
+
+-- ---- verdicts and faults
+module _ (ρ : ℕ → ℕ) where
+  record-body-rename : (b : Body) → record-body (rename-body ρ b) ≡ record-body b
+  unfolding record-body
+  record-body-rename TAbstract = refl
+  record-body-rename (TAbbrev c) = refl
+  record-body-rename (TRecord fs) = refl
+  record-body-rename (TVariant []) = refl
+  record-body-rename (TVariant (c ∷ [])) = go (c .ct-fields)
+    where
+      go : (fs : List Field) → record-body (TVariant (record { ct-name = ρ (c .ct-name); ct-fields = map (rename-field ρ) fs } ∷ [])) ≡ record-body (TVariant (record { ct-name = c .ct-name; ct-fields = fs } ∷ []))
+      go [] = refl
+      go (f ∷ fs) = refl
+  record-body-rename (TVariant (c ∷ d ∷ cs)) = refl
+
+  pub record-verdict-rename : (d : Dtype) → record-verdict (rename-dtype ρ d) ≡ record-verdict d
+  unfolding record-verdict has-flag
+  record-verdict-rename d = ap (λ (b : Bool). pick (has-flag d Realized) (has-flag d SourceRecord) b) (record-body-rename (d .dt-body))
+
+  record-of-rename : (x : Option Dtype) → record-of (rename-left ρ x) ≡ record-of x
+  unfolding record-of
+  record-of-rename none = refl
+  record-of-rename (some d) = record-verdict-rename d
+
+  pub info-rename : (er er' : ℕ → Bool) → ((n : ℕ) → er' (ρ n) ≡ er n) → (d : Dtype) (o : Origin) (e : Bool) (l : Layout) (x : Option Dtype)
+      → info er' (rename-dtype ρ d) (rename-origin ρ o) e (rename-layout ρ l) (rename-left ρ x) ≡ rename-info ρ (info er d o e l x)
+  unfolding info
+  info-rename er er' h d (imported ti) e l x = refl
+  info-rename er er' h d here e l x =
+      ap₂ (λ (cls : List CtorLayout) (b : Bool). record { ti-erased = e; ti-layout = rename-layout ρ l; ti-ctors = cls; ti-record = b }) (ctor-layouts-rename ρ er er' h d) (record-of-rename x)
+
+  somes-rename : (xs : List (Option Dtype)) → somes (map (rename-left ρ) xs) ≡ map (rename-dtype ρ) (somes xs)
+  unfolding somes
+  somes-rename [] = refl
+  somes-rename (none ∷ xs) = somes-rename xs
+  somes-rename (some d ∷ xs) = ap (λ (ds : List Dtype). rename-dtype ρ d ∷ ds) (somes-rename xs)
+
+  -- what is resolved for a layout
+  field-types-rename : (cls : List CtorLayout) → field-types (map (rename-ctor-layout ρ) cls) ≡ map (rename-cty ρ) (field-types cls)
+  unfolding field-types
+  field-types-rename [] = refl
+  field-types-rename (cl ∷ cls) = go (field-types-rename cls) (cl .cl-fields)
+    where
+      go : field-types (map (rename-ctor-layout ρ) cls) ≡ map (rename-cty ρ) (field-types cls)
+          → (fs : List Field)
+          → field-types (record { cl-name = ρ (cl .cl-name); cl-slots = cl .cl-slots; cl-fields = map (rename-field ρ) fs } ∷ map (rename-ctor-layout ρ) cls)
+          ≡ map (rename-cty ρ) (field-types (record { cl-name = cl .cl-name; cl-slots = cl .cl-slots; cl-fields = fs } ∷ cls))
+      go ih [] = ih
+      go ih (f ∷ fs) = ap (λ (cs : List Cty). rename-cty ρ (f .fd-type) ∷ cs) (go ih fs)
+
+  pub resolves-rename : (l : Layout) → resolves (rename-layout ρ l) ≡ map (rename-cty ρ) (resolves l)
+  unfolding resolves
+  resolves-rename L-erased = refl
+  resolves-rename (L-newtype nt) = refl
+  resolves-rename (L-struct cls) = field-types-rename cls
+  resolves-rename (L-abbrev c) = refl
+  resolves-rename L-opaque = refl
+
+  pub fault-code-rename : (res res' : Cty → Result Cty) → ((c : Cty) → res' (rename-cty ρ c) ≡ map-result (rename-cty ρ) (res c)) → (cs : List Cty) → fault-code res' (map (rename-cty ρ) cs) ≡ fault-code res cs
+  unfolding fault-code
+  fault-code-rename res res' h [] = refl
+  fault-code-rename res res' h (c ∷ cs) = go (fault-code-rename res res' h cs) (res c) refl
+    where
+      go : fault-code res' (map (rename-cty ρ) cs) ≡ fault-code res cs → (r : Result Cty) → res c ≡ r → fault-code res' (rename-cty ρ c ∷ map (rename-cty ρ) cs) ≡ fault-code res (c ∷ cs)
+      go ih (ok t) q = rw (h c, q) ih
+      go ih (fault e) q = rw (h c, q) refl
+      go ih spent q = rw (h c, q) ih
+
+-- ---- run
+module _ (ρ : ℕ → ℕ) (inj : Injective ρ) (ds : List Decl) where
+  abbrev renamed : List Decl
+  renamed = rename-decls ρ ds
+
+  pub layout-rename : (i : ℕ) → layout-of-decl (rename-decls ρ ds) i ≡ rename-layout ρ (layout-of-decl ds i)
+  layout-rename i = ap (λ (ls : List Layout). getD ls i L-opaque) (layouts-rename ρ inj ds) ∙ List·getD-map (rename-layout ρ) (layouts-of ds) i L-opaque
+
+  pub lay-rename : (n : ℕ) → lay (rename-decls ρ ds) (ρ n) ≡ rename-unfold ρ (lay ds n)
+  lay-rename n = ap (λ (ls : List Layout). unfold-name renamed ls (ρ n)) (layouts-rename ρ inj ds) ∙ unfold-name-rename ρ inj ds (layouts-of ds) n
+
+  -- the left declaration,
+  pub left-rename : (i : ℕ) → i < length ds → left-at (rename-decls ρ ds) i ≡ rename-left ρ (left-at ds i)
+  unfolding left-at
+  left-rename i h =
+      ap₂ (rw-decl (resolve (lay renamed) fuel)) (dtype-rename ρ ds i h) (layout-rename i)
+      ∙ rw-decl-rename ρ inj (resolve (lay ds) fuel) (resolve (lay renamed) fuel) (resolve-rename ρ inj (lay ds) (lay renamed) lay-rename fuel) (dtype-at ds i) (layout-of-decl ds i)
+
+  er-rename : (n : ℕ) → marked (rename-decls ρ ds) (erasure-fixpoint (rename-decls ρ ds) .marks) (ρ n) ≡ marked ds (erasure-fixpoint ds .marks) n
+  er-rename n = ap (λ (s : Settled). marked renamed (s .marks) (ρ n)) (erasure-rename ρ inj ds) ∙ marked-rename ρ inj ds (erasure-fixpoint ds .marks) n
+
+  -- the verdict,
+  pub verdict-rename : (i : ℕ) → i < length ds → info-at (rename-decls ρ ds) i ≡ rename-info ρ (info-at ds i)
+  unfolding info-at
+  verdict-rename i h =
+      rw (dtype-rename ρ ds i h, origin-rename ρ ds i h, layout-rename i, left-rename i h)
+      (ap (λ (s : Settled). info (marked renamed (erasure-fixpoint renamed .marks)) (rename-dtype ρ (dtype-at ds i)) (rename-origin ρ (origin-at ds i)) (getD (s .marks) i false) (rename-layout ρ (layout-of-decl ds i)) (rename-left ρ (left-at ds i))) (erasure-rename ρ inj ds)
+      ∙ info-rename ρ (marked ds (erasure-fixpoint ds .marks)) (marked renamed (erasure-fixpoint renamed .marks)) er-rename (dtype-at ds i) (origin-at ds i) (getD (erasure-fixpoint ds .marks) i false) (layout-of-decl ds i) (left-at ds i))
+
+  -- the faults of rows 9 and 10,
+  pub fault-rename : (limit i : ℕ) → decl-fault limit (rename-decls ρ ds) (layouts-of (rename-decls ρ ds)) i ≡ decl-fault limit ds (layouts-of ds) i
+  unfolding decl-fault
+  fault-rename limit i =
+      ap (fault-code (resolve-checked limit (lay renamed) fuel)) (ap resolves (layout-rename i) ∙ resolves-rename ρ (layout-of-decl ds i))
+      ∙ fault-code-rename ρ (resolve-checked limit (lay ds) fuel) (resolve-checked limit (lay renamed) fuel) (resolve-checked-rename ρ inj limit (lay ds) (lay renamed) lay-rename fuel) (resolves (layout-of-decl ds i))
+
+  unfold-names-rename : (u : Unfold) → unfold-names (rename-decls ρ ds) (rename-unfold ρ u) ≡ unfold-names ds u
+  unfolding unfold-names
+  unfold-names-rename gone = refl
+  unfold-names-rename (newtype ps c) = names-in-rename ρ inj ds c
+  unfold-names-rename (abbreviation ps c) = names-in-rename ρ inj ds c
+  unfold-names-rename stays = refl
+
+  unfold-next-rename : (i : ℕ) → unfold-next (rename-decls ρ ds) (layouts-of (rename-decls ρ ds)) i ≡ unfold-next ds (layouts-of ds) i
+  unfolding unfold-next
+  unfold-next-rename i =
+      ap (λ (us : List Unfold). unfold-names renamed (getD us i stays)) (ap (unfolds renamed) (layouts-rename ρ inj ds) ∙ unfolds-rename ρ ds (layouts-of ds))
+      ∙ (ap (unfold-names renamed) (List·getD-map (rename-unfold ρ) (unfolds ds (layouts-of ds)) i stays) ∙ unfold-names-rename (getD (unfolds ds (layouts-of ds)) i stays))
+
+  -- and the loops of row 8
+  pub loop-rename : (i : ℕ) → returns (rename-decls ρ ds) (layouts-of (rename-decls ρ ds)) i ≡ returns ds (layouts-of ds) i
+  unfolding returns
+  loop-rename i = ap₂ (λ (next : ℕ → List ℕ) (n : ℕ). cyclic next n i) (fun-ext unfold-next-rename) (length-map ds (rename-decl ρ))
+
+  pub rounds-rename : run (rename-decls ρ ds) .rounds ≡ run ds .rounds
+  unfolding run
+  rounds-rename = ap (λ (s : Settled). s .rounds) (erasure-rename ρ inj ds)
+
+  pub infos-rename : run (rename-decls ρ ds) .infos ≡ map (rename-info ρ) (run ds .infos)
+  infos-rename =
+      run-infos renamed
+      ∙ (ap (table (info-at renamed)) (length-map ds (rename-decl ρ))
+      ∙ (table-cong (info-at renamed) (λ i. rename-info ρ (info-at ds i)) (length ds) verdict-rename
+      ∙ (table-map (rename-info ρ) (info-at ds) (length ds) ∙ ap (map (rename-info ρ)) (sym (run-infos ds)))))
+
+  pub program-rename : run (rename-decls ρ ds) .program ≡ map (rename-dtype ρ) (run ds .program)
+  program-rename =
+      run-program renamed
+      ∙ (ap somes
+      (ap (table (left-at renamed)) (length-map ds (rename-decl ρ))
+      ∙ (table-cong (left-at renamed) (λ i. rename-left ρ (left-at ds i)) (length ds) left-rename ∙ table-map (rename-left ρ) (left-at ds) (length ds)))
+      ∙ (somes-rename ρ (table (left-at ds) (length ds)) ∙ ap (map (rename-dtype ρ)) (sym (run-program ds))))
+
+abbrev pub rename-ran : (ℕ → ℕ) → Ran → Ran
+rename-ran ρ r = record { rounds = r .rounds; infos = map (rename-info ρ) (r .infos); program = map (rename-dtype ρ) (r .program) }
+
+-- A renamed program runs as the program: as many rounds, the renamed verdicts and the renamed program left.
+pub run-rename : (ρ : ℕ → ℕ) → Injective ρ → (ds : List Decl) → run (rename-decls ρ ds) ≡ rename-ran ρ (run ds)
+run-rename ρ inj ds =
+    λ i. record { rounds = rounds-rename ρ inj ds i; infos = infos-rename ρ inj ds i; program = program-rename ρ inj ds i }
