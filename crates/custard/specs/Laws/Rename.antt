@@ -4,7 +4,7 @@
 use mathlib.Core.Path.{_≡_, refl, sym, _∙_, ap, ap₂, subst, fun-ext}
 use mathlib.Core.List.{List, [], _∷_, _++_, map, map-append, List·Memᴰ, Memᴰ·map, Memᴰ·of-map}
 use mathlib.Core.Bool.{Bool, true, false, _&&_, _||_, not}
-use mathlib.Core.Option.{Option, none, some, Option·map}
+use mathlib.Core.Option.{Option, none, some, Option·map, Option·getD}
 use Prim.Native.Nat.{ℕ, zero, suc, _+_, _<_}
 use native.Mathlib.Omega.{arith}
 use lib.Dec.{eqb, leb, ltb}
@@ -179,7 +179,10 @@ use Rattle.custard.specs.Run.{
   fault-code,
   decl-fault,
 }
+use Rattle.custard.specs.Names.{fields-names, ctors-names, body-names, dtype-names, Declared, Agree}
 use Rattle.custard.specs.Laws.Layout.{same-test, table-cong, candidate-at, candidates-of, layout-at}
+use Rattle.custard.specs.Laws.Own.{cls-names, layout-names, Among}
+use Rattle.custard.specs.Laws.Locality.{OwnImports, marks-local, layouts-local, left-local, fault-local, info-local, returns-local}
 use Rattle.custard.specs.Laws.Run.{lay, layout-of-decl, left-at, info-at, run-program, run-infos}
 
 -- ---- lists
@@ -209,6 +212,20 @@ table-map g f (suc n) = ap (λ xs. g (f 0) ∷ xs) (table-map g (λ i. f (suc i)
 -- no two numbers become one
 abbrev pub Injective : (ℕ → ℕ) → Type 0
 Injective ρ = (a b : ℕ) → ρ a ≡ ρ b → a ≡ b
+
+-- where f has no number for a name, one past all that f gives: so numbers of some names, as of those that
+-- two sheets spell alike, become numbers of all
+abbrev pub extended : (ℕ → Option ℕ) → ℕ → ℕ → ℕ
+extended f k n = Option·getD (f n) (k + n)
+
+pub extended-injective : (f : ℕ → Option ℕ) (k : ℕ) → ((n m : ℕ) → f n ≡ some m → m < k) → ((a b m : ℕ) → f a ≡ some m → f b ≡ some m → a ≡ b) → Injective (extended f k)
+extended-injective f k below once a b = go (f a) (f b) refl refl
+  where
+    go : (x y : Option ℕ) → f a ≡ x → f b ≡ y → Option·getD x (k + a) ≡ Option·getD y (k + b) → a ≡ b
+    go (some i) (some j) p q e = once a b j (p ∙ ap some e) q
+    go (some i) none p q e = absurd (omega (arith, below a i p))
+    go none (some j) p q e = absurd (omega (arith, below b j q))
+    go none none p q e = omega arith
 
 -- Names are those of types, parameters, constructors and fields; every other number is kept.
 module _ (ρ : ℕ → ℕ) where
@@ -1148,3 +1165,103 @@ rename-ran ρ r = record { rounds = r .rounds; infos = map (rename-info ρ) (r .
 pub run-rename : (ρ : ℕ → ℕ) → Injective ρ → (ds : List Decl) → run (rename-decls ρ ds) ≡ rename-ran ρ (run ds)
 run-rename ρ inj ds =
     λ i. record { rounds = rounds-rename ρ inj ds i; infos = infos-rename ρ inj ds i; program = program-rename ρ inj ds i }
+
+-- ---- locality
+-- the names of what is renamed
+module _ (ρ : ℕ → ℕ) where
+  fields-names-rename : (fs : List Field) → fields-names (map (rename-field ρ) fs) ≡ map ρ (fields-names fs)
+  unfolding fields-names
+  fields-names-rename [] = refl
+  fields-names-rename (f ∷ fs) =
+      ap₂ (λ (x y : List ℕ). x ++ y) (names-rename ρ (f .fd-type)) (fields-names-rename fs) ∙ sym (map-append ρ (names-of-cty (f .fd-type)) (fields-names fs))
+
+  ctors-names-rename : (cs : List Ctor) → ctors-names (map (rename-ctor ρ) cs) ≡ map ρ (ctors-names cs)
+  unfolding ctors-names
+  ctors-names-rename [] = refl
+  ctors-names-rename (c ∷ cs) =
+      ap₂ (λ (x y : List ℕ). x ++ y) (fields-names-rename (c .ct-fields)) (ctors-names-rename cs) ∙ sym (map-append ρ (fields-names (c .ct-fields)) (ctors-names cs))
+
+  cls-names-rename : (cls : List CtorLayout) → cls-names (map (rename-ctor-layout ρ) cls) ≡ map ρ (cls-names cls)
+  unfolding cls-names
+  cls-names-rename [] = refl
+  cls-names-rename (cl ∷ cls) =
+      ap₂ (λ (x y : List ℕ). x ++ y) (fields-names-rename (cl .cl-fields)) (cls-names-rename cls) ∙ sym (map-append ρ (fields-names (cl .cl-fields)) (cls-names cls))
+
+  pub dtype-names-rename : (d : Dtype) → dtype-names (rename-dtype ρ d) ≡ map ρ (dtype-names d)
+  unfolding dtype-names body-names
+  dtype-names-rename d = go (d .dt-body)
+    where
+      go : (b : Body) → body-names (rename-body ρ b) ≡ map ρ (body-names b)
+      go TAbstract = refl
+      go (TAbbrev c) = names-rename ρ c
+      go (TRecord fs) = fields-names-rename fs
+      go (TVariant cs) = ctors-names-rename cs
+
+  pub layout-names-rename : (l : Layout) → layout-names (rename-layout ρ l) ≡ map ρ (layout-names l)
+  unfolding layout-names
+  layout-names-rename L-erased = refl
+  layout-names-rename (L-newtype nt) = names-rename ρ (nt .nt-ty)
+  layout-names-rename (L-struct cls) = cls-names-rename cls
+  layout-names-rename (L-abbrev c) = names-rename ρ c
+  layout-names-rename L-opaque = refl
+
+  among-rename : (ms ns : List ℕ) → Among ms ns → Among (map ρ ms) (map ρ ns)
+  among-rename ms ns f n m =
+      let r = Memᴰ·of-map ρ ms m in
+      subst (λ (x : ℕ). List·Memᴰ x (map ρ ns)) (r .2) (Memᴰ·map ρ (f (r .0) (r .1)))
+
+  -- the imports of a renamed program are made of their own declarations' types too
+  pub own-rename : (ds : List Decl) → OwnImports ds → OwnImports (rename-decls ρ ds)
+  own-rename ds own i ti h e = go (origin-at ds i) refl (sym (origin-rename ρ ds i below) ∙ e)
+    where
+      below : i < length ds
+      below = subst (λ (n : ℕ). i < n) (length-map ds (rename-decl ρ)) h
+
+      go : (o : Origin) → origin-at ds i ≡ o → rename-origin ρ o ≡ imported ti → Among (layout-names (ti .ti-layout)) (dtype-names (dtype-at (rename-decls ρ ds) i))
+      go here q z = let y : _≡_ {A = ℕ} 0 1 = cc in absurd (omega arith)
+      go (imported tj) q z =
+          let w : rename-info ρ tj ≡ ti = cc in
+          subst (λ (t : TypeInfo). Among (layout-names (t .ti-layout)) (dtype-names (dtype-at (rename-decls ρ ds) i))) w
+          (rw (dtype-rename ρ ds i below, layout-names-rename (tj .ti-layout), dtype-names-rename (dtype-at ds i))
+          (among-rename (layout-names (tj .ti-layout)) (dtype-names (dtype-at ds i)) (own i tj below q)))
+
+-- What ds' gives the name ρ n is what ds gives the name n, renamed.
+pub record SameRenamed (ρ : ℕ → ℕ) (limit : ℕ) (ds ds' : List Decl) (n : ℕ) : Type 0 where
+  pub same-declared : Declared ds' (ρ n)
+  pub same-erasure : getD (erasure-fixpoint ds' .marks) (position ds' (ρ n)) false ≡ getD (erasure-fixpoint ds .marks) (position ds n) false
+  pub same-layout : layout-of-decl ds' (position ds' (ρ n)) ≡ rename-layout ρ (layout-of-decl ds (position ds n))
+  pub same-verdict : info-at ds' (position ds' (ρ n)) ≡ rename-info ρ (info-at ds (position ds n))
+  pub same-left : left-at ds' (position ds' (ρ n)) ≡ rename-left ρ (left-at ds (position ds n))
+  pub same-fault : decl-fault limit ds' (layouts-of ds') (position ds' (ρ n)) ≡ decl-fault limit ds (layouts-of ds) (position ds n)
+  pub same-loop : returns ds' (layouts-of ds') (position ds' (ρ n)) ≡ returns ds (layouts-of ds) (position ds n)
+
+-- Locality up to renaming: two programs of which one, renamed, agrees with the other on a set of names
+-- closed under what is declared there give these names the same verdicts, left declarations and faults,
+-- renamed.
+pub locality-renamed : (ρ : ℕ → ℕ) → Injective ρ → (limit : ℕ) (S : ℕ → Bool) (ds ds' : List Decl) → Agree S (rename-decls ρ ds) ds' → OwnImports ds → OwnImports ds'
+    → (n : ℕ) → S (ρ n) ≡ true → Declared ds n → SameRenamed ρ limit ds ds' n
+locality-renamed ρ inj limit S ds ds' agree own own' n h d =
+    record {
+      same-declared = agree .declared (ρ n) h .0 declared;
+      same-erasure =
+          sym (marks-local S renamed ds' agree owned (ρ n) h) ∙ ap₂ (λ (s : Settled) (i : ℕ). getD (s .marks) i false) (erasure-rename ρ inj ds) place;
+      same-layout = sym (layouts-local S renamed ds' agree owned (ρ n) h) ∙ (ap (layout-of-decl renamed) place ∙ layout-rename ρ inj ds (position ds n));
+      same-verdict = sym (info-local S renamed ds' agree owned (ρ n) h declared) ∙ (ap (info-at renamed) place ∙ verdict-rename ρ inj ds (position ds n) d);
+      same-left = sym (left-local S renamed ds' agree owned (ρ n) h declared) ∙ (ap (left-at renamed) place ∙ left-rename ρ inj ds (position ds n) d);
+      same-fault =
+          sym (fault-local S renamed ds' agree owned limit (ρ n) h declared) ∙ (ap (decl-fault limit renamed (layouts-of renamed)) place ∙ fault-rename ρ inj ds limit (position ds n));
+      same-loop =
+          sym (returns-local S renamed ds' agree owned own' (ρ n) h declared) ∙ (ap (returns renamed (layouts-of renamed)) place ∙ loop-rename ρ inj ds (position ds n));
+    }
+  where
+    renamed : List Decl
+    renamed = rename-decls ρ ds
+
+    owned : OwnImports (rename-decls ρ ds)
+    owned = own-rename ρ ds own
+
+    place : position (rename-decls ρ ds) (ρ n) ≡ position ds n
+    place = position-rename ρ inj ds n
+
+    declared : Declared (rename-decls ρ ds) (ρ n)
+    declared = rw (place, length-map ds (rename-decl ρ)) d
