@@ -6,16 +6,20 @@ ghost use lib.ListN.{length, drop};
 ghost use Rattle.sheet.specs.Line as line;
 ghost use Rattle.lines.specs.Shape as shape;
 
-// The columns of a number, the numbers of a line, and a line's bytes.
+// The columns of a number.
 const COLUMNS: usize = 6;
 
-const NUMBERS: usize = 5;
+// The numbers of a line.
+pub const NUMBERS: usize = 5;
 
+// The bytes of a line.
 pub const LINE: usize = 32;
-// The text of a name: from the number's end to the last byte.
-pub const TEXT: usize = 7;
 
+// The place of the last byte.
 const LAST: usize = 31;
+
+// The text of a name begins after the letter and the number, and ends before the last byte.
+pub const TEXT: usize = 7;
 
 // What a line is: an N line with its number and the length of its text, a line of five numbers, or no line.
 pub enum Shape {

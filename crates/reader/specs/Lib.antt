@@ -1,0 +1,3 @@
+pub mod Access
+pub mod FirstLaws
+pub mod AccessLaws
