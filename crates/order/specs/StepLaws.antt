@@ -79,6 +79,10 @@ kept-after-append n (l ∷ ls) ms =
     kept-after-append (pick (is-head l) 0 (pick (is field-line l && not (eqb (number l 2) 0)) (suc n) n)) ls ms
 
 -- ---- one line more
+plus : (n : ℕ) (b : Bool) → n + pick b 1 0 ≡ pick b (n + 1) n
+plus n true = refl
+plus n false = omega arith
+
 module _ (ls : List Line) (i : ℕ) (h : i < length ls) where
   pub count-before-suc : (x : ℕ) → count-before x ls (suc i) ≡ count-before x ls i + pick (is x (line-at ls i)) 1 0
   count-before-suc x = rw (take-suc ls i bad, select-append, length-append, one)
@@ -94,6 +98,13 @@ module _ (ls : List Line) (i : ℕ) (h : i < length ls) where
       go true d false e = omega arith
       go false d true e = omega arith
       go false d false e = omega arith
+
+  -- the same, with what the line adds at the outside
+  pub count-before-step : (x : ℕ) → count-before x ls (suc i) ≡ pick (is x (line-at ls i)) (count-before x ls i + 1) (count-before x ls i)
+  count-before-step x = count-before-suc x ∙ plus (count-before x ls i) (is x (line-at ls i))
+
+  pub heads-before-step : heads-before ls (suc i) ≡ pick (is-head (line-at ls i)) (heads-before ls i + 1) (heads-before ls i)
+  heads-before-step = heads-before-suc ∙ plus (heads-before ls i) (is-head (line-at ls i))
 
   pub due-after-suc : (q : Due) → due-after q (take (suc i) ls) ≡ due (due-after q (take i ls)) (line-at ls i)
   unfolding due-after
