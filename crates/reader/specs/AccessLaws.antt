@@ -3,7 +3,7 @@
 use mathlib.Core.Path.{_≡_, refl, sym, _∙_}
 use mathlib.Core.List.{List, []}
 use mathlib.Core.Bool.{Bool, true, false}
-use Prim.Native.Nat.{ℕ, suc, _+_, _*_, _≤_, _<_}
+use Prim.Native.Nat.{ℕ, suc, _+_, _*_, _^_, _≤_, _<_}
 use native.Mathlib.Nat.{le-div-iff-mul-le, div-lt-iff-lt-mul, mul-comm, suc-mul}
 use native.Mathlib.Omega.{arith}
 use lib.Dec.{eqb}
@@ -17,8 +17,8 @@ use Rattle.reader.specs.declared.Letter.the-variants.{Byte}
 use Rattle.reader.specs.declared.Cell.the-variants.{Value as Held}
 use Rattle.reader.specs.Access.{letterAt, cellAt, isNone, spelledIn}
 use Rattle.lines.specs.Shape.{shapeOf}
-use Rattle.lines.specs.ShapeLaws.{decode-short, letter-decode, number-decode, textOf-part, textOf-le}
-use Rattle.reader.specs.FirstLaws.{first-clear}
+use Rattle.lines.specs.ShapeLaws.{decode-short, letter-decode, number-decode, number-below, textOf-part, textOf-le}
+use Rattle.reader.specs.FirstLaws.{first-le, first-clear}
 
 -- ---- whole lines
 pub line-inside : (w : ℕ) (b : List ℕ) (i : ℕ) → i < count w b → lineBytes w * i + lineBytes w ≤ length b
@@ -75,6 +75,19 @@ module _ (w n k : ℕ) (l : List ℕ) (h : k ≡ spelledIn n (shapeOf (decode w 
   pub name-part : (b : List ℕ) → l ≡ lineAt w b n → take k (drop (1 + w) l) ≡ nameText w b n
   unfolding nameText line
   name-part b e = rw (← e, name-length) (sym (textOf-part w n l))
+
+-- ---- for any bytes
+pub row2-le : (w : ℕ) (b : List ℕ) → row2 w b ≤ count w b
+unfolding row2
+row2-le w b = first-le (λ i. isBad (line w b i)) (count w b)
+
+-- a place that is no line: row 2 passed the sheet
+pub row2-passed : (w : ℕ) (b : List ℕ) (r : ℕ) → r ≡ row2 w b → count w b ≤ r → row2 w b ≡ count w b
+row2-passed w b r e h = omega (arith, row2-le w b)
+
+pub number-fits : (w : ℕ) (b : List ℕ) (i k : ℕ) → number (line w b i) k < 10 ^ w
+unfolding line
+number-fits w b i k = number-below w (lineAt w b i) k
 
 -- ---- a sheet without bad lines
 module _ (w : ℕ) (b : List ℕ) (good : row2 w b ≡ count w b) where

@@ -1,0 +1,25 @@
+-- `sheet_cases::put_cells` meets its contract. The measure is what is left of the numbers. Assumes nothing.
+use borrow.Author.Needs.{needs}
+use Prim.Native.Nat.{_-_, _≤_}
+use Rattle.sheet_cases.proofs.put_cells.Statement.{statement}
+use Rattle.sheet_cases.proofs.put_cells.Tie as tie
+
+abbrev Inv-loop : tie.InvT-loop
+Inv-loop s i k₀ k = k ≤ 6
+
+abbrev μ-loop : tie.MeasureT-loop
+μ-loop s i k₀ k = 6 - k
+
+pub put-cells-spec : {M : Type 1} → statement M
+put-cells-spec =
+    tie.close
+    (tie.spec
+    Inv-loop
+    μ-loop
+    (λ c. search needs)
+    (λ c κs. search needs)
+    (λ c κs. search needs)
+    (λ c. search needs)
+    (λ c. search needs)
+    (λ c. search needs)
+    (λ c. search needs))
