@@ -49,7 +49,8 @@ pub struct Counts {
     pub starts: [u16; 97],
 }
 
-fn is_head(letter: u8) -> bool
+// A D or I line's letter.
+pub fn is_head(letter: u8) -> bool
     ensures { λ r. ⌜ r ≡ limits.head-letter letter ⌝ }
 {
     match letter {
