@@ -1,6 +1,6 @@
 -- Row 6 by the ways in which a line repeats an earlier one. Assumes nothing.
 use mathlib.Core.List.{List}
-use mathlib.Core.Bool.{Bool, true, false, _&&_, _||_}
+use mathlib.Core.Bool.{Bool, false, _&&_, _||_}
 use Prim.Native.Nat.{ℕ, zero, suc, _+_}
 use lib.Dec.{eqb}
 use Rattle.columns.specs.Column.{_⇒_∥_}

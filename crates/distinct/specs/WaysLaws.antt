@@ -5,9 +5,8 @@ use mathlib.Core.Logic.{_⊎_, inl, inr}
 use mathlib.Core.Bool.{Bool, true, false, _&&_, _||_, not}
 use Prim.Native.Nat.{ℕ, zero, suc, _+_, _≤_, _<_, min}
 use native.Mathlib.Omega.{arith}
-use native.Mathlib.Numerals.{add-one}
-use lib.Dec.{eqb, ltb, eqb·zero-suc, eqb·suc-suc}
-use lib.ListN.{length, getD, set, take, replicate, length-set, getD-replicate}
+use lib.Dec.{eqb, eqb·zero-suc, eqb·suc-suc}
+use lib.ListN.{length, getD, set, replicate, length-set, getD-replicate}
 use lib.Seq.{getD-set-same, getD-set-other, take-length}
 use borrow.Author.Tests.{eqb-true, eqb-false, eq-eqb, ne-eqb, ltb-true, not-false}
 use Rattle.columns.specs.Column.{pick}
@@ -16,7 +15,7 @@ use Rattle.sheet.specs.Line.{Line, letter, number, text}
 use Rattle.sheet.specs.Sheet.{first, count, line, lines}
 use Rattle.sheet.specs.SheetLaws.{length-lines, getD-lines}
 use Rattle.sheet.specs.FirstLaws.{first-congr}
-use Rattle.custard.specs.Program.{name-line, local-line, import-line, param-line, ctor-line, field-line, is, is-head, select}
+use Rattle.custard.specs.Program.{name-line, param-line, ctor-line, field-line, is, is-head, select}
 use Rattle.custard.specs.Rows.{
   some-below,
   line-at,
@@ -36,7 +35,6 @@ use Rattle.custard.specs.Rows.{
 }
 use Rattle.reader.specs.FirstLaws.{first-clear}
 use Rattle.order.specs.StepLaws.{count-before-step, heads-before-step, count-before-mono, heads-before-mono}
-use Rattle.limits.specs.Limits.{head-letter}
 use Rattle.limits.specs.LimitsLaws.{head-cases, names-kept, decls-kept, ctors-kept}
 use Rattle.spellings.specs.Spellings.{Ranged, respelled}
 use Rattle.spellings.specs.SomeLaws.{some-zero, some-suc, some-congr, some-none, some-or, or-true, or-false, first-or}

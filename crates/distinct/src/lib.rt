@@ -1,6 +1,6 @@
 // Row 6: names that are to differ, of a sheet that passed rows 1 to 5.
 ghost use mathlib.Core.Path.{_≡_};
-ghost use Prim.Native.Nat.{ℕ, _+_, _<_, min};
+ghost use Prim.Native.Nat.{_+_, _<_, min};
 ghost use Rattle.columns.specs.Column.{pick};
 ghost use Rattle.sheet.specs.Sheet as sheet;
 ghost use Rattle.custard.specs.Program.{name-line};

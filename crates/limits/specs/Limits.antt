@@ -1,8 +1,8 @@
--- What rows 4's code counts, and what a sheet's lines declare. Assumes nothing.
+-- What row 4's code counts, and what a sheet's lines declare. Assumes nothing.
 use mathlib.Core.Path.{_≡_}
 use mathlib.Core.List.{List}
-use mathlib.Core.Bool.{Bool, true, false, _||_}
-use Prim.Native.Nat.{ℕ, suc, _+_, _<_}
+use mathlib.Core.Bool.{Bool, false, _||_}
+use Prim.Native.Nat.{ℕ, suc, _+_, _≤_, _<_}
 use lib.Dec.{eqb, leb, ltb}
 use lib.ListN.{length, take}
 use Rattle.columns.specs.Column.{_⇒_∥_}
@@ -76,7 +76,7 @@ past f t x =
     eqb x field-line ⇒ leb (f .fields) (t .fields) ∥
     false
 
--- a count that one more line does not wrap
+-- counts below 2 to the 60, which one more line does not wrap
 pub record Small (t : Tally) : Type 0 where
   pub names : t .names < 1152921504606846976
   pub args : t .args < 1152921504606846976
@@ -110,3 +110,10 @@ pub record Limited (b : List ℕ) : Type 0 where
   pub short : row1 base b ≡ false
   pub no-bad : row2 6 b ≡ count 6 b
   pub in-limits : first (row4 base (lines 6 b)) (count 6 b) ≡ count 6 b
+
+-- what a sheet declares is within the limits
+pub record Kept (f : Format) (c : Counts) : Type 0 where
+  pub names : c .names ≤ f .names
+  pub args : c .args ≤ f .args
+  pub types : c .types ≤ f .types
+  pub decls : c .decls ≤ f .decls

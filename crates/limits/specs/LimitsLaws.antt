@@ -8,29 +8,18 @@ use Prim.Native.Nat.{ℕ, zero, suc, _+_, _%_, _≤_, _<_}
 use native.Mathlib.Omega.{arith}
 use native.Mathlib.Numerals.{add-one}
 use lib.Dec.{eqb, leb, ltb}
-use lib.ListN.{length, getD, set, take, replicate, length-set, length-replicate, getD-replicate}
+use lib.ListN.{length, getD, set, take, replicate, length-set, getD-replicate}
 use lib.Seq.{take-length, ext-getD, getD-set-same, getD-set-other}
-use borrow.Author.Tests.{lt-ltb, le-ltb, ltb-true, ltb-false, leb-false, eqb-true, eqb-false, ne-eqb}
+use borrow.Author.Tests.{lt-ltb, le-ltb, ltb-true, ltb-false, leb-true, leb-false, eqb-true, eqb-false}
 use Rattle.columns.specs.Column.{pick}
-use Rattle.sheet.specs.Format.{Format, base, lineBytes}
+use Rattle.sheet.specs.Format.{Format, base}
 use Rattle.sheet.specs.Line.{Line, letter}
 use Rattle.sheet.specs.Sheet.{first, count, line, lines, row1}
 use Rattle.sheet.specs.SheetLaws.{length-lines, getD-lines}
+use Rattle.sheet.specs.FirstLaws.{Place, first-place, first-le-at}
 use Rattle.custard.specs.Decl.{table}
-use Rattle.custard.specs.Program.{
-  name-line,
-  arg-line,
-  type-line,
-  local-line,
-  import-line,
-  param-line,
-  ctor-line,
-  field-line,
-  is,
-  is-head,
-  select,
-}
-use Rattle.custard.specs.Rows.{line-at, count-of, count-before, heads-before, params-after, row4}
+use Rattle.custard.specs.Program.{name-line, arg-line, type-line, param-line, ctor-line, field-line, is, is-head, select}
+use Rattle.custard.specs.Rows.{line-at, count-before, heads-before, params-after, row4}
 use Rattle.reader.specs.FirstLaws.{first-found, first-none, first-clear}
 use Rattle.order.specs.StepLaws.{
   length-table,
@@ -44,7 +33,7 @@ use Rattle.order.specs.StepLaws.{
   heads-before-mono,
 }
 use Rattle.limits.specs.declared.Tally.{Tally}
-use Rattle.limits.specs.Limits.{head-letter, none, tally-before, counted, past, Small, start, starts-of, counts-of}
+use Rattle.limits.specs.Limits.{head-letter, none, tally-before, counted, past, Small, start, starts-of, counts-of, Kept}
 
 -- ---- letters
 -- a letter by the kind of its lines
@@ -211,6 +200,19 @@ module _ (f : Format) (ls : List Line) (none-past : first (row4 f ls) (length ls
   pub head-kept : (i : ℕ) → i < length ls → is-head (line-at ls i) ≡ true → heads-before ls i < f .decls
   head-kept i h e = omega (arith, decls-kept (suc i) h, rw e at (heads-before-step ls i h))
 
+  -- what the sheet declares
+  pub counts-kept : Kept f (counts-of ls)
+  unfolding counts-of
+  counts-kept =
+      let w : take (length ls) ls ≡ ls = take-length ls in
+      let r : length ls ≤ length ls = omega arith in
+      record {
+        names = rw w at (names-kept (length ls) r);
+        args = rw w at (args-kept (length ls) r);
+        types = rw w at (types-kept (length ls) r);
+        decls = rw w at (decls-kept (length ls) r);
+      }
+
 -- ---- where declarations begin
 module _ (ls : List Line) where
   pub start-at : (i : ℕ) → i < length ls → is-head (line-at ls i) ≡ true → start ls (heads-before ls i) ≡ i
@@ -226,6 +228,62 @@ module _ (ls : List Line) where
   start-past k h =
       first-none (λ j. ltb k (heads-before ls (suc j))) (length ls)
       (λ j l. le-ltb k (heads-before ls (suc j)) (omega (arith, heads-before-mono ls (suc j) (length ls) l (omega arith))))
+
+  pub starts-at : (k : ℕ) → k < 97 → getD (starts-of ls) k 0 ≡ start ls k
+  unfolding starts-of
+  starts-at k h = getD-table (start ls) 97 k 0 h
+
+  -- up to the start of declaration k, and no further back, there are more than k D and I lines
+  start-place : (k : ℕ) → Place (λ i. ltb k (heads-before ls (suc i))) (length ls) (start ls k)
+  unfolding start
+  start-place k = first-place (λ i. ltb k (heads-before ls (suc i))) (length ls)
+
+  pub start-within : (k : ℕ) → k < heads-before ls (length ls) → start ls k < length ls
+  unfolding start select
+  start-within k h = go (length ls) refl h
+    where
+      go : (n : ℕ) → length ls ≡ n → k < heads-before ls n → start ls k < length ls
+      go zero e m = absurd (omega arith)
+      go (suc n) e m =
+          let l : n < length ls = omega arith in
+          omega (arith, first-le-at (λ i. ltb k (heads-before ls (suc i))) (length ls) n l (lt-ltb k (heads-before ls (suc n)) m))
+
+  start-least : (k f : ℕ) → f ≡ start ls k → heads-before ls f ≤ k
+  unfolding select
+  start-least k zero e = omega arith
+  start-least k (suc f) e = ltb-false k (heads-before ls (suc f)) (start-place k .before f (omega arith))
+
+  start-split : (k : ℕ) → k < heads-before ls (length ls) → (is-head (line-at ls (start ls k)) ≡ true) × (heads-before ls (start ls k) ≡ k)
+  start-split k h = go (is-head (line-at ls (start ls k))) refl
+    where
+      l : start ls k < length ls
+      l = start-within k h
+
+      go : (c : Bool) → is-head (line-at ls (start ls k)) ≡ c → (is-head (line-at ls (start ls k)) ≡ true) × (heads-before ls (start ls k) ≡ k)
+      go true e =
+          (e, omega (arith, start-least k (start ls k) refl, rw e at (heads-before-step ls (start ls k) l), ltb-true k (heads-before ls (suc (start ls k))) (start-place k .holds l)))
+      go false e =
+          absurd (omega (arith, start-least k (start ls k) refl, rw e at (heads-before-step ls (start ls k) l), ltb-true k (heads-before ls (suc (start ls k))) (start-place k .holds l)))
+
+  -- declaration k begins at a D or I line, before which there are k
+  pub start-head : (k : ℕ) → k < heads-before ls (length ls) → is-head (line-at ls (start ls k)) ≡ true
+  start-head k h = start-split k h .0
+
+  pub start-counts : (k : ℕ) → k < heads-before ls (length ls) → heads-before ls (start ls k) ≡ k
+  start-counts k h = start-split k h .1
+
+  -- and before the next one
+  pub start-rises : (k : ℕ) → k < heads-before ls (length ls) → start ls k < start ls (suc k)
+  start-rises k h = go (ltb (suc k) (heads-before ls (length ls))) refl (leb (start ls (suc k)) (start ls k)) refl
+    where
+      l : start ls k < length ls
+      l = start-within k h
+
+      go : (c : Bool) → ltb (suc k) (heads-before ls (length ls)) ≡ c → (d : Bool) → leb (start ls (suc k)) (start ls k) ≡ d → start ls k < start ls (suc k)
+      go true e true q =
+          absurd (omega (arith, start-counts k h, start-counts (suc k) (ltb-true (suc k) (heads-before ls (length ls)) e), heads-before-mono ls (start ls (suc k)) (start ls k) (leb-true (start ls (suc k)) (start ls k) q) (omega (arith, l))))
+      go true e false q = leb-false (start ls (suc k)) (start ls k) q
+      go false e d q = omega (arith, l, start-past (suc k) (ltb-false (suc k) (heads-before ls (length ls)) e))
 
 ltb-other : (k m n : ℕ) → n ≡ m + 1 → (k ≡ m → ⊥) → ltb k m ≡ ltb k n
 ltb-other k m n e d = go (ltb k m) refl

@@ -1,10 +1,7 @@
 // Row 4: the limits of a sheet that row 2 passed; and what the lines of a sheet that row 4 passed
 // declare: how many there are of each kind, and where each declaration begins.
 ghost use mathlib.Core.Path.{_≡_};
-ghost use mathlib.Core.Bool.{false};
-ghost use Prim.Native.Nat.{ℕ, _<_};
 ghost use Rattle.sheet.specs.Format.{base};
-ghost use Rattle.sheet.specs.Line as line;
 ghost use Rattle.sheet.specs.Sheet as sheet;
 ghost use Rattle.custard.specs.Rows as rows;
 ghost use Rattle.limits.specs.Limits as limits;

@@ -1,7 +1,7 @@
 // Row 3: the order of a sheet's lines and their counts, of a sheet that row 2 passed.
 use custard::Due;
 ghost use mathlib.Core.Path.{_≡_};
-ghost use Prim.Native.Nat.{ℕ, suc};
+ghost use Prim.Native.Nat.{suc};
 ghost use lib.Dec.{leb};
 ghost use Rattle.columns.specs.Column.{pick};
 ghost use Rattle.sheet.specs.Sheet as sheet;

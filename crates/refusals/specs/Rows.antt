@@ -1,7 +1,7 @@
 -- Rows 1 to 7: the first seven of the answer's rows, and what a sheet that passes them declares. Assumes nothing.
 use mathlib.Core.Path.{_≡_}
 use mathlib.Core.List.{List, [], _∷_}
-use mathlib.Core.Bool.{Bool, false}
+use mathlib.Core.Bool.{false}
 use Prim.Native.Nat.{ℕ, suc}
 use lib.ListN.{replicate}
 use Rattle.sheet.specs.Format.{Format, base}

@@ -3,21 +3,23 @@
 use mathlib.Core.Path.{_≡_, refl, ap, sym, _∙_}
 use mathlib.Core.List.{List, [], _∷_, _++_}
 use mathlib.Core.Bool.{Bool, true, false}
-use Prim.Native.Nat.{ℕ, zero, suc, _≤_, _<_}
+use Prim.Native.Nat.{ℕ, suc, _≤_, _<_}
 use native.Mathlib.Omega.{arith}
 use lib.Dec.{ltb}
-use lib.ListN.{length, take, drop, take-append-drop}
-use borrow.Author.Tests.{lt-ltb, le-ltb, ltb-true, ltb-false}
+use lib.ListN.{take, drop, take-append-drop}
+use borrow.Author.Tests.{lt-ltb, le-ltb, ltb-false}
 use Rattle.sheet.specs.Format.{Format, base}
 use Rattle.sheet.specs.Line.{isBad}
 use Rattle.sheet.specs.Sheet.{first, count, line, lines, row1, row2}
+use Rattle.sheet.specs.SheetLaws.{length-lines}
 use Rattle.sheet.specs.FirstLaws.{first-le}
 use Rattle.custard.specs.declared.Refusal.{Refusal}
 use Rattle.custard.specs.declared.Refusal.the-variants.{Accepted, Refused}
 use Rattle.custard.specs.Rows.{raws, row3, row4, row5, row6, row7}
 use Rattle.custard.specs.Answer.{Row, line-row, whole-row, refusal, rows}
-use Rattle.limits.specs.Limits.{counts-of}
-use Rattle.refusals.specs.Rows.{first-rows, refused-as, answered, checked-of, Passed}
+use Rattle.limits.specs.Limits.{counts-of, Kept}
+use Rattle.limits.specs.LimitsLaws.{counts-kept}
+use Rattle.refusals.specs.Rows.{first-rows, refused-as, checked-of, Passed}
 
 -- ---- the first seven of all rows
 pub rows-first : (f : Format) (b : List ℕ) (v l : ℕ) → take 7 (rows f b v l) ≡ first-rows f b
@@ -196,3 +198,7 @@ module _ (b : List ℕ) where
       let r6 = row-accepted 6 (count 6 b) (row6 (lines 6 b)) from7 (r5 .1) in
       let r7 = row-accepted 7 (count 6 b) (row7 (lines 6 b)) [] (r6 .1) in
       record { short = r1 .0; no-bad = r2 .0; in-order = r3 .0; in-limits = r4 .0; in-range = r5 .0; distinct = r6 .0; in-verdict = r7 .0 }
+
+  -- what the sheet declares is within the limits
+  pub passed-kept : Passed b → Kept base (counts-of (lines 6 b))
+  passed-kept p = counts-kept base (lines 6 b) (rw (length-lines 6 b) (p .in-limits))

@@ -2,7 +2,6 @@
 use custard::Refusal;
 use limits::Counts;
 ghost use mathlib.Core.Path.{_≡_};
-ghost use Rattle.sheet.specs.Format.{base};
 ghost use Rattle.refusals.specs.Rows.{refused-as, checked-of};
 
 // A line's bytes.

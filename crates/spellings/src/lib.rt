@@ -1,6 +1,5 @@
 // Row 6, the names' spellings: of a sheet that passed rows 1 to 5.
 ghost use mathlib.Core.Path.{_≡_};
-ghost use Prim.Native.Nat.{ℕ};
 ghost use Rattle.sheet.specs.Sheet as sheet;
 ghost use Rattle.custard.specs.Program.{name-line};
 ghost use Rattle.custard.specs.Rows as rows;

@@ -1,5 +1,5 @@
 -- `distinct::row6` meets its contract: its place is the least of the ways' places. Assumes nothing.
-use mathlib.Core.Path.{_≡_, sym, _∙_}
+use mathlib.Core.Path.{sym}
 use borrow.Author.Needs.{needs}
 use Rattle.distinct.specs.WaysLaws.{first-row6}
 use Rattle.distinct.proofs.row6.Statement.{statement}

@@ -1,7 +1,5 @@
 -- `limits::counts_of` meets its contract, by its two walks. Assumes nothing.
-use mathlib.Core.Path.{_≡_, _∙_, sym, ap}
 use borrow.Author.Needs.{needs}
-use Rattle.sheet.specs.Sheet.{lines}
 use Rattle.limits.specs.LimitsLaws.{counts-whole}
 use Rattle.limits.proofs.counts_of.Statement.{statement}
 use Rattle.limits.proofs.counts_of.Tie as tie

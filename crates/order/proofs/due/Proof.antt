@@ -1,5 +1,4 @@
 -- `order::due` meets its contract, by what was due. Assumes nothing.
-use mathlib.Core.Path.{_∙_, sym}
 use borrow.Author.Needs.{needs}
 use Rattle.custard.specs.Rows.{due}
 use Rattle.order.proofs.due.Statement.{statement}

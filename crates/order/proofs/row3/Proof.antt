@@ -1,7 +1,6 @@
 -- `order::row3` meets its contract: what is due is what the lines passed leave due. Assumes nothing.
 use mathlib.Core.Path.{_≡_, refl, ap, sym, _∙_}
-use mathlib.Core.Bool.{Bool, true, false}
-use Prim.Native.Nat.{suc, _-_, _/_, _<_, _≤_}
+use Prim.Native.Nat.{suc, _-_, _/_, _≤_}
 use native.Mathlib.Omega.{arith}
 use native.Mathlib.Numerals.{add-one}
 use lib.ListN.{length, take}
