@@ -79,7 +79,7 @@ pub ten-pos : (w : ℕ) → 0 < 10 ^ w
 ten-pos zero = omega arith
 ten-pos (suc w) = omega (arith, ten-pos w)
 
-digit-true : (d : ℕ) → digit d ≡ true → (48 ≤ d) × (d ≤ 57)
+pub digit-true : (d : ℕ) → digit d ≡ true → (48 ≤ d) × (d ≤ 57)
 digit-true d h = go (leb 48 d) refl h
   where
     go : (b : Bool) → leb 48 d ≡ b → b && leb d 57 ≡ true → (48 ≤ d) × (d ≤ 57)

@@ -3,6 +3,7 @@ ghost use mathlib.Core.Path.{_≡_};
 ghost use Prim.Native.Nat.{ℕ, _≤_, _<_};
 ghost use lib.ListN.{length};
 ghost use Rattle.columns.specs.Column as col;
+ghost use Rattle.columns.specs.Weight.{weigh};
 ghost use Rattle.columns.specs.ColumnLaws.{Below};
 
 // What has been read of a number so far.
@@ -75,6 +76,20 @@ pub fn read_number(s: &[u8]) -> Number
         i += 1;
     }
     told(st)
+}
+
+// The number in columns that are known to hold one, by its digits alone: a space counts as 0.
+pub fn weigh_number(s: &[u8]) -> u32
+    requires { ⌜ length (now s) ≤ 9 ⌝ }
+    ensures { λ r. ⌜ r ≡ weigh 0 (now (s .entry)) ⌝ }
+{
+    let mut v: u32 = 0;
+    let mut i = 0;
+    while i < s.len() {
+        v = v * 10 + (s[i] % 16) as u32;
+        i += 1;
+    }
+    v
 }
 
 // The column of a digit that is not the last: a space where nothing is left of the number.
