@@ -1,8 +1,9 @@
 // Reading one line of a sheet of six columns.
 use columns::Number;
 ghost use mathlib.Core.Path.{_≡_};
-ghost use Prim.Native.Nat.{ℕ, _≤_, _<_};
-ghost use lib.ListN.{length, drop};
+ghost use Prim.Native.Nat.{ℕ, _+_, _*_, _≤_, _<_};
+ghost use lib.ListN.{length, take, drop};
+ghost use Rattle.columns.specs.Weight.{weigh};
 ghost use Rattle.sheet.specs.Line as line;
 ghost use Rattle.lines.specs.Shape as shape;
 
@@ -28,14 +29,30 @@ pub enum Shape {
     Bad,
 }
 
+// The columns of number k of a line.
+fn number_part(l: &[u8], k: usize) -> &[u8]
+    requires { ⌜ (32 ≤ length (now l)) × (k < 5) ⌝ }
+    ensures { λ r. ⌜ (now r ≡ take 6 (drop (1 + k * 6) (now (l .entry)))) × (length (now r) ≡ 6) ⌝ }
+{
+    let at = 1 + k * COLUMNS;
+    let end = at + COLUMNS;
+    &l[at..end]
+}
+
 // Number k of a line.
 pub fn cell(l: &[u8], k: usize) -> Number
     requires { ⌜ (32 ≤ length (now l)) × (k < 5) ⌝ }
     ensures { λ r. ⌜ r ≡ line.cell 6 (now (l .entry)) k ⌝ }
 {
-    let at = 1 + k * COLUMNS;
-    let end = at + COLUMNS;
-    columns::read_number(&l[at..end])
+    columns::read_number(number_part(l, k))
+}
+
+// Number k of a line whose columns are known to hold one.
+pub fn weight(l: &[u8], k: usize) -> u32
+    requires { ⌜ (32 ≤ length (now l)) × (k < 5) ⌝ }
+    ensures { λ r. ⌜ r ≡ weigh 0 (take 6 (drop (1 + k * 6) (now (l .entry)))) ⌝ }
+{
+    columns::weigh_number(number_part(l, k))
 }
 
 fn is_value(n: Number) -> bool
