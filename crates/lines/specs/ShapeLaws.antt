@@ -9,46 +9,24 @@ use native.Mathlib.Nat.{lt-of-lt-of-le, pow-le-pow-right}
 use native.Mathlib.Omega.{arith}
 use lib.Dec.{eqb, ltb, leb}
 use lib.ListN.{length, getD, take, drop, length-take, List·getD-eq-default}
-use lib.Seq.{drop-cons, take-take}
+use lib.Seq.{take-at, drop-cons, take-take}
 use borrow.Author.Tests.{eq-eqb, ne-eqb, eqb-true, eqb-false, ltb-true, ltb-false, leb-false}
 use Rattle.columns.specs.declared.Number.{Number}
 use Rattle.columns.specs.declared.Number.the-variants.{Value, Bad}
 use Rattle.columns.specs.Column.{pick}
 use Rattle.columns.specs.ColumnLaws.{write-read, ten-pos}
-use Rattle.sheet.specs.Format.{lineBytes, textBytes}
+use Rattle.sheet.specs.Format.{textBytes}
 use Rattle.sheet.specs.Line.{Line, named, row, bad, graphic, spelling, spaces, proper, lettered, cell, isValue, value, decode, decodeNamed, decodeRow, letter, number, isBad}
+use Rattle.sheet.specs.LineLaws.{false-true, both, value-of, spelling-split, spelling-le, lettered-other}
 use Rattle.sheet.specs.Sheet.{textOf}
 use Rattle.lines.specs.declared.Shape.the-variants.{Named, Row, Bad as NoLine}
 use Rattle.lines.specs.Shape.{shapeOf, textLength, namedShape}
 
-false-not-true : false ≡ true → ⊥
-false-not-true e = let z : _≡_ {A = ℕ} 0 1 = cc in omega arith
-
--- ---- too few bytes
-pub decode-short : (w : ℕ) (b : List ℕ) → length b < lineBytes w → decode w b ≡ bad
-unfolding decode
-decode-short w b h =
-    let e : getD b (5 * w + 1) 0 ≡ 0 = List·getD-eq-default b 0 (omega arith) in
-    rw e
-
 -- ---- the text of a name
-pub spelling-le : (t : List ℕ) → length (spelling t) ≤ length t
-unfolding spelling
-spelling-le [] = omega arith
-spelling-le (b ∷ t) = go (graphic b) (spelling-le t)
-  where
-    go : (g : Bool) → length (spelling t) ≤ length t → length (pick g (b ∷ spelling t) []) ≤ suc (length t)
-    go true h = omega arith
-    go false h = omega arith
-
 pub spelling-take : (t : List ℕ) → spelling t ≡ take (length (spelling t)) t
-unfolding spelling
-spelling-take [] = refl
-spelling-take (b ∷ t) = go (graphic b) (spelling-take t)
-  where
-    go : (g : Bool) → spelling t ≡ take (length (spelling t)) t → pick g (b ∷ spelling t) [] ≡ take (length (pick g (b ∷ spelling t) [])) (b ∷ t)
-    go true h = ap (λ (l : List ℕ). b ∷ l) h
-    go false h = refl
+spelling-take t =
+    let n = length (spelling t) in
+    sym (take-at (spelling t) (drop n t) n refl) ∙ ap (take n) (spelling-split t)
 
 -- at each byte, for a loop
 pub spelling-here : (t : List ℕ) (i : ℕ) → i < length t → length (spelling (drop i t)) ≡ pick (graphic (getD t i 0)) (suc (length (spelling (drop (suc i) t)))) 0
@@ -162,8 +140,8 @@ module _ (w : ℕ) (b : List ℕ) where
   decode-named h e = rw (eq-eqb _ 10 h, eq-eqb _ 78 e)
 
   pub decode-row : getD b (5 * w + 1) 0 ≡ 10 → lettered (getD b 0 0) ≡ true → decode w b ≡ decodeRow w b
-  unfolding decode lettered
-  decode-row h l = rw (eq-eqb _ 10 h, ne-eqb (getD b 0 0) 78 (λ e. (let z : _≡_ {A = Bool} false true = rw e at l in absurd (false-not-true z))), l)
+  unfolding decode
+  decode-row h l = rw (eq-eqb _ 10 h, lettered-other (getD b 0 0) l, l)
 
   pub decode-unknown : getD b (5 * w + 1) 0 ≡ 10 → (getD b 0 0 ≡ 78 → ⊥) → lettered (getD b 0 0) ≡ false → decode w b ≡ bad
   unfolding decode
@@ -178,18 +156,6 @@ pub data Decoded (w : ℕ) (b : List ℕ) : Line → Type 0 where
       → Decoded w b (row (getD b 0 0) ns)
   as-bad : Decoded w b bad
 
-and-left : (a b : Bool) → a && b ≡ true → a ≡ true
-and-left true b h = refl
-and-left false b h = h
-
-and-right : (a b : Bool) → a && b ≡ true → b ≡ true
-and-right true b h = h
-and-right false b h = let z : _≡_ {A = ℕ} 0 1 = cc in absurd (omega arith)
-
-value-is : (c : Number) → isValue c ≡ true → c ≡ Value (value c)
-value-is (Value n) h = refl
-value-is Bad h = let z : _≡_ {A = ℕ} 0 1 = cc in absurd (omega arith)
-
 decoded-row : (w : ℕ) (b : List ℕ) → (getD b 0 0 ≡ 78 → ⊥) → lettered (getD b 0 0) ≡ true → Decoded w b (decodeRow w b)
 unfolding decodeRow
 decoded-row w b z l = go (v 0 && v 1 && v 2 && v 3 && v 4) refl
@@ -201,11 +167,11 @@ decoded-row w b z l = go (v 0 && v 1 && v 2 && v 3 && v 4) refl
     ns = value (cell w b 0) ∷ value (cell w b 1) ∷ value (cell w b 2) ∷ value (cell w b 3) ∷ value (cell w b 4) ∷ []
 
     each : v 0 && v 1 && v 2 && v 3 && v 4 ≡ true → (k : ℕ) → k < 5 → cell w b k ≡ Value (getD ns k 0)
-    each h zero k = value-is _ (and-left _ _ (and-left _ _ (and-left _ _ (and-left _ _ h))))
-    each h (suc zero) k = value-is _ (and-right (v 0) (v 1) (and-left _ _ (and-left _ _ (and-left _ _ h))))
-    each h (suc (suc zero)) k = value-is _ (and-right (v 0 && v 1) (v 2) (and-left _ _ (and-left _ _ h)))
-    each h (suc (suc (suc zero))) k = value-is _ (and-right (v 0 && v 1 && v 2) (v 3) (and-left _ _ h))
-    each h (suc (suc (suc (suc zero)))) k = value-is _ (and-right (v 0 && v 1 && v 2 && v 3) (v 4) h)
+    each h zero k = value-of _ (both _ _ (both _ _ (both _ _ (both _ _ h .0) .0) .0) .0)
+    each h (suc zero) k = value-of _ (both (v 0) (v 1) (both _ _ (both _ _ (both _ _ h .0) .0) .0) .1)
+    each h (suc (suc zero)) k = value-of _ (both (v 0 && v 1) (v 2) (both _ _ (both _ _ h .0) .0) .1)
+    each h (suc (suc (suc zero))) k = value-of _ (both (v 0 && v 1 && v 2) (v 3) (both _ _ h .0) .1)
+    each h (suc (suc (suc (suc zero)))) k = value-of _ (both (v 0 && v 1 && v 2 && v 3) (v 4) h .1)
     each h (suc (suc (suc (suc (suc k))))) q = absurd (omega arith)
 
     go : (q : Bool) → v 0 && v 1 && v 2 && v 3 && v 4 ≡ q → Decoded w b (pick q (row (getD b 0 0) ns) bad)
@@ -280,7 +246,7 @@ letter-decode w b = go (decoded w b)
     go : {l : Line} → Decoded w b l → isBad l ≡ false → letter l ≡ getD b 0 0
     go (as-named n z e p) h = sym z
     go (as-row ns z l k e) h = refl
-    go as-bad h = let z : _≡_ {A = ℕ} 0 1 = cc in absurd (omega arith)
+    go as-bad h = false-true (sym h)
 
 -- a number by its columns; of an N line only the first is one
 pub number-decode : (w : ℕ) (b : List ℕ) (k : ℕ) → isBad (decode w b) ≡ false → k < 5 → (getD b 0 0 ≡ 78 → k ≡ 0) → cell w b k ≡ Value (number (decode w b) k)
@@ -289,7 +255,7 @@ number-decode w b k = go (decoded w b)
     go : {l : Line} → Decoded w b l → isBad l ≡ false → k < 5 → (getD b 0 0 ≡ 78 → k ≡ 0) → cell w b k ≡ Value (number l k)
     go (as-named n z e p) h q o = rw (o z) e
     go (as-row ns z l g e) h q o = e k q
-    go as-bad h q o = let z : _≡_ {A = ℕ} 0 1 = cc in absurd (omega arith)
+    go as-bad h q o = false-true (sym h)
 
 -- and any other is 0
 pub number-named : (w : ℕ) (b : List ℕ) (k : ℕ) → getD b 0 0 ≡ 78 → 0 < k → number (decode w b) k ≡ 0

@@ -2,10 +2,11 @@
 -- Assumes nothing.
 use mathlib.Core.Path.{_≡_, refl, _∙_}
 use mathlib.Core.Bool.{Bool, true, false}
-use Prim.Native.Nat.{ℕ, zero, suc, _≤_, _<_, min}
+use Prim.Native.Nat.{ℕ, zero, suc, _+_, _≤_, _<_, min}
+use native.Mathlib.Numerals.{add-one}
 use native.Mathlib.Omega.{arith}
 use lib.Dec.{ltb}
-use borrow.Author.Tests.{ltb-true, ltb-false}
+use borrow.Author.Tests.{le-ltb, ltb-true, ltb-false}
 use Rattle.sheet.specs.Sheet.{first}
 
 -- f is the first number below n at which the test holds, or n where there is none
@@ -101,3 +102,16 @@ first-prefix p m n h = go (ltb (first p n) m) refl
         let l : m ≤ first p n = ltb-false (first p n) m d in
         let e : first p m ≡ m = first-none p m (λ i j. k .before i (omega arith)) in
         omega arith
+
+-- ---- for a loop
+-- A loop that looks for the place keeps `first p i ≡ i`. A turn: the number is passed.
+pub first-more : (p : ℕ → Bool) (i : ℕ) → first p i ≡ i → p i ≡ false → first p (i + 1) ≡ i + 1
+unfolding next
+first-more p i e h =
+    let k : Place p i i = rw e at (first-place p i) in
+    rw add-one (place-unique p (suc i) (first p (suc i)) (suc i) (first-place p (suc i)) (place-next p i i false false (le-ltb i i (omega arith)) h k))
+
+-- the end: the number is found
+pub first-found : (p : ℕ → Bool) (n i : ℕ) → i < n → first p i ≡ i → p i ≡ true → first p n ≡ i
+first-found p n i h e t =
+    place-unique p n (first p n) i (first-place p n) (record { within = omega arith; holds = λ _. t; before = none-first p i e })

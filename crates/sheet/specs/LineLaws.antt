@@ -35,7 +35,7 @@ Fits w (row x ns) = (lettered x ≡ true) × (length ns ≡ 5) × AllBelow (10 ^
 Fits w bad = ⊥
 
 -- ---- tests
-false-true : {A : Type 0} → false ≡ true → A
+pub false-true : {A : Type 0} → false ≡ true → A
 false-true e = let z : _≡_ {A = ℕ} 0 1 = cc in absurd (omega arith)
 
 pub both : (a b : Bool) → (a && b) ≡ true → (a ≡ true) × (b ≡ true)
@@ -47,7 +47,7 @@ picked : (c : Bool) (l : Line) → isBad (pick c l bad) ≡ false → c ≡ true
 picked true l e = refl
 picked false l e = false-true (sym e)
 
-value-of : (m : Number) → isValue m ≡ true → m ≡ Value (value m)
+pub value-of : (m : Number) → isValue m ≡ true → m ≡ Value (value m)
 value-of (Value n) e = refl
 value-of Bad e = false-true e
 
@@ -62,7 +62,7 @@ spelling-graphic (b ∷ t) = go (graphic b) refl (spelling-graphic t)
     go false e h = tt
 
 -- the text is its spelling and what comes after
-spelling-split : (t : List ℕ) → spelling t ++ drop (length (spelling t)) t ≡ t
+pub spelling-split : (t : List ℕ) → spelling t ++ drop (length (spelling t)) t ≡ t
 unfolding spelling
 spelling-split [] = refl
 spelling-split (b ∷ t) = go (graphic b) (spelling-split t)
@@ -115,8 +115,8 @@ padded-spelling t e =
     let l : length s ≡ length t - length (spelling t) = length-drop (length (spelling t)) t in
     rw (← l, ← spaces-replicate s (k .1)) (spelling-split t)
 
-spelling-length : (t : List ℕ) → length (spelling t) ≤ length t
-spelling-length t = omega (arith, length-append (spelling t) (drop (length (spelling t)) t), ap length (spelling-split t))
+pub spelling-le : (t : List ℕ) → length (spelling t) ≤ length t
+spelling-le t = omega (arith, length-append (spelling t) (drop (length (spelling t)) t), ap length (spelling-split t))
 
 proper-length : (t : List ℕ) → proper t ≡ true → 0 < length (spelling t)
 unfolding proper
@@ -172,7 +172,7 @@ cell-writes w x ns r k z h l =
     let e : 1 + k * w ≡ suc (k * w) = omega arith in
     rw (e, writes-at w ns r k l) (read-written w (getD ns k 0) z (below-at (10 ^ w) ns k h l))
 
-lettered-other : (x : ℕ) → lettered x ≡ true → eqb x 78 ≡ false
+pub lettered-other : (x : ℕ) → lettered x ≡ true → eqb x 78 ≡ false
 unfolding lettered
 lettered-other x h = go (eqb x 78) refl
   where
@@ -281,7 +281,7 @@ module _ (w : ℕ) (b : List ℕ) (l : lineBytes w ≤ length b) where
       let rest : drop (1 + w) b ≡ padded (textBytes w) (spelling t) ++ (10 ∷ drop (lineBytes w) b) =
       cut (textBytes w) (1 + w) b ∙ ap₂ (λ (r s : List ℕ). r ++ s) (sym pt) (rw d (last-byte e)) in
       rw (k .0, k .1) (
-        (cell-written 0 (omega arith) (k .0) .1, proper-length t (k .1), rw lt at (spelling-length t), spelling-graphic t),
+        (cell-written 0 (omega arith) (k .0) .1, proper-length t (k .1), rw lt at (spelling-le t), spelling-graphic t),
         sym
             (first-byte
             ∙ ap₂ (λ (y : ℕ) (s : List ℕ). y ∷ s) x
