@@ -16,6 +16,8 @@ use Rattle.columns.specs.Column.{pick, read, write}
 use Rattle.columns.specs.ColumnLaws.{read-write, write-read, write-length}
 use Rattle.sheet.specs.Format.{lineBytes, textBytes}
 use Rattle.sheet.specs.Line.{Line, named, row, bad, graphic, spelling, spaces, proper, padded, lettered, cell, isValue, value, decodeNamed, decodeRow, decode, writes, encode, isBad}
+pub use Rattle.sheet.specs.ListLaws.{both}
+use Rattle.sheet.specs.ListLaws.{false-true, Every, every-at}
 
 -- ---- a line that fits
 -- every byte is one of a name's text
@@ -25,8 +27,7 @@ Graphic (b ∷ t) = (33 ≤ b) × (b ≤ 126) × Graphic t
 
 -- every number is below m
 abbrev pub AllBelow : ℕ → List ℕ → Type 0
-AllBelow m [] = Unit {0}
-AllBelow m (n ∷ ns) = (n < m) × AllBelow m ns
+AllBelow m = Every (λ n. n < m)
 
 -- The numbers fit their w columns and a name's text its part of the line; the letter is one of a line with five numbers.
 abbrev pub Fits : ℕ → Line → Type 0
@@ -35,13 +36,6 @@ Fits w (row x ns) = (lettered x ≡ true) × (length ns ≡ 5) × AllBelow (10 ^
 Fits w bad = ⊥
 
 -- ---- tests
-pub false-true : {A : Type 0} → false ≡ true → A
-false-true e = let z : _≡_ {A = ℕ} 0 1 = cc in absurd (omega arith)
-
-pub both : (a b : Bool) → (a && b) ≡ true → (a ≡ true) × (b ≡ true)
-both true b e = (refl, e)
-both false b e = false-true e
-
 -- what is not bad was picked
 picked : (c : Bool) (l : Line) → isBad (pick c l bad) ≡ false → c ≡ true
 picked true l e = refl
@@ -136,11 +130,6 @@ five (a ∷ b ∷ c ∷ d ∷ []) h = absurd (omega arith)
 five (a ∷ b ∷ c ∷ d ∷ e ∷ []) h = refl
 five (a ∷ b ∷ c ∷ d ∷ e ∷ f ∷ ns) h = absurd (omega arith)
 
-below-at : (m : ℕ) (ns : List ℕ) (k : ℕ) → AllBelow m ns → k < length ns → getD ns k 0 < m
-below-at m [] k h l = absurd (omega arith)
-below-at m (n ∷ ns) zero h l = h .0
-below-at m (n ∷ ns) (suc k) h l = below-at m ns k (h .1) (omega arith)
-
 pub length-writes : (w : ℕ) (ns : List ℕ) → length (writes w ns) ≡ length ns * w
 unfolding writes
 length-writes w [] = omega arith
@@ -170,7 +159,7 @@ cell-writes : (w x : ℕ) (ns r : List ℕ) (k : ℕ) → 0 < w → AllBelow (10
 unfolding cell
 cell-writes w x ns r k z h l =
     let e : 1 + k * w ≡ suc (k * w) = omega arith in
-    rw (e, writes-at w ns r k l) (read-written w (getD ns k 0) z (below-at (10 ^ w) ns k h l))
+    rw (e, writes-at w ns r k l) (read-written w (getD ns k 0) z (every-at (λ n. n < 10 ^ w) 0 ns h k l))
 
 pub lettered-other : (x : ℕ) → lettered x ≡ true → eqb x 78 ≡ false
 unfolding lettered

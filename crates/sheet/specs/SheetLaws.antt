@@ -16,11 +16,11 @@ use Rattle.sheet.specs.Line.{Line, named, row, bad, decode, encode, isBa
 use Rattle.sheet.specs.Sheet.{lineAt, count, line, linesFrom, lines, encodes, row2, textOf, nameText}
 use Rattle.sheet.specs.FirstLaws.{none-first}
 use Rattle.sheet.specs.LineLaws.{Fits, decode-encode, encode-decode, encode-length, decode-fits, decode-short}
+use Rattle.sheet.specs.ListLaws.{length-nil, Every, every-append}
 
 -- every line fits
 abbrev pub AllFit : ℕ → List Line → Type 0
-AllFit w [] = Unit {0}
-AllFit w (l ∷ ls) = Fits w l × AllFit w ls
+AllFit w = Every (Fits w)
 
 -- ---- encoding
 pub encodes-append : (w : ℕ) (ls ms : List Line) → encodes w (ls ++ ms) ≡ encodes w ls ++ encodes w ms
@@ -38,10 +38,6 @@ length-encodes w [] h = omega arith
 length-encodes w (l ∷ ls) h = rw (length-append, encode-length w l (h .0), length-encodes w ls (h .1), mul-suc) (omega arith)
 
 -- ---- the lines of an append
-length-nil : (b : List ℕ) → length b ≡ 0 → b ≡ []
-length-nil [] h = refl
-length-nil (x ∷ b) h = absurd (omega arith)
-
 -- line i of b, where b has it, whatever follows b
 pub lineAt-left : (w : ℕ) (b c : List ℕ) (i : ℕ) → lineBytes w * suc i ≤ length b → lineAt w (b ++ c) i ≡ lineAt w b i
 unfolding lineAt
@@ -106,12 +102,8 @@ lines-encodes w [] z h = rw (zero-div (lineBytes w))
 lines-encodes w (l ∷ ls) z h =
     lines-cons w (encode w l) (encodes w ls) (encode-length w l (h .0)) ∙ rw (decode-encode w l z (h .0), lines-encodes w ls z (h .1))
 
-pub allFit-append : (w : ℕ) (ls ms : List Line) → AllFit w ls → AllFit w ms → AllFit w (ls ++ ms)
-allFit-append w [] ms h k = k
-allFit-append w (l ∷ ls) ms h k = (h .0, allFit-append w ls ms (h .1) k)
-
 pub lines-encodes-append : (w : ℕ) (ls ms : List Line) → 0 < w → AllFit w ls → AllFit w ms → lines w (encodes w ls ++ encodes w ms) ≡ ls ++ ms
-lines-encodes-append w ls ms z h k = rw (← encodes-append w ls ms) (lines-encodes w (ls ++ ms) z (allFit-append w ls ms h k))
+lines-encodes-append w ls ms z h k = rw (← encodes-append w ls ms) (lines-encodes w (ls ++ ms) z (every-append (Fits w) ls ms h k))
 
 -- ---- the lines of a sheet
 pub length-linesFrom : (w : ℕ) (b : List ℕ) (i n : ℕ) → length (linesFrom w b i n) ≡ n

@@ -17,6 +17,7 @@ use Rattle.sheet.specs.LineLaws.{Fits, decode-encode, encode-length, length-wri
 use Rattle.sheet.specs.Sheet.{encodes, lines, count}
 use Rattle.sheet.specs.SheetLaws.{AllFit, encodes-append, encodes-one, within-count, length-lines, lines-cons, lines-append}
 use Rattle.writer.specs.Output.{putAt, puts}
+use Rattle.sheet.specs.ListLaws.{Every}
 
 -- ---- a run of parts
 -- The law of a run of parts. The whole out is p and then what d has from a on, and is as long as d. Its part from a to e is lent
@@ -80,8 +81,7 @@ put-more w n out p q d o h =
 
 -- every line fills its bytes
 abbrev pub Whole : ℕ → List Line → Type 0
-Whole w [] = Unit {0}
-Whole w (l ∷ ls) = (length (encode w l) ≡ lineBytes w) × Whole w ls
+Whole w = Every (λ l. length (encode w l) ≡ lineBytes w)
 
 pub fit-whole : (w : ℕ) (ls : List Line) → AllFit w ls → Whole w ls
 fit-whole w [] h = tt

@@ -2,10 +2,10 @@
 -- stand for it. Assumes nothing.
 use mathlib.Core.Logic.{_↔_}
 use mathlib.Core.Path.{_≡_, refl, sym, _∙_, ap, ap₂, subst}
-use mathlib.Core.List.{List, [], _∷_, _++_, map, append-nil}
+use mathlib.Core.List.{List, [], _∷_, _++_, append-nil}
 use mathlib.Core.Bool.{Bool, true, false, _||_, not}
-use mathlib.Core.Option.{Option, none, some}
-use Prim.Native.Nat.{ℕ, zero, suc, _+_, _*_, _-_, _/_, _%_, _^_, _≤_, _<_}
+use mathlib.Core.Option.{Option, some}
+use Prim.Native.Nat.{ℕ, zero, suc, _+_, _*_, _-_, _%_, _≤_, _<_}
 use native.Mathlib.Omega.{arith}
 use native.Mathlib.Nat.{div-add-mod, mul-add, mul-mod-right, zero-div, zero-mod}
 use lib.Dec.{eqb, ltb}
@@ -13,22 +13,21 @@ use lib.ListN.{length, getD, drop, length-append, List·getD-append}
 use lib.Seq.{getD-append-add}
 use borrow.Author.Tests.{ltb-true, ltb-false, le-ltb, eq-eqb, eqb-true, not-false}
 use Rattle.sheet.specs.Format.{Format, lineBytes}
-use Rattle.sheet.specs.Line.{Line, named, row, bad, isBad, letter}
+use Rattle.sheet.specs.Line.{Line, named, row, bad, isBad}
 use Rattle.sheet.specs.Sheet.{count, line, linesFrom, lines, encodes, row1}
 use Rattle.sheet.specs.LineLaws.{Fits}
 use Rattle.sheet.specs.SheetLaws.{AllFit, length-lines, getD-lines, lines-append, fit-lines, encodes-append}
 use Rattle.custard.specs.Decl.{Decl, Dtype, TypeInfo, position}
 use Rattle.custard.specs.Program.{name-line, is-head, select, groups, program}
-use Rattle.custard.specs.Rows.{raw, raws, row3, row4, row5, row6, row7}
+use Rattle.custard.specs.Rows.{row5, row6}
 use Rattle.custard.specs.Run.{run, layouts-of, somes, returns, decl-fault}
 use Rattle.custard.specs.Output.{fill-all, verdict-lines, left-lines}
 use Rattle.custard.specs.Answer.{row8, row9, verdict-sheet, left-sheet}
 use Rattle.custard.specs.Cut.{Sheets, build, Whole}
 use Rattle.custard.specs.Names.{Distinct, undeclared}
-use Rattle.custard.specs.Laws.Cty.{Every, every-map}
 use Rattle.custard.specs.Laws.Program.{Starts, select-append, told-groups, run-told, verdict-lines-append}
 use Rattle.custard.specs.Laws.Rows.{Ends, row3-ends, ends-row3, row3-raws, NoHeader, no-header, row5-prefix}
-use Rattle.custard.specs.Laws.Output.{Sized, fits-sized, allFit-every, left-bytes-prefix, ten, verdict-fits, verdict-bytes, verdict-round}
+use Rattle.custard.specs.Laws.Output.{Sized, fits-sized, left-bytes-prefix, ten, verdict-fits, verdict-bytes, verdict-round}
 use Rattle.custard.specs.Laws.Answer.{Clear, Passes, sheets, passes-build, build-passes, build-equal}
 use Rattle.custard.specs.Laws.Pass.{clear-heads, heads-clear, own-imports}
 use Rattle.custard.specs.Laws.Pinning.{Apart, prefix-program, prefix-infos}
@@ -46,6 +45,7 @@ use Rattle.custard.specs.Laws.Step.{
   left-lines-import,
 }
 use Rattle.custard.specs.Laws.Cut.{Steps}
+use Rattle.sheet.specs.ListLaws.{Every, every-map}
 
 -- ---- bytes and lines
 pub whole-length : (w : ℕ) (b : List ℕ) → Whole w b → length b ≡ lineBytes w * count w b
@@ -175,7 +175,7 @@ whole-append w p q h k =
     ap (λ (x : ℕ). x % lineBytes w) m ∙ mul-mod-right (lineBytes w) (count w p + count w q)
 
 all-sized : (w : ℕ) (ls : List Line) → AllFit w ls → Every (Sized w) ls
-all-sized w ls h = every-map (Fits w) (Sized w) (fits-sized w) ls (allFit-every w ls h)
+all-sized w ls h = every-map (Fits w) (Sized w) (fits-sized w) ls h
 
 module _ (f : Format) (v l : ℕ) (p q : List ℕ) (s : Split (f .columns) p q) where
   abbrev ps : List Line

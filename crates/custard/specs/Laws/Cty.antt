@@ -9,9 +9,7 @@ use mathlib.Core.List.{
   _++_,
   List·Memᴰ,
   List·Memᴰ·head,
-  List·Memᴰ·tail,
   List·Memᴰ·not-nil,
-  List·Memᴰ·cases-cons,
   List·Memᴰ·append-cases,
   List·Memᴰ·eq-of-singleton,
   Memᴰ·append-left,
@@ -60,29 +58,7 @@ use Rattle.custard.specs.Cty.{
 }
 use Rattle.custard.specs.Decl.{member, close}
 use Rattle.custard.specs.Resolve.{attach, instance}
-
--- ---- lists
--- a property of each member of a list
-abbrev pub Every : {A : Type 0} → (A → Type 0) → List A → Type 0
-Every Q [] = Unit {0}
-Every Q (x ∷ xs) = Q x × Every Q xs
-
-pub every-mem : {A : Type 0} (Q : A → Type 0) (xs : List A) → Every Q xs → (x : A) → List·Memᴰ x xs → Q x
-every-mem Q [] h x m = absurd (List·Memᴰ·not-nil m)
-every-mem Q (y ∷ ys) h x m =
-    ⊎-elim (λ e. subst Q (sym e) (h .0)) (λ n. every-mem Q ys (h .1) x n) (List·Memᴰ·cases-cons m)
-
-pub mem-every : {A : Type 0} (Q : A → Type 0) (xs : List A) → ((x : A) → List·Memᴰ x xs → Q x) → Every Q xs
-mem-every Q [] f = tt
-mem-every Q (x ∷ xs) f = (f x (List·Memᴰ·head refl), mem-every Q xs (λ y m. f y (List·Memᴰ·tail m)))
-
-pub every-map : {A : Type 0} (Q R : A → Type 0) (f : (x : A) → Q x → R x) (xs : List A) → Every Q xs → Every R xs
-every-map Q R f [] h = tt
-every-map Q R f (x ∷ xs) h = (f x (h .0), every-map Q R f xs (h .1))
-
-pub every-both : {A : Type 0} (Q R : A → Type 0) (xs : List A) → Every Q xs → Every R xs → Every (λ x. Q x × R x) xs
-every-both Q R [] h k = tt
-every-both Q R (x ∷ xs) h k = ((h .0, k .0), every-both Q R xs (h .1) (k .1))
+pub use Rattle.sheet.specs.ListLaws.{every-mem}
 
 -- ---- properties of the variables and the names of a type
 module _ (X P : ℕ → Type 0) where

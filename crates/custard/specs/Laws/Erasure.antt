@@ -17,6 +17,7 @@ use Rattle.custard.specs.Layout.{slots, ctor-layout, ctor-layouts}
 use Rattle.custard.specs.Names.{fields-names, ctors-names, body-names, dtype-names, Declared, Distinct, Agree, Pin, Pinned}
 use Rattle.custard.specs.Laws.Names.{position-name, position-declared, position-distinct, position-pinned, agree-sym}
 use Rattle.custard.specs.Laws.Rounds.{T-ext, At, Le, At-lt, Le-antisym, bit, trues, Monotone, Sound, Closed, Made, settle-length, settle-sound, settle-least, settle-closed, settle-made, settle-rounds}
+use Rattle.sheet.specs.ListLaws.{getD-within}
 
 -- ---- tests
 -- a conjunction of tests, each of which implies another
@@ -186,12 +187,6 @@ module _ (er er' : ℕ → Bool) where
   ctor-layouts-local d h = ctors-local (ctors-of (d .dt-name) (d .dt-body)) (body-local (d .dt-name) (d .dt-body) h)
 
 -- ---- lists
--- within a list the default is not looked at
-getD-within : {A : Type 0} (l : List A) (i : ℕ) (a b : A) → i < length l → getD l i a ≡ getD l i b
-getD-within [] i a b h = absurd (omega arith)
-getD-within (x ∷ l) zero a b h = refl
-getD-within (x ∷ l) (suc i) a b h = getD-within l i a b (omega arith)
-
 length-table : {A : Type 0} (f : ℕ → A) (n : ℕ) → length (table f n) ≡ n
 unfolding table
 length-table f zero = refl

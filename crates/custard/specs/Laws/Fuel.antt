@@ -3,20 +3,20 @@
 use mathlib.Core.Path.{_≡_, refl, sym, _∙_, ap, subst}
 use mathlib.Core.List.{List, List·Memᴰ}
 use mathlib.Core.Bool.{Bool, true, false}
-use Prim.Native.Nat.{ℕ, zero, suc, _≤_, _<_}
+use Prim.Native.Nat.{ℕ, suc, _≤_, _<_}
 use native.Mathlib.Omega.{arith}
 use lib.Dec.{ltb}
-use lib.ListN.{length, getD}
+use lib.ListN.{length}
 use borrow.Author.Tests.{ltb-true, ltb-false}
 use Rattle.custard.specs.Cty.{Cty, names-of-cty}
-use Rattle.custard.specs.Decl.{Decl, Layout, position}
+use Rattle.custard.specs.Decl.{Decl, position}
 use Rattle.custard.specs.Layout.{names-in}
-use Rattle.custard.specs.Reach.{Reach, cyclic}
-use Rattle.custard.specs.Resolve.{Unfold, gone, newtype, abbreviation, stays, unfold-name, unfolds, resolve, resolve-checked}
+use Rattle.custard.specs.Reach.{Reach}
+use Rattle.custard.specs.Resolve.{Unfold, gone, newtype, abbreviation, stays, unfold-name, resolve, resolve-checked}
 use Rattle.custard.specs.Run.{layouts-of, unfold-names, unfold-next, returns}
 use Rattle.custard.specs.Names.{Declared}
 use Rattle.custard.specs.Laws.Reach.{cyclic-complete, rank, rank-less, rank-bound}
-use Rattle.custard.specs.Laws.Layout.{Placed, names-in-iff, unfold-below}
+use Rattle.custard.specs.Laws.Layout.{names-in-iff, unfold-below}
 use Rattle.custard.specs.Laws.Cty.{All, names-all}
 use Rattle.custard.specs.Laws.Resolve.{Unspent, Unfolds, BodyAll, Normal, Under, Ranked, resolve-done, resolve-more, checked-unspent, checked-more}
 use Rattle.custard.specs.Laws.Run.{lay}

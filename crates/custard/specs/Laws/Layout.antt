@@ -7,7 +7,8 @@ use mathlib.Core.Bool.{Bool, true, false, _||_}
 use mathlib.Core.Option.{Option, none, some}
 use Prim.Native.Nat.{ℕ, zero, suc, _≤_, _<_}
 use native.Mathlib.Omega.{arith}
-use lib.Dec.{T, ltb, lt→ltb, ltb→lt, nltb→le}
+use lib.Dec.{T, ltb, lt→ltb, ltb→lt}
+use borrow.Author.Tests.{ltb-false}
 use lib.ListN.{length, getD, List·getD-eq-default}
 use Rattle.columns.specs.Column.{pick}
 use Rattle.custard.specs.Cty.{Cty, TUnit, TAny, TExn, TVar, TInt, TFloat, TConst, TArrow, TApp, TTuple, TBuf, TRef, TInline, gather, names-of-cty, uninline}
@@ -39,18 +40,10 @@ use Rattle.custard.specs.Laws.Erasure.{ctor-layouts-local}
 use Rattle.custard.specs.Names.{fields-names, ctors-names, body-names, dtype-names, Declared, Agree, Pin}
 use Rattle.custard.specs.Laws.Names.{position-name, position-same, agree-sym}
 use Rattle.custard.specs.Reach.{Reach, one, more}
-use Rattle.custard.specs.Laws.Reach.{true-false, reach-loop, reach-stays, cyclic-iff}
+use Rattle.custard.specs.Laws.Reach.{reach-loop, reach-stays, cyclic-iff}
+use Rattle.sheet.specs.ListLaws.{false-true, same-test}
 
 -- ---- tests
--- two tests that hold alike are equal
-pub same-test : (a b : Bool) → (a ≡ true → b ≡ true) → (b ≡ true → a ≡ true) → a ≡ b
-same-test true b f g = sym (f refl)
-same-test false true f g = g refl
-same-test false false f g = refl
-
-pub ltb-false : (m n : ℕ) → ltb m n ≡ false → n ≤ m
-ltb-false m n e = nltb→le m n (rw e tt)
-
 -- ---- tables
 pub length-table : {A : Type 0} (f : ℕ → A) (n : ℕ) → length (table f n) ≡ n
 unfolding table
@@ -212,7 +205,7 @@ dropped-iff ds cands i = cyclic-iff (guard-next ds cands) (length ds) i (guard-b
 
 pub not-dropped : (ds : List Decl) (cands : List (Option Layout)) (i : ℕ) → (dropped ds cands i ≡ false) ↔ (Reach (guard-next ds cands) i i → ⊥)
 not-dropped ds cands i =
-    (λ e r. true-false (sym (dropped-iff ds cands i .1 r) ∙ e), λ n. by n (dropped ds cands i) refl)
+    (λ e r. false-true (sym e ∙ dropped-iff ds cands i .1 r), λ n. by n (dropped ds cands i) refl)
   where
     by : (Reach (guard-next ds cands) i i → ⊥) → (b : Bool) → dropped ds cands i ≡ b → b ≡ false
     by n true e = absurd (n (dropped-iff ds cands i .0 e))
@@ -585,13 +578,13 @@ module _ (B : ℕ → Bool) (ds ds' : List Decl) (s : List Bool) (p : PinnedLayo
   walk-to e (one {a} {b} m) = one (step-to a b (by (B a) refl) m)
     where
       by : (x : Bool) → B a ≡ x → x ≡ false
-      by true z = true-false (sym (step-inside a b z m) ∙ e)
+      by true z = false-true (sym e ∙ step-inside a b z m)
       by false z = refl
   walk-to {c = c} e (more {a} {b} m r) = more (step-to a b (by (B a) refl) m) (walk-to e r)
     where
       by : (x : Bool) → B a ≡ x → x ≡ false
       by true z =
-          true-false (sym (reach-stays (guard-next ds (candidates-of ds s)) (λ (i : ℕ). B i ≡ true) step-inside r (step-inside a b z m)) ∙ e)
+          false-true (sym e ∙ reach-stays (guard-next ds (candidates-of ds s)) (λ (i : ℕ). B i ≡ true) step-inside r (step-inside a b z m))
       by false z = refl
 
   walk-from : {a c : ℕ} → Reach (guard-next ds' (candidates-of ds' s)) a c → Reach (guard-next ds (candidates-of ds s)) a c

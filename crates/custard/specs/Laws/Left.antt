@@ -15,7 +15,6 @@ use borrow.Author.Tests.{eqb-true, eqb-false, ltb-true, ltb-false, leb-false, no
 use Rattle.columns.specs.Column.{pick, _⇒_∥_}
 use Rattle.sheet.specs.Line.{Line, bad, letter, number}
 use Rattle.sheet.specs.Format.{Format, lineBytes, base}
-use Rattle.sheet.specs.LineLaws.{both}
 use Rattle.sheet.specs.Sheet.{count, lines, row1}
 use Rattle.sheet.specs.SheetLaws.{AllFit, length-lines, within-count, fit-lines}
 use Rattle.custard.specs.Cty.{Cty, TUnit, size}
@@ -86,20 +85,16 @@ use Rattle.custard.specs.Answer.{row8, row9, verdict-sheet, left-sheet}
 use Rattle.custard.specs.Laws.Answer.{Clear, Passes}
 use Rattle.custard.specs.Laws.Pass.{clear-heads}
 use Rattle.custard.specs.Laws.Fuel.{NoReturn, fuel-unspent}
-use Rattle.custard.specs.Laws.Cty.{Every, mem-every, every-map}
 use Rattle.custard.specs.Laws.Output.{verdict-bytes, verdict-round}
 use Rattle.custard.specs.Laws.Written.{left-program-read}
 use Rattle.custard.specs.Laws.Numbers.{sheet-round, left-sheet-normal}
-use Rattle.custard.specs.Laws.Program.{None, false-true, or-false, heads, head-cases, length-groups, length-program, program-at, HeadAt, head-at}
+use Rattle.custard.specs.Laws.Program.{None, heads, head-cases, length-groups, length-program, program-at, HeadAt, head-at}
 use Rattle.custard.specs.Laws.Resolve.{StructMatches, OpaqueMatches, Matches, Newtype, candidate-newtype, layout-matches, Unspent, Normal, Resolved, decl-resolved, LeftTypes, left-types}
 use Rattle.custard.specs.Laws.Layout.{candidates-of, getD-candidates, getD-layouts}
 use Rattle.custard.specs.Laws.Run.{lay, layout-of-decl, left-at, length-infos}
+use Rattle.sheet.specs.ListLaws.{false-true, both, one-of, neither, Every, mem-every, every-map}
 
 -- ---- an import's layout goes with its body
-or-true : (a b : Bool) → (a || b) ≡ true → (a ≡ true) ⊎ (b ≡ true)
-or-true true b e = inl refl
-or-true false b e = inr e
-
 -- document 01's number of a body
 unfoldable pub body-number : Body → ℕ
 body-number TAbstract = 0
@@ -185,7 +180,7 @@ verdict-matches h v kept b cls n m e =
     three p = let q : k ≡ 3 = eqb-true k 3 p in m (omega (arith, n (omega arith)))
 
     one : (one-ctor h && eqb kept 1) ≡ true → StructMatches b cls
-    one p = ⊎-elim two (λ q. three (both (eqb k 3) (eqb (number h 4) 1) q .0)) (or-true (eqb k 2) (eqb k 3 && eqb (number h 4) 1) (both (one-ctor h) (eqb kept 1) p .0))
+    one p = ⊎-elim two (λ q. three (both (eqb k 3) (eqb (number h 4) 1) q .0)) (one-of (eqb k 2) (eqb k 3 && eqb (number h 4) 1) (both (one-ctor h) (eqb kept 1) p .0))
 
     go : (x0 x1 x2 x3 x4 : Bool) →
         (x0 ⇒ eqb (number v 0) 1 ∥
@@ -194,7 +189,7 @@ verdict-matches h v kept b cls n m e =
         Matches b (x0 ⇒ L-erased ∥ x1 ⇒ or-struct (newtype-of cls) cls ∥ x2 ⇒ L-struct cls ∥ x3 ⇒ abbreviated b ∥ L-opaque)
     go true x1 x2 x3 x4 p = tt
     go false true x2 x3 x4 p = newtype-matches b cls (one (both (eqb (number v 0) 0) (one-ctor h && eqb kept 1) p .1))
-    go false false true x3 x4 p = ⊎-elim two three (or-true (eqb k 2) (eqb k 3) (both (eqb (number v 0) 0) (eqb k 2 || eqb k 3) p .1))
+    go false false true x3 x4 p = ⊎-elim two three (one-of (eqb k 2) (eqb k 3) (both (eqb (number v 0) 0) (eqb k 2 || eqb k 3) p .1))
     go false false false true x4 p =
         let q : k ≡ 1 = eqb-true k 1 (both (eqb (number v 0) 0) (eqb k 1) p .1) in
         abbreviated-matches b (omega (arith, n (omega arith)))
@@ -414,7 +409,7 @@ pub lines-limit : (f : Format) (b : List ℕ) → row1 f b ≡ false → length 
 unfolding row1
 lines-limit f b e =
     let w : ℕ = f .columns in
-    let h : length b ≤ lineBytes w * f .lines = ltb-false (lineBytes w * f .lines) (length b) (or-false (ltb (lineBytes w * f .lines) (length b)) _ e .0) in
+    let h : length b ≤ lineBytes w * f .lines = ltb-false (lineBytes w * f .lines) (length b) (neither (ltb (lineBytes w * f .lines) (length b)) _ e .0) in
     go w h (ltb (f .lines) (count w b)) refl
   where
     go : (w : ℕ) → length b ≤ lineBytes w * f .lines → (c : Bool) → ltb (f .lines) (count w b) ≡ c → length (lines w b) ≤ f .lines
@@ -510,6 +505,6 @@ module _ (f : Format) (b : List ℕ) (v l : ℕ) (ample : Ample f) (pass : Passe
   verdict-sheet-length =
       let w : ℕ = f .columns in
       let e : length (groups is-head sheet-lines) ≡ length (run sheet-program .infos) = length-groups sheet-lines ∙ sym (length-infos sheet-program ∙ length-program sheet-lines) in
-      let z : length b % lineBytes w ≡ 0 = eqb-true (length b % lineBytes w) 0 (not-false (eqb (length b % lineBytes w) 0) (or-false (ltb (lineBytes w * f .lines) (length b)) (not (eqb (length b % lineBytes w) 0)) (pass .pass1) .1)) in
+      let z : length b % lineBytes w ≡ 0 = eqb-true (length b % lineBytes w) 0 (not-false (eqb (length b % lineBytes w) 0) (neither (ltb (lineBytes w * f .lines) (length b)) (not (eqb (length b % lineBytes w) 0)) (pass .pass1) .1)) in
       verdict-bytes w sheet-lines (run sheet-program .infos) (omega (arith, ample .kinds)) pass-fit e
       ∙ (ap (λ (n : ℕ). lineBytes w * n) (length-lines w b) ∙ omega (arith, div-add-mod (length b) (lineBytes w), z))

@@ -1,12 +1,11 @@
 -- Locality: two programs that agree on a set of names closed under what their declarations name give
 -- these names the same verdicts, left declarations and faults. Over any declarations and any limit.
 -- Assumes nothing.
-use mathlib.Core.Logic.{_↔_}
 use mathlib.Core.Path.{_≡_, refl, sym, _∙_, ap, ap₂, subst}
-use mathlib.Core.List.{List, [], _∷_, _++_, List·Memᴰ, List·Memᴰ·not-nil, Memᴰ·append-left, Memᴰ·append-right}
+use mathlib.Core.List.{List, [], _∷_, List·Memᴰ, List·Memᴰ·not-nil, Memᴰ·append-left, Memᴰ·append-right}
 use mathlib.Core.Bool.{Bool, true, false, _||_}
-use mathlib.Core.Option.{Option, none, some}
-use Prim.Native.Nat.{ℕ, zero, suc, _≤_, _<_}
+use mathlib.Core.Option.{Option, none}
+use Prim.Native.Nat.{ℕ, _≤_, _<_}
 use native.Mathlib.Omega.{arith}
 use lib.Dec.{ltb}
 use lib.ListN.{length, getD}
@@ -41,14 +40,10 @@ use Rattle.custard.specs.Decl.{
   position,
 }
 use Rattle.custard.specs.Erasure.{marked, erasure-fixpoint}
-use Rattle.custard.specs.Layout.{ctor-layouts, candidate, dropped, names-in, layout-of, compute-layouts}
-use Rattle.custard.specs.Reach.{Reach, cyclic}
-use Rattle.custard.specs.Resolve.{Unfold, gone, newtype, abbreviation, stays, unfold-body, unfold-dtype, unfold-of, unfolds, unfold-name, resolve, resolve-checked}
+use Rattle.custard.specs.Layout.{ctor-layouts, candidate, dropped, names-in, layout-of}
+use Rattle.custard.specs.Resolve.{Unfold, gone, newtype, abbreviation, stays, unfold-body, unfold-dtype, unfold-of, unfolds, unfold-name, resolve}
 use Rattle.custard.specs.Run.{
   fuel,
-  resolved-field,
-  resolved-ctor,
-  struct-body,
   rw-decl,
   record-of,
   info,
@@ -56,13 +51,11 @@ use Rattle.custard.specs.Run.{
   unfold-names,
   unfold-next,
   returns,
-  field-types,
   resolves,
-  fault-code,
   decl-fault,
 }
 use Rattle.custard.specs.Names.{fields-names, dtype-names, body-names, Declared, Agree}
-use Rattle.custard.specs.Laws.Names.{position-le, agree-sym}
+use Rattle.custard.specs.Laws.Names.{agree-sym}
 use Rattle.custard.specs.Laws.Erasure.{erasure-local, ctor-layouts-local}
 use Rattle.custard.specs.Laws.Reach.{cyclic-iff, reach-loop}
 use Rattle.custard.specs.Laws.Layout.{
@@ -79,10 +72,11 @@ use Rattle.custard.specs.Laws.Layout.{
   names-in-iff,
   unfold-below,
 }
-use Rattle.custard.specs.Laws.Cty.{Every, All, names-all, all-names}
+use Rattle.custard.specs.Laws.Cty.{All, names-all, all-names}
 use Rattle.custard.specs.Laws.Resolve.{BodyAll, Fields, Kept, kept-field-types, rw-decl-local, decl-fault-local}
 use Rattle.custard.specs.Laws.Own.{cls-names, layout-names, Among, layout-own}
 use Rattle.custard.specs.Laws.Run.{lay, layout-of-decl, left-at, info-at}
+use Rattle.sheet.specs.ListLaws.{Every}
 
 -- ---- layouts name what their declarations name
 -- an import's layout is made of its own declaration's types

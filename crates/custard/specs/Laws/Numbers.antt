@@ -123,11 +123,12 @@ use Rattle.custard.specs.Program.{
 use Rattle.custard.specs.Rows.{count-of}
 use Rattle.custard.specs.Laws.Program.{select-append, flat, before-flat, heads, length-groups}
 use Rattle.custard.specs.Output.{left-lines}
-use Rattle.custard.specs.Laws.Cty.{Every, every-map, all-names}
+use Rattle.custard.specs.Laws.Cty.{all-names}
 use Rattle.custard.specs.Laws.Resolve.{Stays, Normal, Fields, Ctors, BodyTypes, LeftTypes}
 use Rattle.custard.specs.Laws.Layout.{getD-table, getD-table-past, candidates-of, getD-candidates, getD-layouts, getD-layouts-past}
 use Rattle.custard.specs.Laws.Run.{lay, left-at, run-program}
-use Rattle.custard.specs.Laws.Output.{every-append, every-over, types-of-fields, types-of-ctors, types-of-body, types-of, TypeNumbers, TypesNumbers, FieldNumbers, CtorNumbers, BodyNumbers, DtypeNumbers, total, total-bound, ProgramFits, every-select, number-fits, allFit-every, left-fits, NamesIn, left-names}
+use Rattle.custard.specs.Laws.Output.{types-of-fields, types-of-ctors, types-of-body, types-of, TypeNumbers, TypesNumbers, FieldNumbers, CtorNumbers, BodyNumbers, DtypeNumbers, total, total-bound, ProgramFits, every-select, number-fits, left-fits, NamesIn, left-names}
+use Rattle.sheet.specs.ListLaws.{Every, every-map, every-over, every-append}
 
 -- ---- the numbers of types
 module _ (Q : ℕ → Type 0) where
@@ -1014,7 +1015,7 @@ pub sheet-fits : (w limit : ℕ) (ls : List Line) → 12 < 10 ^ w → AllFit w l
     ((i : ℕ) → i < length (program ls) → LeftTypes (λ t. size t ≤ limit) (left-at (program ls) i)) → AllFit w (left-lines ls (run (program ls) .program))
 sheet-fits w limit ls k h n b t =
     let Q : ℕ → Type 0 = λ m. m < 10 ^ w in
-    let f : Every (Numbered Q) ls = every-map (Fits w) (Numbered Q) (λ l p i. number-fits w (omega arith) l i p) ls (allFit-every w ls h) in
+    let f : Every (Numbered Q) ls = every-map (Fits w) (Numbered Q) (λ l p i. number-fits w (omega arith) l i p) ls h in
     left-fits w ls (run (program ls) .program) h
     (run-fits w limit (program ls) k (program-full Q (λ m j. omega arith) (below-down (10 ^ w)) ls f n) t (omega (arith, b, mul-le-mul-left limit (weights-program ls))))
 

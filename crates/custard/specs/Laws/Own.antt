@@ -1,7 +1,7 @@
 -- The types of a declaration's layout name only what the declaration's own types name.
 -- Assumes nothing.
-use mathlib.Core.Logic.{_⊎_, inl, inr, ⊎-elim}
-use mathlib.Core.Path.{_≡_, refl, sym, _∙_, ap, subst}
+use mathlib.Core.Logic.{_⊎_, ⊎-elim}
+use mathlib.Core.Path.{_≡_, refl, sym, subst}
 use mathlib.Core.List.{
   List,
   [],
@@ -9,17 +9,14 @@ use mathlib.Core.List.{
   _++_,
   map,
   List·Memᴰ,
-  List·Memᴰ·head,
-  List·Memᴰ·tail,
   List·Memᴰ·not-nil,
-  List·Memᴰ·cases-cons,
   List·Memᴰ·append-cases,
   Memᴰ·append-left,
   Memᴰ·append-right,
 }
 use mathlib.Core.Bool.{Bool, true, false, _||_}
 use mathlib.Core.Option.{Option, none, some}
-use Prim.Native.Nat.{ℕ, zero, suc}
+use Prim.Native.Nat.{ℕ}
 use lib.Dec.{eqb}
 use Rattle.columns.specs.Column.{pick, _⇒_∥_}
 use Rattle.sheet.specs.Line.{Line}
@@ -62,13 +59,11 @@ use Rattle.custard.specs.Decl.{
   L-struct,
   L-abbrev,
   L-opaque,
-  TypeInfo,
   Origin,
   here,
   imported,
 }
 use Rattle.custard.specs.Layout.{kept, ctor-layout, ctor-layouts, newtype-of-ctor, newtype-of, candidate, collapse, layout-of-body, layout-of}
-use Rattle.custard.specs.Run.{field-types, resolves}
 use Rattle.custard.specs.Program.{keeps-of, ctor-layouts-by, abbreviated, or-struct, layout-by, info-of}
 use Rattle.custard.specs.Names.{fields-names, ctors-names, body-names, dtype-names}
 

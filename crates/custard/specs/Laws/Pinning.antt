@@ -1,6 +1,6 @@
 -- Pinning: a program whose first declarations are imported with the verdicts that they get on their own
 -- gives every declaration the same verdict, left declaration and faults. Assumes nothing.
-use mathlib.Core.Logic.{_⊎_, inl, inr, ⊎-elim}
+use mathlib.Core.Logic.{_⊎_, inl, inr}
 use mathlib.Core.Path.{_≡_, refl, sym, _∙_, ap, ap₂, subst, fun-ext}
 use mathlib.Core.List.{List, [], _∷_, _++_, List·Memᴰ}
 use mathlib.Core.Bool.{Bool, true, false}
@@ -10,12 +10,9 @@ use native.Mathlib.Omega.{arith}
 use lib.Dec.{ltb}
 use lib.ListN.{length, getD, take, drop, take-append-drop, length-append, List·getD-append}
 use lib.Seq.{getD-append-add, getD-take, length-take-le, ext-getD}
-use borrow.Author.Tests.{ltb-true, ltb-false, lt-ltb, le-ltb}
-use Rattle.columns.specs.Column.{pick}
+use borrow.Author.Tests.{ltb-true, ltb-false, lt-ltb}
 use Rattle.custard.specs.Decl.{
   Dtype,
-  CtorLayout,
-  Layout,
   L-opaque,
   TypeInfo,
   Origin,
@@ -31,11 +28,11 @@ use Rattle.custard.specs.Decl.{
 use Rattle.custard.specs.Erasure.{marked, rule, rule-of, erasure-fixpoint}
 use Rattle.custard.specs.Layout.{ctor-layouts, dropped, layout-of, compute-layouts}
 use Rattle.custard.specs.Run.{info, layouts-of, somes, run, returns, decl-fault}
-use Rattle.custard.specs.Names.{dtype-names, Declared, undeclared, Distinct, Agree, Pin, Pinned}
-use Rattle.custard.specs.Laws.Names.{position-le, position-name, position-distinct, position-declared, position-append-left, position-append-right, agree-prefix, undeclared-of}
+use Rattle.custard.specs.Names.{dtype-names, Declared, undeclared, Distinct, Agree, Pin}
+use Rattle.custard.specs.Laws.Names.{position-le, position-name, position-distinct, position-declared, position-append-left, agree-prefix, undeclared-of}
 use Rattle.custard.specs.Laws.Erasure.{erasure-solves, erasure-pinned}
-use Rattle.custard.specs.Laws.Layout.{length-table, getD-table, Placed, candidates-of, layout-at, PinnedLayouts, pinned-layouts, getD-layouts, table-cong}
-use Rattle.custard.specs.Laws.Run.{lay, layout-of-decl, left-at, info-at, run-program, run-infos, getD-infos, length-infos, places-same, left-same, program-same, fault-same, returns-same}
+use Rattle.custard.specs.Laws.Layout.{length-table, getD-table, Placed, candidates-of, layout-at, pinned-layouts, getD-layouts, table-cong}
+use Rattle.custard.specs.Laws.Run.{layout-of-decl, left-at, info-at, run-program, run-infos, getD-infos, length-infos, places-same, left-same, program-same, fault-same, returns-same}
 use Rattle.custard.specs.Laws.Program.{pins}
 use Rattle.custard.specs.Laws.Locality.{OwnImports, info-local, left-local, fault-local, returns-local}
 

@@ -3,16 +3,16 @@
 use mathlib.Core.Logic.{_⊎_, inl, inr, ⊎-elim}
 use mathlib.Core.Path.{_≡_, refl, ap, ap₂, sym, _∙_}
 use mathlib.Core.List.{List, [], _∷_, _++_, map, append-assoc, append-nil, map-append, map-map, map-id}
-use mathlib.Core.Bool.{Bool, true, false, _&&_, _||_, not}
+use mathlib.Core.Bool.{Bool, true, false, _||_, not}
 use mathlib.Core.Option.{Option, none, some}
 use Prim.Native.Nat.{ℕ, zero, suc, _+_, _≤_, _<_}
 use native.Mathlib.Omega.{arith}
-use lib.Dec.{eqb, ltb}
-use lib.ListN.{length, getD, take, drop, length-append, length-map, List·getD-map}
-use borrow.Author.Tests.{eqb-true, eqb-false}
+use lib.Dec.{eqb}
+use lib.ListN.{length, getD, take, drop, length-append, length-map}
+use borrow.Author.Tests.{eqb-true}
 use Rattle.columns.specs.Column.{pick, _⇒_∥_}
 use Rattle.sheet.specs.Line.{Line, row, bad, letter, number}
-use Rattle.custard.specs.Cty.{Cty, TUnit, uninline}
+use Rattle.custard.specs.Cty.{Cty, TUnit}
 use Rattle.custard.specs.Decl.{
   Field,
   Ctor,
@@ -33,7 +33,6 @@ use Rattle.custard.specs.Decl.{
   L-struct,
   L-abbrev,
   L-opaque,
-  NewtypeLayout,
   layout-number,
   TypeInfo,
   Origin,
@@ -48,9 +47,9 @@ use Rattle.custard.specs.Decl.{
   close-body,
   close-fields,
 }
-use Rattle.custard.specs.Erasure.{cty-erased, Settled, marked, erasure-fixpoint}
-use Rattle.custard.specs.Layout.{first-kept, slots, ctor-layout, ctor-layouts, newtype-of-ctor, newtype-of, candidate, candidates, dropped, collapse, layout-of-body, layout-of, compute-layouts}
-use Rattle.custard.specs.Run.{info, Ran, run}
+use Rattle.custard.specs.Erasure.{cty-erased, marked, erasure-fixpoint}
+use Rattle.custard.specs.Layout.{slots, ctor-layout, ctor-layouts, newtype-of-ctor, newtype-of, candidate, candidates, dropped, collapse, layout-of-body, layout-of, compute-layouts}
+use Rattle.custard.specs.Run.{info, run}
 use Rattle.custard.specs.Program.{
   name-line,
   arg-line,
@@ -67,7 +66,6 @@ use Rattle.custard.specs.Program.{
   before,
   Group,
   groups,
-  trees-after,
   trees,
   field-of,
   ctor-of,
@@ -84,14 +82,9 @@ use Rattle.custard.specs.Program.{
 }
 use Rattle.custard.specs.Output.{bit, fill-keeps, fill-verdict, all-slots, fill, fill-all, verdict-lines, left-lines}
 use Rattle.custard.specs.Rows.{line-at, count-of, heads-before}
+use Rattle.sheet.specs.ListLaws.{contrary, neither}
 
 -- ---- tests
-pub false-true : {A : Type 0} → false ≡ true → A
-false-true e = let z : _≡_ {A = ℕ} 0 1 = cc in absurd (omega arith)
-
-pub contrary : {A : Type 0} (b : Bool) → b ≡ true → b ≡ false → A
-contrary b t f = let z : _≡_ {A = ℕ} 0 1 = cc in absurd (omega arith)
-
 -- ---- lists
 -- an element of a map, whatever stands for one past the last
 pub getD-map : {A B : Type 0} (f : A → B) (l : List A) (i : ℕ) (d : B) (a : A) → i < length l → getD (map f l) i d ≡ f (getD l i a)
@@ -284,12 +277,8 @@ head-cases l e = go (is local-line l) refl e
     go true q h = inl (eqb-true (letter l) 68 q)
     go false q h = inr (eqb-true (letter l) 73 h)
 
-pub or-false : (a b : Bool) → (a || b) ≡ false → (a ≡ false) × (b ≡ false)
-or-false true b e = false-true (sym e)
-or-false false b e = (refl, e)
-
 pub head-not : (l : Line) → is-head l ≡ false → (is local-line l ≡ false) × (is import-line l ≡ false)
-head-not l e = or-false (is local-line l) (is import-line l) e
+head-not l e = neither (is local-line l) (is import-line l) e
 
 heads-head : (l : Line) (ls : List Line) → is-head l ≡ true → heads (l ∷ ls) ≡ suc (heads ls)
 unfolding select

@@ -41,8 +41,6 @@ use Rattle.custard.specs.Cty.{
   cty-vars,
 }
 use Rattle.custard.specs.Laws.Cty.{
-  Every,
-  every-map,
   Any,
   All,
   Alls,
@@ -133,6 +131,7 @@ use Rattle.custard.specs.Run.{
   fault-code,
   decl-fault,
 }
+use Rattle.sheet.specs.ListLaws.{Every, every-map}
 
 -- ---- results
 true-of : (b : Bool) → T b → b ≡ true

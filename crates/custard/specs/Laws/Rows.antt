@@ -1,9 +1,9 @@
 -- Rows 3 to 7 of a sheet cut between declarations: what they say of a prefix, of a verdict sheet in its place, and of
 -- the lines of bytes. Assumes nothing.
-use mathlib.Core.Logic.{_⊎_, inl, inr, ⊎-elim}
+use mathlib.Core.Logic.{_⊎_, ⊎-elim}
 use mathlib.Core.Path.{_≡_, refl, ap, ap₂, sym, _∙_}
-use mathlib.Core.List.{List, [], _∷_, _++_, map, append-assoc, append-nil, map-append}
-use mathlib.Core.Bool.{Bool, true, false, _&&_, _||_, not}
+use mathlib.Core.List.{List, [], _∷_, _++_, map, append-nil, map-append}
+use mathlib.Core.Bool.{Bool, true, false, _&&_, _||_, not, and-false}
 use mathlib.Core.Option.{Option, none, some}
 use Prim.Native.Nat.{ℕ, zero, suc, _+_, _*_, _-_, _≤_, _<_}
 use native.Mathlib.Omega.{arith}
@@ -14,7 +14,6 @@ use borrow.Author.Tests.{eqb-true, eqb-false, eq-eqb, ltb-true, ltb-false, lt-lt
 use Rattle.columns.specs.Column.{pick, _⇒_∥_}
 use Rattle.sheet.specs.Format.{Format, lineBytes, textBytes}
 use Rattle.sheet.specs.FirstLaws.{first-le, first-congr, none-first}
-use Rattle.sheet.specs.LineLaws.{both}
 use Rattle.sheet.specs.Line.{Line, named, row, bad, spelling, proper, lettered, cell, isValue, value, decodeNamed, decodeRow, decode, letter, number, text, isBad}
 use Rattle.sheet.specs.Sheet.{first, lineAt, count, line, lines}
 use Rattle.sheet.specs.SheetLaws.{lineAt-left, lineAt-right, lines-append, length-lines, within-count, getD-lines}
@@ -31,7 +30,6 @@ use Rattle.custard.specs.Decl.{
   ctors-of,
   ctors-of-tydef,
   CtorLayout,
-  NewtypeLayout,
   Layout,
   L-erased,
   L-newtype,
@@ -40,10 +38,8 @@ use Rattle.custard.specs.Decl.{
   L-opaque,
   layout-number,
   TypeInfo,
-  Origin,
   here,
   imported,
-  Decl,
   table,
   close-field,
   close-body,
@@ -57,7 +53,6 @@ use Rattle.custard.specs.Program.{
   name-line,
   arg-line,
   type-line,
-  local-line,
   import-line,
   param-line,
   ctor-line,
@@ -81,7 +76,6 @@ use Rattle.custard.specs.Program.{
 }
 use Rattle.custard.specs.Output.{bit, fill-keeps, fill-verdict, all-slots, verdict-lines}
 use Rattle.custard.specs.Rows.{
-  some-below,
   line-at,
   count-of,
   count-before,
@@ -117,8 +111,6 @@ use Rattle.custard.specs.Rows.{
   row7,
 }
 use Rattle.custard.specs.Laws.Program.{
-  false-true,
-  contrary,
   None,
   none-left,
   Starts,
@@ -127,13 +119,8 @@ use Rattle.custard.specs.Laws.Program.{
   select-yes,
   select-no,
   none-select,
-  before-append,
   before-none,
-  groups-append,
-  groups-none,
   head-cases,
-  head-not,
-  or-false,
   heads,
   length-groups,
   length-table,
@@ -148,11 +135,9 @@ use Rattle.custard.specs.Laws.Program.{
   kind,
   plain-head,
   plain-is,
-  plain-same,
   map-group,
   select-map,
   groups-map,
-  map-select,
   select-plain,
   Ended,
   AllEnded,
@@ -199,6 +184,7 @@ use Rattle.custard.specs.Laws.Program.{
   Whole,
   AllWhole,
 }
+use Rattle.sheet.specs.ListLaws.{false-true, contrary, both, neither, length-nil}
 
 none-some : {A B : Type 0} (a : A) → _≡_ {A = Option A} none (some a) → B
 none-some a e = let z : _≡_ {A = ℕ} 0 1 = cc in absurd (omega arith)
@@ -206,10 +192,6 @@ none-some a e = let z : _≡_ {A = ℕ} 0 1 = cc in absurd (omega arith)
 length-slot : (er : ℕ → Bool) (fs : List Field) → length (slots er fs) ≡ length fs
 unfolding slots
 length-slot er fs = length-map fs (λ f. not (cty-erased er (f .fd-type)))
-
-length-nil : (ls : List Line) → length ls ≡ 0 → ls ≡ []
-length-nil [] h = refl
-length-nil (l ∷ ls) h = absurd (omega arith)
 
 take-map : {A B : Type 0} (f : A → B) (n : ℕ) (l : List A) → take n (map f l) ≡ map f (take n l)
 take-map f zero l = refl
@@ -380,10 +362,6 @@ announced-late k p n = go (leb k 1) (eqb k 2) (eqb k 3)
 head-not-header : (l : Line) → is-head l ≡ true → is-header-line l ≡ false
 head-not-header l e = ⊎-elim (λ h. rw h) (λ h. rw h) (head-cases l e)
 
-and-false : (b : Bool) → (b && false) ≡ false
-and-false true = refl
-and-false false = refl
-
 late-header : (place : ℕ) (l : Line) → 3 ≤ place → due-header place l ≡ pick (is-head l) (announced (number l 2) (number l 3) (number l 4)) Broken
 unfolding due-header
 late-header place l k =
@@ -455,9 +433,9 @@ pub no-header : (a qs : List Line) → Starts is-head qs → Ends (a ++ qs) → 
 no-header a qs s h =
     let k = declarations-none a qs s h in
     record {
-      names = header-none name-line qs (λ l e. or-false (is name-line l) (is arg-line l || is type-line l) e .0) k;
-      args = header-none arg-line qs (λ l e. or-false (is arg-line l) (is type-line l) (or-false (is name-line l) (is arg-line l || is type-line l) e .1) .0) k;
-      types = header-none type-line qs (λ l e. or-false (is arg-line l) (is type-line l) (or-false (is name-line l) (is arg-line l || is type-line l) e .1) .1) k;
+      names = header-none name-line qs (λ l e. neither (is name-line l) (is arg-line l || is type-line l) e .0) k;
+      args = header-none arg-line qs (λ l e. neither (is arg-line l) (is type-line l) (neither (is name-line l) (is arg-line l || is type-line l) e .1) .0) k;
+      types = header-none type-line qs (λ l e. neither (is arg-line l) (is type-line l) (neither (is name-line l) (is arg-line l || is type-line l) e .1) .1) k;
     }
 
 -- ---- the body of a declaration

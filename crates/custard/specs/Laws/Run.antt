@@ -1,22 +1,20 @@
 -- What `run` gives, declaration by declaration, and what it depends on. Assumes nothing.
-use mathlib.Core.Path.{_≡_, refl, sym, _∙_, ap, ap₂, subst, fun-ext}
-use mathlib.Core.List.{List, [], _∷_, _++_}
-use mathlib.Core.Bool.{Bool, true, false}
-use mathlib.Core.Option.{Option, none, some}
-use Prim.Native.Nat.{ℕ, zero, suc, _≤_, _<_}
-use native.Mathlib.Omega.{arith}
-use lib.Dec.{eqb, ltb}
+use mathlib.Core.Path.{_≡_, refl, sym, _∙_, ap, ap₂, fun-ext}
+use mathlib.Core.List.{List, [], _∷_}
+use mathlib.Core.Bool.{false}
+use mathlib.Core.Option.{Option, none}
+use Prim.Native.Nat.{ℕ, _<_}
+use lib.Dec.{ltb}
 use lib.ListN.{length, getD}
 use Rattle.columns.specs.Column.{pick}
-use Rattle.custard.specs.Cty.{Cty}
-use Rattle.custard.specs.Decl.{Dtype, Layout, L-opaque, TypeInfo, Origin, Decl, dtype-at, origin-at, table, position}
+use Rattle.custard.specs.Decl.{Dtype, Layout, L-opaque, TypeInfo, Decl, dtype-at, origin-at, table, position}
 use Rattle.custard.specs.Erasure.{marked, erasure-fixpoint}
-use Rattle.custard.specs.Layout.{positions, names-in, compute-layouts}
+use Rattle.custard.specs.Layout.{positions}
 use Rattle.custard.specs.Reach.{cyclic}
 use Rattle.custard.specs.Resolve.{Unfold, gone, newtype, abbreviation, stays, unfold-of, unfolds, unfold-name, resolve, resolve-checked}
 use Rattle.custard.specs.Run.{fuel, rw-decl, info, layouts-of, somes, run, unfold-names, unfold-next, returns, resolves, fault-code, decl-fault}
 use Rattle.custard.specs.Laws.Names.{position-same}
-use Rattle.custard.specs.Laws.Layout.{length-table, getD-table, table-cong, length-layouts}
+use Rattle.custard.specs.Laws.Layout.{length-table, getD-table, table-cong}
 
 -- ---- one declaration
 -- what the names of a program become

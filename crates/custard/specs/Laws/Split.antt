@@ -1,6 +1,6 @@
 -- A cut's units, each of which is a second part of the sheet before it. Assumes nothing.
-use mathlib.Core.Logic.{_↔_, _⊎_, inl, inr, ⊎-elim}
-use mathlib.Core.Path.{_≡_, refl, sym, _∙_, ap, ap₂, subst}
+use mathlib.Core.Logic.{_⊎_, inl, inr, ⊎-elim}
+use mathlib.Core.Path.{_≡_, refl, sym, _∙_, ap, subst}
 use mathlib.Core.List.{
   List,
   [],
@@ -8,7 +8,6 @@ use mathlib.Core.List.{
   _++_,
   map,
   append-assoc,
-  append-nil,
   List·Memᴰ,
   List·Memᴰ·head,
   List·Memᴰ·tail,
@@ -19,11 +18,11 @@ use mathlib.Core.List.{
   Memᴰ·append-right,
 }
 use mathlib.Core.Bool.{Bool, true, false, _||_}
-use Prim.Native.Nat.{ℕ, zero, suc, _+_, _*_, _%_, _≤_, _<_}
+use Prim.Native.Nat.{ℕ, zero, suc, _+_, _≤_, _<_}
 use native.Mathlib.Omega.{arith}
 use native.Mathlib.Nat.{zero-div, zero-mod}
 use lib.Dec.{eqb, ltb}
-use lib.ListN.{length, getD, length-append, length-map, List·getD-append}
+use lib.ListN.{length, getD, length-append, List·getD-append}
 use borrow.Author.Tests.{ltb-true, ltb-false}
 use Rattle.sheet.specs.Format.{Format, lineBytes}
 use Rattle.sheet.specs.Line.{Line, bad, isBad, letter, number}
@@ -37,7 +36,7 @@ use Rattle.custard.specs.Rows.{line-at, raw, heads-before, row5, row6}
 use Rattle.custard.specs.Names.{dtype-names, Declared, undeclared, Distinct}
 use Rattle.custard.specs.Laws.Names.{position-le, position-name, position-first, position-append-left, position-append-right, undeclared-of}
 use Rattle.custard.specs.Cut.{build, builds, join, Whole, Declarations, program-names, Cut}
-use Rattle.custard.specs.Laws.Program.{Starts, None, select-append, program-append, groups-append, groups-none, length-program, program-at, HeadAt, head-at, heads-before-program}
+use Rattle.custard.specs.Laws.Program.{Starts, None, select-append, program-append, groups-append, groups-none, length-program, HeadAt, head-at, heads-before-program}
 use Rattle.custard.specs.Laws.Rows.{Ends, raw-rawly, ends-prefix, NoHeader, no-header, row5-prefix}
 use Rattle.custard.specs.Laws.Answer.{Clear}
 use Rattle.custard.specs.Laws.Pass.{name-at, distinct-program}

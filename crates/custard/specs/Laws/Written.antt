@@ -11,7 +11,6 @@ use lib.Seq.{append-snoc, getD-at, getD-append-seam}
 use Rattle.columns.specs.Column.{pick}
 use Rattle.sheet.specs.Line.{Line, row, letter, number}
 use Rattle.custard.specs.Cty.{Cty, Ctys, TUnit, TAny, TExn, TVar, TInt, TFloat, TConst, TArrow, TApp, TTuple, TBuf, TRef, TInline, nil, cons}
-use Rattle.custard.specs.Laws.Cty.{Every}
 use Rattle.custard.specs.Decl.{Field, Ctor, Body, TAbstract, TAbbrev, TRecord, TVariant, Dtype, here, Decl, close-fields}
 use Rattle.custard.specs.Program.{
   name-line,
@@ -43,6 +42,7 @@ use Rattle.custard.specs.Program.{
 use Rattle.custard.specs.Laws.Program.{None, none-append, select-append, select-none, before-none, groups-none, flat, Grouped, AllGrouped, groups-header}
 use Rattle.custard.specs.Output.{Written, put, last, Members, listed, first-arg, emit, emits, Lines, field-lines, ctor-lines, decl-frame, decl-lines, program-lines, left-lines}
 use Rattle.custard.specs.Laws.Output.{Grows, grows-refl, grows-put, grows-listed, grows-trans, emit-adds, emits-adds, field-adds, ctor-adds, program-adds, select-letter, nothing}
+use Rattle.sheet.specs.ListLaws.{Every}
 
 -- ---- types
 -- a list that begins with another
