@@ -535,6 +535,23 @@ pub subst-none : (c : Cty) → subst-cty [] c ≡ c
 unfolding subst-cty look
 subst-none c = walk-id c
 
+-- a type less its outer `TInline` names the same
+pub uninline-names : (c : Cty) → names-of-cty (uninline c) ≡ names-of-cty c
+unfolding uninline names-of-cty gather
+uninline-names TUnit = refl
+uninline-names TAny = refl
+uninline-names TExn = refl
+uninline-names (TVar v) = refl
+uninline-names (TInt s w) = refl
+uninline-names (TFloat f) = refl
+uninline-names (TConst c) = refl
+uninline-names (TArrow a e b) = refl
+uninline-names (TApp n ts) = refl
+uninline-names (TTuple ts) = refl
+uninline-names (TBuf t) = refl
+uninline-names (TRef k t) = refl
+uninline-names (TInline t) = refl
+
 -- ---- lists of types
 pub append-nil : (ts : Ctys) → append ts nil ≡ ts
 unfolding append

@@ -55,13 +55,11 @@ use Rattle.custard.specs.Run.{
   decl-fault,
 }
 use Rattle.custard.specs.Names.{fields-names, dtype-names, body-names, Declared, Agree}
-use Rattle.custard.specs.Laws.Names.{agree-sym}
+use Rattle.custard.specs.Laws.Names.{agree-sym, Among}
 use Rattle.custard.specs.Laws.Erasure.{erasure-local, ctor-layouts-local}
 use Rattle.custard.specs.Laws.Reach.{cyclic-iff, reach-loop}
 use Rattle.custard.specs.Laws.Layout.{
   candidates-of,
-  getD-table,
-  getD-table-past,
   getD-layouts,
   getD-candidates,
   layout-same,
@@ -74,9 +72,10 @@ use Rattle.custard.specs.Laws.Layout.{
 }
 use Rattle.custard.specs.Laws.Cty.{All, names-all, all-names}
 use Rattle.custard.specs.Laws.Resolve.{BodyAll, Fields, Kept, kept-field-types, rw-decl-local, decl-fault-local}
-use Rattle.custard.specs.Laws.Own.{cls-names, layout-names, Among, layout-own}
+use Rattle.custard.specs.Laws.Own.{cls-names, layout-names, layout-own}
 use Rattle.custard.specs.Laws.Run.{lay, layout-of-decl, left-at, info-at}
 use Rattle.sheet.specs.ListLaws.{Every}
+use Rattle.custard.specs.Laws.Lists.{getD-table, getD-table-past}
 
 -- ---- layouts name what their declarations name
 -- an import's layout is made of its own declaration's types

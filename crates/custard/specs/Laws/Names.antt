@@ -1,7 +1,7 @@
--- Laws of a name's position, and of programs that agree on a set of names. Assumes nothing.
-use mathlib.Core.Logic.{_≢_}
+-- Laws of a name's position, of programs that agree on a set of names, and of the names of a declaration's parts. Assumes nothing.
+use mathlib.Core.Logic.{_≢_, ⊎-elim}
 use mathlib.Core.Path.{_≡_, refl, ap, sym}
-use mathlib.Core.List.{List, [], _∷_, _++_, List·Memᴰ}
+use mathlib.Core.List.{List, [], _∷_, _++_, List·Memᴰ, List·Memᴰ·not-nil, List·Memᴰ·append-cases, Memᴰ·append-left, Memᴰ·append-right}
 use mathlib.Core.Bool.{Bool, true, false, not}
 use Prim.Native.Nat.{ℕ, zero, suc, _+_, _≤_, _<_}
 use native.Mathlib.Omega.{arith}
@@ -9,8 +9,10 @@ use native.Mathlib.Decide.{decLt}
 use lib.Dec.{T, eqb, eqb→eq, eqb-refl, ltb, ltb→lt, nltb→le}
 use lib.ListN.{length, length-append, List·getD-append}
 use Rattle.columns.specs.Column.{pick}
-use Rattle.custard.specs.Decl.{TypeInfo, Decl, no-decl, dtype-at, position}
-use Rattle.custard.specs.Names.{dtype-names, Declared, undeclared, Distinct, Agree, Pinned}
+use Rattle.custard.specs.Cty.{names-of-cty}
+use Rattle.custard.specs.Decl.{Field, Body, TAbstract, TAbbrev, TRecord, TVariant, ctors-of, TypeInfo, Decl, no-decl, dtype-at, position}
+use Rattle.custard.specs.Layout.{kept}
+use Rattle.custard.specs.Names.{fields-names, ctors-names, body-names, dtype-names, Declared, undeclared, Distinct, Agree, Pinned}
 
 -- ---- position
 pub position-le : (ds : List Decl) (n : ℕ) → position ds n ≤ length ds
@@ -142,3 +144,27 @@ agree-prefix ds es f = record {
     back n s h (no q) =
         let e : position ds n ≡ length ds = omega (arith, position-le ds n) in
         absurd (omega (arith, position-append-right ds es n e, undeclared-past es n s, length-append ds es))
+
+-- ---- names among others
+-- all of ms are among ns
+abbrev pub Among : List ℕ → List ℕ → Type 0
+Among ms ns = (n : ℕ) → List·Memᴰ n ms → List·Memᴰ n ns
+
+pub among-append : (a b c d : List ℕ) → Among a c → Among b d → Among (a ++ b) (c ++ d)
+among-append a b c d f g n m = ⊎-elim (λ x. Memᴰ·append-left d (f n x)) (λ x. Memᴰ·append-right c (g n x)) (List·Memᴰ·append-cases a m)
+
+-- the kept fields name nothing that the fields do not
+pub kept-names : (bs : List Bool) (fs : List Field) → Among (fields-names (kept bs fs)) (fields-names fs)
+unfolding kept fields-names
+kept-names [] fs n m = absurd (List·Memᴰ·not-nil m)
+kept-names (b ∷ bs) [] n m = absurd (List·Memᴰ·not-nil m)
+kept-names (true ∷ bs) (f ∷ fs) n m = among-append (names-of-cty (f .fd-type)) _ _ (fields-names fs) (λ k u. u) (kept-names bs fs) n m
+kept-names (false ∷ bs) (f ∷ fs) n m = Memᴰ·append-right (names-of-cty (f .fd-type)) (kept-names bs fs n m)
+
+-- nor do the constructors anything that their declaration does not
+pub ctors-own : (n : ℕ) (b : Body) → Among (ctors-names (ctors-of n b)) (body-names b)
+unfolding ctors-of ctors-names body-names
+ctors-own n TAbstract k m = m
+ctors-own n (TAbbrev c) k m = absurd (List·Memᴰ·not-nil m)
+ctors-own n (TRecord fs) k m = ⊎-elim (λ x. x) (λ x. absurd (List·Memᴰ·not-nil x)) (List·Memᴰ·append-cases (fields-names fs) m)
+ctors-own n (TVariant cs) k m = m

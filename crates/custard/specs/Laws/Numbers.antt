@@ -125,10 +125,11 @@ use Rattle.custard.specs.Laws.Program.{select-append, flat, before-flat,
 use Rattle.custard.specs.Output.{left-lines}
 use Rattle.custard.specs.Laws.Cty.{all-names}
 use Rattle.custard.specs.Laws.Resolve.{Stays, Normal, Fields, Ctors, BodyTypes, LeftTypes}
-use Rattle.custard.specs.Laws.Layout.{getD-table, getD-table-past, candidates-of, getD-candidates, getD-layouts, getD-layouts-past}
+use Rattle.custard.specs.Laws.Layout.{candidates-of, getD-candidates, getD-layouts, getD-layouts-past}
 use Rattle.custard.specs.Laws.Run.{lay, left-at, run-program}
 use Rattle.custard.specs.Laws.Output.{types-of-fields, types-of-ctors, types-of-body, types-of, TypeNumbers, TypesNumbers, FieldNumbers, CtorNumbers, BodyNumbers, DtypeNumbers, total, total-bound, ProgramFits, every-select, number-fits, left-fits, NamesIn, left-names}
 use Rattle.sheet.specs.ListLaws.{Every, every-map, every-over, every-append}
+use Rattle.custard.specs.Laws.Lists.{getD-table, getD-table-past}
 
 -- ---- the numbers of types
 module _ (Q : ℕ → Type 0) where

@@ -30,10 +30,11 @@ use Rattle.custard.specs.Program.{
 use Rattle.custard.specs.Rows.{line-at, heads-before, equal, repeats, row6}
 use Rattle.custard.specs.Names.{dtype-names, Distinct}
 use Rattle.custard.specs.Laws.Program.{length-program, heads-before-program, program-at, HeadAt, head-at}
-use Rattle.custard.specs.Laws.Own.{Among, layout-names, info-own}
+use Rattle.custard.specs.Laws.Own.{layout-names, info-own}
 use Rattle.custard.specs.Laws.Locality.{OwnImports}
 use Rattle.custard.specs.Answer.{at-head}
 use Rattle.custard.specs.Laws.Answer.{Clear}
+use Rattle.custard.specs.Laws.Names.{Among}
 
 -- ---- rows at declarations
 -- A row that is tested at the lines where declarations begin passes exactly if each declaration does.

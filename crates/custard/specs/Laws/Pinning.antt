@@ -29,12 +29,13 @@ use Rattle.custard.specs.Erasure.{marked, rule, rule-of, erasure-fixpoin
 use Rattle.custard.specs.Layout.{ctor-layouts, dropped, layout-of, compute-layouts}
 use Rattle.custard.specs.Run.{info, layouts-of, somes, run, returns, decl-fault}
 use Rattle.custard.specs.Names.{dtype-names, Declared, undeclared, Distinct, Agree, Pin}
-use Rattle.custard.specs.Laws.Names.{position-le, position-name, position-distinct, position-declared, position-append-left, agree-prefix, undeclared-of}
+use Rattle.custard.specs.Laws.Names.{position-le, position-name, position-distinct, position-declared, position-append-left, agree-prefix, undeclared-of, position-same}
 use Rattle.custard.specs.Laws.Erasure.{erasure-solves, erasure-pinned}
-use Rattle.custard.specs.Laws.Layout.{length-table, getD-table, Placed, candidates-of, layout-at, pinned-layouts, getD-layouts, table-cong}
-use Rattle.custard.specs.Laws.Run.{layout-of-decl, left-at, info-at, run-program, run-infos, getD-infos, length-infos, places-same, left-same, program-same, fault-same, returns-same}
+use Rattle.custard.specs.Laws.Layout.{Placed, candidates-of, layout-at, pinned-layouts, getD-layouts}
+use Rattle.custard.specs.Laws.Run.{layout-of-decl, left-at, info-at, run-program, run-infos, getD-infos, length-infos, left-same, program-same, fault-same, returns-same}
 use Rattle.custard.specs.Laws.Program.{pins}
 use Rattle.custard.specs.Laws.Locality.{OwnImports, info-local, left-local, fault-local, returns-local}
+use Rattle.custard.specs.Laws.Lists.{length-table, getD-table, table-cong}
 
 -- ---- pinned programs
 pub pin-length : (ds : List Decl) (tis : List TypeInfo) → length tis ≡ length ds → length (pins ds tis) ≡ length ds
@@ -290,7 +291,7 @@ module _ (ds es : List Decl) (distinct : Distinct (ds ++ es)) (apart : Apart ds 
 
     marked-first : marked (ds ++ es) (erasure-fixpoint (ds ++ es) .marks) ≡ marked imported-first (erasure-fixpoint imported-first .marks)
     unfolding marked
-    marked-first = fun-ext (λ n. ap₂ (λ (s : List Bool) (i : ℕ). getD s i false) (sym imported-marks) (places-same (ds ++ es) imported-first first-length first-dtype n))
+    marked-first = fun-ext (λ n. ap₂ (λ (s : List Bool) (i : ℕ). getD s i false) (sym imported-marks) (position-same (ds ++ es) imported-first n first-length first-dtype))
 
     -- and so is every verdict
     pub imported-info : (i : ℕ) → i < length (ds ++ es) → info-at (ds ++ es) i ≡ info-at imported-first i

@@ -48,7 +48,7 @@ use Rattle.custard.specs.Decl.{
   close-fields,
 }
 use Rattle.custard.specs.Erasure.{cty-erased, marked, erasure-fixpoint}
-use Rattle.custard.specs.Layout.{slots, ctor-layout, ctor-layouts, newtype-of-ctor, newtype-of, candidate, candidates, dropped, collapse, layout-of-body, layout-of, compute-layouts}
+use Rattle.custard.specs.Layout.{slots, ctor-layout, ctor-layouts, newtype-of-ctor, newtype-of, candidate, candidates, dropped, collapse, layout-of-body, layout-of}
 use Rattle.custard.specs.Run.{info, run}
 use Rattle.custard.specs.Program.{
   name-line,
@@ -83,15 +83,11 @@ use Rattle.custard.specs.Program.{
 use Rattle.custard.specs.Output.{bit, fill-keeps, fill-verdict, all-slots, fill, fill-all, verdict-lines, left-lines}
 use Rattle.custard.specs.Rows.{line-at, count-of, heads-before}
 use Rattle.sheet.specs.ListLaws.{contrary, neither}
+use Rattle.custard.specs.Laws.Lists.{getD-map}
+use Rattle.custard.specs.Laws.Layout.{getD-candidates, getD-layouts}
 
 -- ---- tests
 -- ---- lists
--- an element of a map, whatever stands for one past the last
-pub getD-map : {A B : Type 0} (f : A → B) (l : List A) (i : ℕ) (d : B) (a : A) → i < length l → getD (map f l) i d ≡ f (getD l i a)
-getD-map f [] i d a h = absurd (omega arith)
-getD-map f (x ∷ l) zero d a h = refl
-getD-map f (x ∷ l) (suc i) d a h = getD-map f l i d a (omega arith)
-
 -- ---- parts of a list of lines
 -- no line of which the test holds
 abbrev pub None : (Line → Bool) → List Line → Type 0
@@ -1226,17 +1222,6 @@ program-verdict ls tis t w h =
     ∙ ap (λ (ds : List Decl). pins ds tis) (sym (program-by ls (trees ls) (groups is-head ls) refl refl))
 
 -- ---- the verdicts of a run are coherent
-pub length-table : {A : Type 0} (f : ℕ → A) (n : ℕ) → length (table f n) ≡ n
-unfolding table
-length-table f zero = refl
-length-table f (suc n) = ap suc (length-table (λ i. f (suc i)) n)
-
-pub getD-table : {A : Type 0} (f : ℕ → A) (n i : ℕ) (d : A) → i < n → getD (table f n) i d ≡ f i
-unfolding table
-getD-table f zero i d h = absurd (omega arith)
-getD-table f (suc n) zero d h = refl
-getD-table f (suc n) (suc i) d h = getD-table (λ j. f (suc j)) n i d (omega arith)
-
 -- a candidate's layout is a newtype
 number-of : Option Layout → ℕ
 number-of none = 1
@@ -1305,29 +1290,12 @@ unfolding table
 told-table [] f h = tt
 told-table (d ∷ ds) f h = (h 0 (omega arith), told-table ds (λ i. f (suc i)) (λ i k. h (suc i) (omega arith)))
 
-pub candidate-at : (ds : List Decl) (er : ℕ → Bool) (s : List Bool) (i : ℕ) → i < length ds
-    → getD (candidates ds er s) i none ≡ candidate (dtype-at ds i) (origin-at ds i) (getD s i false) (ctor-layouts er (dtype-at ds i))
-unfolding candidates
-candidate-at ds er s i h = getD-table _ (length ds) i none h
-
--- the layout of declaration i
-pub layout-at : (ds : List Decl) (s : List Bool) (i : ℕ) → i < length ds
-    → getD (compute-layouts ds s) i L-opaque
-    ≡ layout-of (dtype-at ds i) (origin-at ds i) (getD s i false) (dropped ds (candidates ds (marked ds s) s) i)
-    (candidate (dtype-at ds i) (origin-at ds i) (getD s i false) (ctor-layouts (marked ds s) (dtype-at ds i)))
-    (ctor-layouts (marked ds s) (dtype-at ds i))
-unfolding compute-layouts
-layout-at ds s i h = getD-table _ (length ds) i L-opaque h ∙ rw (candidate-at ds (marked ds s) s i h)
-
 -- Every verdict of a run is an import's own or a coherent one.
 pub run-told : (ds : List Decl) → AllTold ds (run ds .infos)
 unfolding run
 run-told ds =
     let s : List Bool = erasure-fixpoint ds .marks in
-    told-table ds _ (λ i h. rw (layout-at ds s i h) (info-tells (marked ds s) (dtype-at ds i) (origin-at ds i) (getD s i false) (dropped ds (candidates ds (marked ds s) s) i) _))
-
-pub length-infos : (ds : List Decl) → length (run ds .infos) ≡ length ds
-length-infos ds = told-length ds (run ds .infos) (run-told ds)
+    told-table ds _ (λ i h. rw (getD-layouts ds s i L-opaque h, getD-candidates ds (marked ds s) s i none h) (info-tells (marked ds s) (dtype-at ds i) (origin-at ds i) (getD s i false) (dropped ds (candidates ds (marked ds s) s) i) _))
 
 -- The program of the verdict sheet that a run gives.
 pub program-verdict-run : (ls : List Line) → AllWhole (groups is-head ls) → AllEnded ls

@@ -10,15 +10,16 @@ use lib.Dec.{eqb}
 use borrow.Author.Tests.{eqb-true, eqb-false}
 use lib.ListN.{length, getD, set, replicate, length-set, length-replicate}
 use lib.Seq.{getD-set-same, getD-set-other}
-use Rattle.custard.specs.Laws.Rounds.{At, Le, At-lt, cases-eq, bit, trues, trues-le, trues-mono}
+use Rattle.custard.specs.Laws.Rounds.{At, Le, At-lt, cases-eq, trues-le, trues-mono}
 use Rattle.custard.specs.Reach.{Reach, one, more, go, cyclic}
 use Rattle.sheet.specs.ListLaws.{false-true}
+use Rattle.custard.specs.Laws.Lists.{trues}
 
 -- ---- tests
 -- ---- marks
 -- a place that is not marked
 pub trues-out : (s : List Bool) (i : ℕ) → i < length s → (At s i → ⊥) → trues s < length s
-unfolding trues bit
+unfolding trues
 trues-out [] i h n = absurd (omega arith)
 trues-out (true ∷ s) zero h n = absurd (n tt)
 trues-out (false ∷ s) zero h n = omega (arith, trues-le s)
@@ -27,7 +28,7 @@ trues-out (false ∷ s) (suc i) h n = omega (arith, trues-out s i (omega arith) 
 
 -- more is marked where a mark is new
 pub trues-more : (s t : List Bool) → length s ≡ length t → Le s t → (i : ℕ) → At t i → (At s i → ⊥) → trues s < trues t
-unfolding trues bit
+unfolding trues
 trues-more [] [] e h i a n = absurd a
 trues-more [] (y ∷ t) e h i a n = absurd (omega arith)
 trues-more (x ∷ s) [] e h i a n = absurd a
@@ -46,7 +47,7 @@ none-at (suc n) (suc i) a = none-at n i a
 
 -- one mark more
 pub trues-set : (s : List Bool) (m : ℕ) → m < length s → getD s m false ≡ false → trues (set s m true) ≡ suc (trues s)
-unfolding trues bit
+unfolding trues
 trues-set [] m h e = absurd (omega arith)
 trues-set (true ∷ s) zero h e = false-true (sym e)
 trues-set (false ∷ s) zero h e = omega arith

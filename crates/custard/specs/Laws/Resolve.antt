@@ -132,12 +132,9 @@ use Rattle.custard.specs.Run.{
   decl-fault,
 }
 use Rattle.sheet.specs.ListLaws.{Every, every-map}
+use Rattle.custard.specs.Laws.Lists.{true-of}
 
 -- ---- results
-true-of : (b : Bool) → T b → b ≡ true
-true-of true t = refl
-true-of false t = absurd t
-
 -- Q of an answer, F of a fault's code, and S where the fuel has run out
 abbrev pub On : {A : Type 0} → (A → Type 0) → (ℕ → Type 0) → Type 0 → Result A → Type 0
 On Q F S (ok a) = Q a

@@ -123,8 +123,6 @@ use Rattle.custard.specs.Laws.Program.{
   head-cases,
   heads,
   length-groups,
-  length-table,
-  getD-table,
   five,
   plain,
   Kind,
@@ -185,6 +183,7 @@ use Rattle.custard.specs.Laws.Program.{
   AllWhole,
 }
 use Rattle.sheet.specs.ListLaws.{false-true, contrary, both, neither, length-nil}
+use Rattle.custard.specs.Laws.Lists.{trues, length-table, getD-table}
 
 none-some : {A B : Type 0} (a : A) → _≡_ {A = Option A} none (some a) → B
 none-some a e = let z : _≡_ {A = ℕ} 0 1 = cc in absurd (omega arith)
@@ -1065,12 +1064,6 @@ goods-filling h k m n p q (pass {l = l} e f) a b g =
 goods-filling h k m n p q (past {l = l} f) a b g =
     rw (a .0) (good-widen h k m n l p q (b .0) (rw (a .0) at (g .0)), goods-filling h k (more m l) (more n l) p q f (a .1) (b .1) (rw (a .0) at (g .1)))
 
--- how many there are of true
-unfoldable pub trues : List Bool → ℕ
-trues [] = 0
-trues (true ∷ bs) = suc (trues bs)
-trues (false ∷ bs) = trues bs
-
 -- the kept fields, counted
 kept-filling : (n : ℕ) {bs : List Bool} {ls r : List Line} → Filling bs ls r → None is-head ls → length bs ≡ count-of field-line ls → kept-after n r ≡ n + trues bs
 unfolding kept-after trues
@@ -1078,7 +1071,8 @@ kept-filling n {bs = []} done a c = omega arith
 kept-filling n {bs = b ∷ bs} done a c = absurd (omega (arith, ap length (select-none field-line [] tt)))
 kept-filling n (keep {b = true} {bs = bs} {l = l} {ls = ls} e f) a c =
     omega (arith, kept-filling (suc n) f (a .1) (omega (arith, ap length (select-yes field-line l ls e))))
-kept-filling n (keep {b = false} {bs = bs} {l = l} {ls = ls} e f) a c = kept-filling n f (a .1) (omega (arith, ap length (select-yes field-line l ls e)))
+kept-filling n (keep {b = false} {bs = bs} {l = l} {ls = ls} e f) a c =
+    omega (arith, kept-filling n f (a .1) (omega (arith, ap length (select-yes field-line l ls e))))
 kept-filling n (pass {l = l} {ls = ls} e f) a c = rw (a .0, e) (kept-filling n f (a .1) (c ∙ ap length (select-no field-line l ls e)))
 kept-filling n (past {l = l} {ls = ls} {r = r} f) a c = go (is field-line l) refl (λ k. kept-filling n f (a .1) k)
   where
@@ -1123,8 +1117,8 @@ unfolding kept trues
 length-kept [] [] e = refl
 length-kept [] (f ∷ fs) e = refl
 length-kept (b ∷ bs) [] e = absurd (omega arith)
-length-kept (true ∷ bs) (f ∷ fs) e = ap suc (length-kept bs fs (omega arith))
-length-kept (false ∷ bs) (f ∷ fs) e = length-kept bs fs (omega arith)
+length-kept (true ∷ bs) (f ∷ fs) e = omega (arith, length-kept bs fs (omega arith))
+length-kept (false ∷ bs) (f ∷ fs) e = omega (arith, length-kept bs fs (omega arith))
 
 one-field : (n : ℕ) (bs : List Bool) (fs : List Field) (l : Layout) → newtype-of-ctor n bs fs ≡ some l → length fs ≡ 1
 unfolding newtype-of-ctor
