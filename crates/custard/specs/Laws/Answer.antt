@@ -34,6 +34,7 @@ use Rattle.custard.specs.Answer.{
   answer,
 }
 use Rattle.custard.specs.Cut.{Sheets, sheets-of, build}
+use Rattle.sheet.specs.ListLaws.{Every}
 
 -- the test of a row holds nowhere below its bound
 abbrev pub Clear : ℕ → (ℕ → Bool) → Type 0
@@ -55,8 +56,7 @@ pub record Passes (f : Format) (b : List ℕ) (v l : ℕ) : Type 0 where
 
 -- ---- a list of rows
 abbrev pub AllClear : List Row → Type 0
-AllClear [] = Unit {0}
-AllClear (r ∷ rs) = Clear (r .bound) (r .test) × AllClear rs
+AllClear = Every (λ r. Clear (r .bound) (r .test))
 
 clear-first : (r : Row) → Clear (r .bound) (r .test) → ltb (first (r .test) (r .bound)) (r .bound) ≡ false
 clear-first r h = le-ltb (first (r .test) (r .bound)) (r .bound) (omega (arith, first-none (r .test) (r .bound) h))
@@ -89,8 +89,7 @@ pub record Coded (r : Row) : Type 0 where
   pub coded : (i : ℕ) → r .test i ≡ true → r .code i ≡ 0 → ⊥
 
 abbrev pub AllCoded : List Row → Type 0
-AllCoded [] = Unit {0}
-AllCoded (r ∷ rs) = Coded r × AllCoded rs
+AllCoded = Every Coded
 
 abbrev pub CodeOf : Refusal → Type 0
 CodeOf Accepted = Unit {0}

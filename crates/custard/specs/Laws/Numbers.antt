@@ -124,7 +124,7 @@ use Rattle.custard.specs.Rows.{count-of}
 use Rattle.custard.specs.Laws.Program.{select-append, flat, before-flat, heads, length-groups}
 use Rattle.custard.specs.Output.{left-lines}
 use Rattle.custard.specs.Laws.Cty.{all-names}
-use Rattle.custard.specs.Laws.Resolve.{Stays, Normal, Fields, Ctors, BodyTypes, LeftTypes}
+use Rattle.custard.specs.Laws.Resolve.{Stays, Normal, Fields, Ctors, BodyTypes, LeftTypes, Left}
 use Rattle.custard.specs.Laws.Layout.{candidates-of, getD-candidates, getD-layouts, getD-layouts-past}
 use Rattle.custard.specs.Laws.Run.{lay, left-at, run-program}
 use Rattle.custard.specs.Laws.Output.{types-of-fields, types-of-ctors, types-of-body, types-of, TypeNumbers, TypesNumbers, FieldNumbers, CtorNumbers, BodyNumbers, DtypeNumbers, total, total-bound, ProgramFits, every-select, number-fits, left-fits, NamesIn, left-names}
@@ -258,10 +258,6 @@ module _ (Q : ℕ → Type 0) where
       (λ n us p q. applied-numbers (resolve lay k) (resolve-numbers lay u k) n us (lay n) (u n) p q) c h
 
 -- ---- the declarations that are left
-abbrev pub Left : (Dtype → Type 0) → Option Dtype → Type 0
-Left P none = Unit {0}
-Left P (some d) = P d
-
 pub somes-every : (P : Dtype → Type 0) (g : ℕ → Option Dtype) (n : ℕ) → ((i : ℕ) → i < n → Left P (g i)) → Every P (somes (table g n))
 unfolding somes table
 somes-every P g zero h = tt
@@ -680,16 +676,12 @@ module _ (P : Cty → Type 0) where
   types-every [] h = tt
   types-every (d ∷ ds) h = every-append P (types-of-body (d .dt-body)) (types-of ds) (body-types (d .dt-body) (h .0)) (types-every ds (h .1))
 
-  left-bodies : (o : Option Dtype) → LeftTypes P o → Left (λ d. BodyTypes P (d .dt-body)) o
-  left-bodies none h = tt
-  left-bodies (some d) h = h
-
   -- what holds of the types of each left declaration holds of the types that are written
   pub run-types : (ds : List Decl) → ((i : ℕ) → i < length ds → LeftTypes P (left-at ds i)) → Every P (types-of (run ds .program))
   run-types ds h =
       rw (run-program ds)
       (types-every (somes (table (left-at ds) (length ds)))
-      (somes-every (λ d. BodyTypes P (d .dt-body)) (left-at ds) (length ds) (λ i l. left-bodies (left-at ds i) (h i l))))
+      (somes-every (λ d. BodyTypes P (d .dt-body)) (left-at ds) (length ds) h))
 
 -- No name that is unfolded, and none that is erased, is named in the left sheet.
 pub left-sheet-normal : (ls : List Line) (ds : List Decl) → ((i : ℕ) → i < length ds → LeftTypes (Normal (lay ds)) (left-at ds i)) →

@@ -9,7 +9,7 @@ use Prim.Native.Nat.{ℕ, zero, suc, _+_, _≤_, _<_}
 use native.Mathlib.Omega.{arith}
 use lib.Dec.{eqb}
 use lib.ListN.{length, getD, take, drop, length-append, length-map}
-use borrow.Author.Tests.{eqb-true}
+use borrow.Author.Tests.{eqb-true, eqb-false}
 use Rattle.columns.specs.Column.{pick, _⇒_∥_}
 use Rattle.sheet.specs.Line.{Line, row, bad, letter, number}
 use Rattle.custard.specs.Cty.{Cty, TUnit}
@@ -82,7 +82,7 @@ use Rattle.custard.specs.Program.{
 }
 use Rattle.custard.specs.Output.{bit, fill-keeps, fill-verdict, all-slots, fill, fill-all, verdict-lines, left-lines}
 use Rattle.custard.specs.Rows.{line-at, count-of, heads-before}
-use Rattle.sheet.specs.ListLaws.{contrary, neither}
+use Rattle.sheet.specs.ListLaws.{contrary, neither, Every, every-append, every-left, every-right}
 use Rattle.custard.specs.Laws.Lists.{getD-map}
 use Rattle.custard.specs.Laws.Layout.{getD-candidates, getD-layouts}
 
@@ -91,8 +91,7 @@ use Rattle.custard.specs.Laws.Layout.{getD-candidates, getD-layouts}
 -- ---- parts of a list of lines
 -- no line of which the test holds
 abbrev pub None : (Line → Bool) → List Line → Type 0
-None p [] = Unit {0}
-None p (l ∷ ls) = (p l ≡ false) × None p ls
+None p = Every (λ l. p l ≡ false)
 
 -- empty, or a first line of which the test holds
 abbrev pub Starts : (Line → Bool) → List Line → Type 0
@@ -100,16 +99,13 @@ Starts p [] = Unit {0}
 Starts p (l ∷ ls) = p l ≡ true
 
 pub none-append : (p : Line → Bool) (a b : List Line) → None p a → None p b → None p (a ++ b)
-none-append p [] b h k = k
-none-append p (l ∷ a) b h k = (h .0, none-append p a b (h .1) k)
+none-append p = every-append (λ l. p l ≡ false)
 
 pub none-left : (p : Line → Bool) (a b : List Line) → None p (a ++ b) → None p a
-none-left p [] b h = tt
-none-left p (l ∷ a) b h = (h .0, none-left p a b (h .1))
+none-left p = every-left (λ l. p l ≡ false)
 
 pub none-right : (p : Line → Bool) (a b : List Line) → None p (a ++ b) → None p b
-none-right p [] b h = h
-none-right p (l ∷ a) b h = none-right p a b (h .1)
+none-right p = every-right (λ l. p l ≡ false)
 
 pub select-append : (x : ℕ) (a b : List Line) → select x (a ++ b) ≡ select x a ++ select x b
 unfolding select
@@ -207,8 +203,7 @@ pub record Grouped (p : Line → Bool) (g : Group) : Type 0 where
   pub alone : None p (g .rest)
 
 abbrev pub AllGrouped : (Line → Bool) → List Group → Type 0
-AllGrouped p [] = Unit {0}
-AllGrouped p (g ∷ gs) = Grouped p g × AllGrouped p gs
+AllGrouped p = Every (Grouped p)
 
 pub grouped : (p : Line → Bool) (ls : List Line) → AllGrouped p (groups p ls)
 unfolding groups
@@ -825,20 +820,7 @@ abbrev pub Ended : Line → Type 0
 Ended l = (is field-line l || is verdict-line l) ≡ true → (number l 3 ≡ 0) × (number l 4 ≡ 0)
 
 abbrev pub AllEnded : List Line → Type 0
-AllEnded [] = Unit {0}
-AllEnded (l ∷ ls) = Ended l × AllEnded ls
-
-pub ended-append : (a b : List Line) → AllEnded a → AllEnded b → AllEnded (a ++ b)
-ended-append [] b h k = k
-ended-append (l ∷ a) b h k = (h .0, ended-append a b (h .1) k)
-
-pub ended-left : (a b : List Line) → AllEnded (a ++ b) → AllEnded a
-ended-left [] b h = tt
-ended-left (l ∷ a) b h = (h .0, ended-left a b (h .1))
-
-pub ended-right : (a b : List Line) → AllEnded (a ++ b) → AllEnded b
-ended-right [] b h = h
-ended-right (l ∷ a) b h = ended-right a b (h .1)
+AllEnded = Every Ended
 
 ended-filling : {bs : List Bool} {ls r : List Line} → Filling bs ls r → AllEnded ls → AllEnded r
 ended-filling done h = tt
@@ -921,8 +903,8 @@ plain-fills [] tis n k h = refl
 plain-fills (g ∷ gs) [] n k h = absurd (omega arith)
 plain-fills (g ∷ gs) (ti ∷ tis) n k h =
     ap₂ (λ (x : Group) (s : List Group). x ∷ s)
-    (plain-filled g ti (k .0 .begins) (ended-left (g .rest) (flat gs) (h .1)))
-    (plain-fills gs tis (omega arith) (k .1) (ended-right (g .rest) (flat gs) (h .1)))
+    (plain-filled g ti (k .0 .begins) (every-left Ended (g .rest) (flat gs) (h .1)))
+    (plain-fills gs tis (omega arith) (k .1) (every-right Ended (g .rest) (flat gs) (h .1)))
 
 -- A verdict sheet differs from its sheet only in what `plain` leaves out.
 pub plain-verdict-lines : (ls : List Line) (tis : List TypeInfo) → length tis ≡ length (groups is-head ls) → AllEnded ls
@@ -934,7 +916,7 @@ plain-verdict-lines ls tis n h =
     ∙ map-append plain (before is-head ls) (flat (fills gs tis))
     ∙ ap (λ (r : List Line). map plain (before is-head ls) ++ r)
     (plain-flat (fills gs tis)
-    ∙ ap flat (plain-fills gs tis n (grouped is-head ls) (ended-right (before is-head ls) (flat gs) (rw e h)))
+    ∙ ap flat (plain-fills gs tis n (grouped is-head ls) (every-right Ended (before is-head ls) (flat gs) (rw e h)))
     ∙ sym (plain-flat gs))
     ∙ sym (map-append plain (before is-head ls) (flat gs))
     ∙ ap (map plain) e
@@ -942,8 +924,7 @@ plain-verdict-lines ls tis n h =
 -- ---- whole declarations
 -- Each constructor has as many F lines as its C line says.
 abbrev pub AllCounted : List Group → Type 0
-AllCounted [] = Unit {0}
-AllCounted (g ∷ gs) = (count-of field-line (g .rest) ≡ number (g .head) 1) × AllCounted gs
+AllCounted = Every (λ g. count-of field-line (g .rest) ≡ number (g .head) 1)
 
 -- The lines of a declaration that passes row 3: the body is as its counts say, and the V line is the last.
 pub record Whole (g : Group) : Type 0 where
@@ -961,12 +942,40 @@ pub record Whole (g : Group) : Type 0 where
   pub counted : number (g .head) 2 ≡ 3 → AllCounted (groups (is ctor-line) (g .rest))
 
 abbrev pub AllWhole : List Group → Type 0
-AllWhole [] = Unit {0}
-AllWhole (g ∷ gs) = Whole g × AllWhole gs
+AllWhole = Every Whole
 
 pub whole-verdict : (g : Group) → Whole g → 0 < count-of verdict-line (g .rest)
 whole-verdict g w =
     rw (w .ends, select-append, length-append, select-yes verdict-line (w .last) [] (w .is-last)) (omega arith)
+
+-- document 01's number of a body
+unfoldable pub body-number : Body → ℕ
+body-number TAbstract = 0
+body-number (TAbbrev c) = 1
+body-number (TRecord fs) = 2
+body-number (TVariant cs) = 3
+
+-- a body's number is its D or I line's
+pub body-of-number : (ts : List Cty) (k last : ℕ) (ls : List Line) → k ≤ 3 → body-number (body-of ts k last ls) ≡ k
+unfolding body-of body-number
+body-of-number ts k last ls h = go (eqb k 1) (eqb k 2) (eqb k 3) refl refl refl
+  where
+    go : (x y z : Bool) → eqb k 1 ≡ x → eqb k 2 ≡ y → eqb k 3 ≡ z → body-number (
+        x ⇒ TAbbrev (getD ts last TUnit) ∥
+        y ⇒ TRecord (map (field-of ts) (select field-line ls)) ∥
+        z ⇒ TVariant (map (ctor-of ts) (groups (is ctor-line) ls)) ∥
+        TAbstract) ≡ k
+    go true y z a b c = sym (eqb-true k 1 a)
+    go false true z a b c = sym (eqb-true k 2 b)
+    go false false true a b c = sym (eqb-true k 3 c)
+    go false false false a b c = let p = eqb-false k 1 a in let q = eqb-false k 2 b in let r = eqb-false k 3 c in omega arith
+
+pub close-number : (ps : List ℕ) (b : Body) → body-number (close-body ps b) ≡ body-number b
+unfolding body-number close-body
+close-number ps TAbstract = refl
+close-number ps (TAbbrev c) = refl
+close-number ps (TRecord fs) = refl
+close-number ps (TVariant cs) = refl
 
 -- ---- coherent verdicts
 -- a layout that a verdict of a declaration with this body and these constructors can have
@@ -1076,11 +1085,14 @@ keeps-groups-verdict ti ls =
     (map-groups (is ctor-line) (λ (g : Group). keeps (map (tell ti) (g .rest))) (λ (g : Group). keeps (g .rest))
     (λ g k. ap keeps (sym (fill-verdict-map ti (g .rest))) ∙ keeps-fill-verdict ti (g .rest)) (groups (is ctor-line) ls) (grouped (is ctor-line) ls))
 
+pub length-slot : (er : ℕ → Bool) (fs : List Field) → length (slots er fs) ≡ length fs
+unfolding slots
+length-slot er fs = length-map fs (λ f. not (cty-erased er (f .fd-type)))
+
 pub length-slots : (er : ℕ → Bool) (ps : List ℕ) (ts : List Cty) (ls : List Line)
     → length (slots er (map (close-field ps) (map (field-of ts) (select field-line ls)))) ≡ count-of field-line ls
-unfolding slots
 length-slots er ps ts ls =
-    length-map (map (close-field ps) (map (field-of ts) (select field-line ls))) (λ f. not (cty-erased er (f .fd-type)))
+    length-slot er (map (close-field ps) (map (field-of ts) (select field-line ls)))
     ∙ length-map (map (field-of ts) (select field-line ls)) (close-field ps)
     ∙ length-map (select field-line ls) (field-of ts)
 
@@ -1193,8 +1205,8 @@ decls-filled ts [] (ti ∷ tis) k h w t = absurd t
 decls-filled ts (g ∷ gs) [] k h w t = absurd t
 decls-filled ts (g ∷ gs) (ti ∷ tis) k h w t =
     ap₂ (λ (d : Decl) (ds : List Decl). d ∷ ds)
-    (decl-filled ts g ti (k .0) (ended-left (g .rest) (flat gs) (h .1)) (w .0) (t .0))
-    (decls-filled ts gs tis (k .1) (ended-right (g .rest) (flat gs) (h .1)) (w .1) (t .1))
+    (decl-filled ts g ti (k .0) (every-left Ended (g .rest) (flat gs) (h .1)) (w .0) (t .0))
+    (decls-filled ts gs tis (k .1) (every-right Ended (g .rest) (flat gs) (h .1)) (w .1) (t .1))
 
 pub told-length : (ds : List Decl) (tis : List TypeInfo) → AllTold ds tis → length tis ≡ length ds
 told-length [] [] t = refl
@@ -1210,7 +1222,7 @@ pub trees-verdict-lines : (ls : List Line) (tis : List TypeInfo) → length tis 
 trees-verdict-lines ls tis n h = sym (trees-plain (verdict-lines ls tis)) ∙ ap trees (plain-verdict-lines ls tis n h) ∙ trees-plain ls
 
 pub ended-groups : (ls : List Line) → AllEnded ls → AllEnded (flat (groups is-head ls))
-ended-groups ls h = ended-right (before is-head ls) (flat (groups is-head ls)) (rw (before-flat is-head ls) h)
+ended-groups ls h = every-right Ended (before is-head ls) (flat (groups is-head ls)) (rw (before-flat is-head ls) h)
 
 -- The program of a verdict sheet is the sheet's program, every declaration an import with its verdict.
 pub program-verdict : (ls : List Line) (tis : List TypeInfo) → AllTold (program ls) tis → AllWhole (groups is-head ls) → AllEnded ls

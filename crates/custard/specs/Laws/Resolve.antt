@@ -693,12 +693,10 @@ module _ (lay : ℕ → Unfold) where
 -- ---- what `rw-decl` resolves
 -- Q of each type that the constructors' kept fields have
 abbrev pub Fields : (Cty → Type 0) → List Field → Type 0
-Fields Q [] = Unit {0}
-Fields Q (f ∷ fs) = Q (f .fd-type) × Fields Q fs
+Fields Q = Every (λ f. Q (f .fd-type))
 
 abbrev pub Kept : (Cty → Type 0) → List CtorLayout → Type 0
-Kept Q [] = Unit {0}
-Kept Q (cl ∷ cls) = Fields Q (cl .cl-fields) × Kept Q cls
+Kept Q = Every (λ cl. Fields Q (cl .cl-fields))
 
 module _ (Q : Cty → Type 0) where
   -- the list is the kept fields' types, in order
@@ -881,8 +879,7 @@ rw-decl-local lay lay′ P closed agree k d l h =
 
 -- Q of each type in a declaration
 abbrev pub Ctors : (Cty → Type 0) → List Ctor → Type 0
-Ctors Q [] = Unit {0}
-Ctors Q (c ∷ cs) = Fields Q (c .ct-fields) × Ctors Q cs
+Ctors Q = Every (λ c. Fields Q (c .ct-fields))
 
 abbrev pub BodyTypes : (Cty → Type 0) → Body → Type 0
 BodyTypes Q TAbstract = Unit {0}
@@ -890,9 +887,12 @@ BodyTypes Q (TAbbrev c) = Q c
 BodyTypes Q (TRecord fs) = Fields Q fs
 BodyTypes Q (TVariant cs) = Ctors Q cs
 
+abbrev pub Left : (Dtype → Type 0) → Option Dtype → Type 0
+Left P none = Unit {0}
+Left P (some d) = P d
+
 abbrev pub LeftTypes : (Cty → Type 0) → Option Dtype → Type 0
-LeftTypes Q none = Unit {0}
-LeftTypes Q (some d) = BodyTypes Q (d .dt-body)
+LeftTypes Q = Left (λ d. BodyTypes Q (d .dt-body))
 
 -- A layout that goes with a body: `rw-decl` then resolves all that it leaves.
 abbrev pub StructMatches : Body → List CtorLayout → Type 0

@@ -10,7 +10,7 @@ use native.Mathlib.Omega.{arith}
 use lib.Dec.{eqb, leb, ltb}
 use lib.ListN.{length, getD, take, drop, length-append, length-map, List·getD-map, List·getD-append, take-append-drop}
 use lib.Seq.{take-all, take-append-le, take-append-add, getD-append-add, take-length, ext-getD}
-use borrow.Author.Tests.{eqb-true, eqb-false, eq-eqb, ltb-true, ltb-false, lt-ltb, le-ltb, leb-true, leb-false, lt-leb, le-leb, not-true, not-false}
+use borrow.Author.Tests.{eqb-true, eq-eqb, ltb-true, ltb-false, lt-ltb, le-ltb, leb-true, leb-false, lt-leb, le-leb, not-true, not-false}
 use Rattle.columns.specs.Column.{pick, _⇒_∥_}
 use Rattle.sheet.specs.Format.{Format, lineBytes, textBytes}
 use Rattle.sheet.specs.FirstLaws.{first-le, first-congr, none-first}
@@ -45,7 +45,6 @@ use Rattle.custard.specs.Decl.{
   close-body,
   close-fields,
 }
-use Rattle.custard.specs.Erasure.{cty-erased}
 use Rattle.custard.specs.Layout.{slots, kept, ctor-layout, ctor-layouts, newtype-of-ctor, newtype-of}
 use Rattle.custard.specs.declared.Due.{Due}
 use Rattle.custard.specs.declared.Due.the-variants.{Header, Within, Broken}
@@ -181,16 +180,16 @@ use Rattle.custard.specs.Laws.Program.{
   AllCounted,
   Whole,
   AllWhole,
+  body-number,
+  body-of-number,
+  close-number,
+  length-slot,
 }
-use Rattle.sheet.specs.ListLaws.{false-true, contrary, both, neither, length-nil}
+use Rattle.sheet.specs.ListLaws.{false-true, contrary, both, neither, length-nil, at-every}
 use Rattle.custard.specs.Laws.Lists.{trues, length-table, getD-table}
 
 none-some : {A B : Type 0} (a : A) → _≡_ {A = Option A} none (some a) → B
 none-some a e = let z : _≡_ {A = ℕ} 0 1 = cc in absurd (omega arith)
-
-length-slot : (er : ℕ → Bool) (fs : List Field) → length (slots er fs) ≡ length fs
-unfolding slots
-length-slot er fs = length-map fs (λ f. not (cty-erased er (f .fd-type)))
 
 take-map : {A B : Type 0} (f : A → B) (n : ℕ) (l : List A) → take n (map f l) ≡ map f (take n l)
 take-map f zero l = refl
@@ -957,14 +956,10 @@ ended-line names types xs n y l e q = zeros-ended l (go (is field-line l) refl q
     go true k t = both (ltb (number l 0) names && ltb (number l 1) types) (zeros-from 3 l) (rw (eqb-true (letter l) 70 k) at e) .1
     go false k t = rw (eqb-true (letter l) 86 t) at e
 
-ended-all : (ls : List Line) → ((i : ℕ) → i < length ls → Ended (line-at ls i)) → AllEnded ls
-ended-all [] h = tt
-ended-all (l ∷ ls) h = (h 0 (omega arith), ended-all ls (λ i k. h (suc i) (omega arith)))
-
 pub ended-row5 : (ls : List Line) → ((i : ℕ) → i < length ls → row5 ls i ≡ false) → AllEnded ls
 unfolding row5
 ended-row5 ls h =
-    ended-all ls (λ i k. ended-line (count-of name-line ls) (count-of type-line ls) (map (λ a. number a 0) (select arg-line ls)) (count-before name-line ls i) (count-before type-line ls i) (line-at ls i)
+    at-every Ended bad ls (λ i k. ended-line (count-of name-line ls) (count-of type-line ls) (map (λ a. number a 0) (select arg-line ls)) (count-before name-line ls i) (count-before type-line ls i) (line-at ls i)
     (sym (good-numbers-line ls i) ∙ not-false (good-numbers ls i) (h i k)))
 
 -- ---- row 7, line by line
@@ -1139,24 +1134,6 @@ newtype-one er (c ∷ []) l e = (
 )
 newtype-one er (c ∷ d ∷ cs) l e = none-some l e
 
-abbrev tag : Body → ℕ
-tag TAbstract = 0
-tag (TAbbrev c) = 1
-tag (TRecord fs) = 2
-tag (TVariant cs) = 3
-
--- the kind of a declaration's body is its D or I line's
-body-tag : (ps : List ℕ) (ts : List Cty) (k last : ℕ) (ls : List Line) → k ≤ 3 → tag (close-body ps (body-of ts k last ls)) ≡ k
-unfolding close-body body-of
-body-tag ps ts k last ls h = go (eqb k 1) (eqb k 2) (eqb k 3) refl refl refl
-  where
-    go : (a b c : Bool) → eqb k 1 ≡ a → eqb k 2 ≡ b → eqb k 3 ≡ c
-        → tag (close-body ps (a ⇒ TAbbrev (getD ts last TUnit) ∥ b ⇒ TRecord (map (field-of ts) (select field-line ls)) ∥ c ⇒ TVariant (map (ctor-of ts) (groups (is ctor-line) ls)) ∥ TAbstract)) ≡ k
-    go true b c x y z = sym (eqb-true k 1 x)
-    go false true c x y z = sym (eqb-true k 2 y)
-    go false false true x y z = sym (eqb-true k 3 z)
-    go false false false x y z = let p = eqb-false k 1 x in let q = eqb-false k 2 y in let r = eqb-false k 3 z in omega arith
-
 length-concat : (bss : List (List Bool)) (gs : List Group) → AllGrouped (is ctor-line) gs → Counts bss gs → length (concat bss) ≡ count-of field-line (flat gs)
 unfolding concat flat
 length-concat [] [] k c = sym (ap length (select-none field-line [] tt))
@@ -1221,18 +1198,18 @@ bit-le true = refl
 bit-le false = refl
 
 -- the V line of a coherent verdict passes row 7
-good-told : (h : Line) (n : ℕ) (b : Body) (cls : List CtorLayout) (ti : TypeInfo) → tag b ≡ number h 2 → ti .ti-erased ≡ eqb (layout-number (ti .ti-layout)) 0
+good-told : (h : Line) (n : ℕ) (b : Body) (cls : List CtorLayout) (ti : TypeInfo) → body-number b ≡ number h 2 → ti .ti-erased ≡ eqb (layout-number (ti .ti-layout)) 0
     → Suits b cls (ti .ti-layout) → ((l : Layout) → newtype-of cls ≡ some l → (one-ctor h ≡ true) × (n ≡ 1)) → good-verdict h n (told-line ti) ≡ true
-unfolding good-verdict layout-number
+unfolding good-verdict layout-number body-number
 good-told h n b cls ti t e s k = rw (bit-le (ti .ti-record), e) (go b (ti .ti-layout) t s)
   where
-    struct : (c : Body) → tag c ≡ number h 2 → has-ctors c ≡ true → (eqb (number h 2) 2 || eqb (number h 2) 3) ≡ true
+    struct : (c : Body) → body-number c ≡ number h 2 → has-ctors c ≡ true → (eqb (number h 2) 2 || eqb (number h 2) 3) ≡ true
     struct TAbstract t c = false-true c
     struct (TAbbrev d) t c = false-true c
     struct (TRecord fs) t c = rw (← t)
     struct (TVariant cs) t c = rw (← t)
 
-    go : (c : Body) (l : Layout) → tag c ≡ number h 2 → Suits c cls l
+    go : (c : Body) (l : Layout) → body-number c ≡ number h 2 → Suits c cls l
         → (eqb (layout-number l) 0 ⇒ eqb (bit (eqb (layout-number l) 0)) 1 ∥
         eqb (bit (eqb (layout-number l) 0)) 0
         && (eqb (layout-number l) 1 ⇒ one-ctor h && eqb n 1 ∥
@@ -1243,10 +1220,10 @@ good-told h n b cls ti t e s k = rw (bit-le (ti .ti-record), e) (go b (ti .ti-la
     go c L-erased t s = refl
     go c (L-newtype nt) t s = let q = k (L-newtype nt) s in rw (q .0, q .1)
     go c (L-struct ms) t s = struct c t (s .1)
-    go c (L-abbrev d) t s = eq-eqb (number h 2) 1 (sym t ∙ ap tag s)
-    go c L-opaque t s = eq-eqb (number h 2) 0 (sym t ∙ ap tag s)
+    go c (L-abbrev d) t s = eq-eqb (number h 2) 1 (sym t ∙ ap body-number s)
+    go c L-opaque t s = eq-eqb (number h 2) 0 (sym t ∙ ap body-number s)
 
-last-head-none : (h : Line) (ls : List Line) → None is-head ls → last-head h ls ≡ h
+pub last-head-none : (h : Line) (ls : List Line) → None is-head ls → last-head h ls ≡ h
 unfolding last-head
 last-head-none h [] n = refl
 last-head-none h (l ∷ ls) n = rw (n .0) (last-head-none h ls (n .1))
@@ -1289,7 +1266,7 @@ unfolding good-at close-fields dtype-of
 good-told-line ts g ti w c a =
     let d : Dtype = close-fields (dtype-of ts g) in
     good-told (row import-line (five (g .head))) (kept-after 0 (fill-keeps (all-slots (ti .ti-ctors)) (w .body))) (d .dt-body) (ti .ti-ctors) ti
-    (body-tag (d .dt-params) ts (number (g .head) 2) (number (g .head) 4) (g .rest) (w .kinds)) (c .erased) (c .suits) (newtype-lines ts g ti w c a)
+    (close-number (d .dt-params) (dtype-of ts g .dt-body) ∙ body-of-number ts (number (g .head) 2) (number (g .head) 4) (g .rest) (w .kinds)) (c .erased) (c .suits) (newtype-lines ts g ti w c a)
 
 -- a local declaration's filled lines pass row 7
 goods-local : (ts : List Cty) (g : Group) (ti : TypeInfo) → Grouped is-head g → Whole g → Coherent (close-fields (dtype-of ts g)) ti → is import-line (g .head) ≡ false
@@ -1346,7 +1323,7 @@ pub row7-verdict : (ls : List Line) (tis : List TypeInfo) → AllWhole (groups i
 row7-verdict ls tis w t h i k =
     goods-row7 (verdict-lines ls tis) (goods-verdict ls tis w t (row7-goods ls h)) i (rw (length-verdict-lines ls tis (told-groups ls tis t)) k)
 
-last-head-append : (h : Line) (a b : List Line) → last-head h (a ++ b) ≡ last-head (last-head h a) b
+pub last-head-append : (h : Line) (a b : List Line) → last-head h (a ++ b) ≡ last-head (last-head h a) b
 unfolding last-head
 last-head-append h [] b = refl
 last-head-append h (l ∷ a) b = last-head-append (next-head h l) a b
