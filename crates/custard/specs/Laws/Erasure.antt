@@ -137,18 +137,6 @@ module _ (er er' : ℕ → Bool) where
       (cty-erased-mono er er' c (alike-covers er er' (names-of-cty c) h))
       (cty-erased-mono er' er c (alike-covered er er' (names-of-cty c) h))
 
-  pub fields-erased-local : (fs : List Field) → Alike er er' (fields-names fs) → fields-erased er fs ≡ fields-erased er' fs
-  fields-erased-local fs h =
-      T-ext (fields-erased er fs) (fields-erased er' fs)
-      (fields-erased-mono er er' fs (alike-covers er er' (fields-names fs) h))
-      (fields-erased-mono er' er fs (alike-covered er er' (fields-names fs) h))
-
-  pub body-erased-local : (b : Body) → Alike er er' (body-names b) → body-erased er b ≡ body-erased er' b
-  body-erased-local b h =
-      T-ext (body-erased er b) (body-erased er' b)
-      (body-erased-mono er er' b (alike-covers er er' (body-names b) h))
-      (body-erased-mono er' er b (alike-covered er er' (body-names b) h))
-
   pub dtype-erased-local : (d : Dtype) → Alike er er' (dtype-names d) → dtype-erased er d ≡ dtype-erased er' d
   dtype-erased-local d h =
       T-ext (dtype-erased er d) (dtype-erased er' d)

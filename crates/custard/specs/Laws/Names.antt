@@ -10,9 +10,9 @@ use lib.Dec.{T, eqb, eqb→eq, eqb-refl, ltb, ltb→lt, nltb→le}
 use lib.ListN.{length, length-append, List·getD-append}
 use Rattle.columns.specs.Column.{pick}
 use Rattle.custard.specs.Cty.{names-of-cty}
-use Rattle.custard.specs.Decl.{Field, Body, TAbstract, TAbbrev, TRecord, TVariant, ctors-of, TypeInfo, Decl, no-decl, dtype-at, position}
+use Rattle.custard.specs.Decl.{Field, Body, TAbstract, TAbbrev, TRecord, TVariant, ctors-of, Decl, no-decl, dtype-at, position}
 use Rattle.custard.specs.Layout.{kept}
-use Rattle.custard.specs.Names.{fields-names, ctors-names, body-names, dtype-names, Declared, undeclared, Distinct, Agree, Pinned}
+use Rattle.custard.specs.Names.{fields-names, ctors-names, body-names, dtype-names, Declared, undeclared, Distinct, Agree}
 
 -- ---- position
 pub position-le : (ds : List Decl) (n : ℕ) → position ds n ≤ length ds
@@ -102,9 +102,6 @@ position-same [] (d' ∷ ds') n e f = absurd (omega arith)
 position-same (d ∷ ds) [] n e f = absurd (omega arith)
 position-same (d ∷ ds) (d' ∷ ds') n e f =
     rw (f 0 (omega arith), position-same ds ds' n (omega arith) (λ i h. f (suc i) (omega arith)))
-
-pub position-pinned : {P : ℕ → TypeInfo → Type 0} (ds ds' : List Decl) (n : ℕ) → Pinned P ds ds' → position ds n ≡ position ds' n
-position-pinned ds ds' n h = position-same ds ds' n (h .same-length) (h .same-dtypes)
 
 -- ---- programs that agree
 pub agree-sym : (S : ℕ → Bool) (ds ds' : List Decl) → Agree S ds ds' → Agree S ds' ds

@@ -21,7 +21,6 @@ use Rattle.custard.specs.Cty.{Cty, Ctys, TUnit, TAny, TExn, TVar, TInt, 
 use Rattle.custard.specs.Laws.Cty.{size-positive}
 use Rattle.custard.specs.Decl.{Field, Ctor, Body, TAbstract, TAbbrev, TRecord, TVariant, Dtype, Layout, L-erased, L-newtype, L-struct, L-abbrev, L-opaque, layout-number, TypeInfo}
 use Rattle.custard.specs.Output.{bit, fill-keeps, fill-verdict, all-slots, fill, fill-all, verdict-lines, Written, put, last, Members, listed, first-arg, emit, emits, Lines, field-lines, ctor-lines, decl-frame, decl-lines, program-lines, left-lines}
-use Rattle.custard.specs.Names.{fields-names, ctors-names, body-names, dtype-names}
 use Rattle.custard.specs.Laws.Program.{flat, before-flat, length-verdict-lines}
 use Rattle.sheet.specs.ListLaws.{Every, every-mem, mem-every, every-map, every-over, every-append, every-left, every-right}
 
@@ -209,9 +208,6 @@ field-adds fs w = rw (field-written fs w) (emit-all-adds (types-of-fields fs) w)
 
 pub ctor-adds : (cs : List Ctor) (w : Written) → Adds (length (types-of-ctors cs)) (total (types-of-ctors cs)) w (ctor-lines cs w .written)
 ctor-adds cs w = rw (ctor-written cs w) (emit-all-adds (types-of-ctors cs) w)
-
-pub decl-adds : (d : Dtype) (b : Body) (w : Written) → Adds (length (types-of-body b)) (total (types-of-body b)) w (decl-lines d b w .written)
-decl-adds d b w = rw (decl-written d b w) (emit-all-adds (types-of-body b) w)
 
 pub program-adds : (ds : List Dtype) (w : Written) → Adds (length (types-of ds)) (total (types-of ds)) w (program-lines ds w .written)
 program-adds ds w = rw (program-written ds w) (emit-all-adds (types-of ds) w)
@@ -690,34 +686,6 @@ pub left-names-occur : (ls : List Line) (ds : List Dtype) (l : Line) → List·M
 left-names-occur ls ds l m =
     let P : ℕ → Type 0 = λ n. (c : Cty) × List·Memᴰ c (types-of ds) × List·Memᴰ n (names-of-cty c) in
     left-names P ls ds (mem-every (NamesIn P) (types-of ds) (λ c j n k. (c, j, k))) l m
-
--- the same, by the names of each declaration
-fields-in : (P : ℕ → Type 0) (fs : List Field) → ((n : ℕ) → List·Memᴰ n (fields-names fs) → P n) → Every (NamesIn P) (types-of-fields fs)
-unfolding fields-names types-of-fields
-fields-in P [] h = tt
-fields-in P (f ∷ fs) h =
-    (λ n m. h n (Memᴰ·append-left (fields-names fs) m), fields-in P fs (λ n m. h n (Memᴰ·append-right (names-of-cty (f .fd-type)) m)))
-
-ctors-in : (P : ℕ → Type 0) (cs : List Ctor) → ((n : ℕ) → List·Memᴰ n (ctors-names cs) → P n) → Every (NamesIn P) (types-of-ctors cs)
-unfolding ctors-names types-of-ctors
-ctors-in P [] h = tt
-ctors-in P (c ∷ cs) h =
-    every-append (NamesIn P) (types-of-fields (c .ct-fields)) (types-of-ctors cs)
-    (fields-in P (c .ct-fields) (λ n m. h n (Memᴰ·append-left (ctors-names cs) m)))
-    (ctors-in P cs (λ n m. h n (Memᴰ·append-right (fields-names (c .ct-fields)) m)))
-
-body-in : (P : ℕ → Type 0) (b : Body) → ((n : ℕ) → List·Memᴰ n (body-names b) → P n) → Every (NamesIn P) (types-of-body b)
-unfolding body-names types-of-body
-body-in P TAbstract h = tt
-body-in P (TAbbrev c) h = (h, tt)
-body-in P (TRecord fs) h = fields-in P fs h
-body-in P (TVariant cs) h = ctors-in P cs h
-
-pub names-in-types : (P : ℕ → Type 0) (ds : List Dtype) → Every (λ d. (n : ℕ) → List·Memᴰ n (dtype-names d) → P n) ds → Every (NamesIn P) (types-of ds)
-unfolding types-of dtype-names
-names-in-types P [] h = tt
-names-in-types P (d ∷ ds) h =
-    every-append (NamesIn P) (types-of-body (d .dt-body)) (types-of ds) (body-in P (d .dt-body) (h .0)) (names-in-types P ds (h .1))
 
 -- ---- the verdict sheet
 -- any column holds a digit

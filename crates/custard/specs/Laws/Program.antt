@@ -279,9 +279,6 @@ heads-other : (l : Line) (ls : List Line) → is-head l ≡ false → heads (l �
 unfolding select
 heads-other l ls e = let k = head-not l e in rw (k .0, k .1)
 
-pub heads-append : (a b : List Line) → heads (a ++ b) ≡ heads a + heads b
-heads-append a b = rw (select-append, select-append, length-append, length-append) (omega arith)
-
 heads-nil : heads [] ≡ 0
 unfolding select
 heads-nil = refl

@@ -79,11 +79,6 @@ module _ (next : ℕ → List ℕ) where
   reach-stays S f (one {a} {b} m) s = f a b s m
   reach-stays S f (more {a} {b} m r) s = reach-stays S f r (f a b s m)
 
-  -- what is reached is below n where each step ends below n
-  pub reach-below : (n : ℕ) → ((a b : ℕ) → List·Memᴰ b (next a) → b < n) → {a b : ℕ} → Reach next a b → b < n
-  reach-below n w (one {a} {b} m) = w a b m
-  reach-below n w (more m r) = reach-below n w r
-
 -- A walk in one graph is matched in another, where R relates nodes whose steps match.
 pub reach-map : (next next′ : ℕ → List ℕ) (R : ℕ → ℕ → Type 0)
     → ((a a′ b : ℕ) → R a a′ → List·Memᴰ b (next a) → (b′ : ℕ) × List·Memᴰ b′ (next′ a′) × R b b′)
@@ -99,11 +94,6 @@ pub reach-loop : (next next′ : ℕ → List ℕ) (R : ℕ → ℕ → Type 0)
     → ((a a′ b : ℕ) → R a a′ → List·Memᴰ b (next a) → (b′ : ℕ) × List·Memᴰ b′ (next′ a′) × R b b′)
     → (a a′ : ℕ) → R a a′ → ((b′ : ℕ) → R a b′ → b′ ≡ a′) → Reach next a a → Reach next′ a′ a′
 reach-loop next next′ R f a a′ r only w = let t = reach-map next next′ R f w a′ r in rw (only (t .0) (t .2)) at (t .1)
-
--- the same steps, the same walks
-pub reach-cong : (next next′ : ℕ → List ℕ) → ((a : ℕ) → next a ≡ next′ a) → {a b : ℕ} → Reach next a b → Reach next′ a b
-reach-cong next next′ e (one {a} m) = one (rw (e a) at m)
-reach-cong next next′ e (more {a} m r) = more (rw (e a) at m) (reach-cong next next′ e r)
 
 -- ---- the search
 module _ (next : ℕ → List ℕ) where

@@ -2,7 +2,7 @@
 -- depends on the names that are met alone; the checked resolution, where it answers, answers with
 -- what `resolve` gives, and nothing is left to unfold in it; fuel past the rank of the names met
 -- changes nothing; and what follows for `rw-decl` and `decl-fault`. Assumes nothing.
-use mathlib.Core.Logic.{_⊎_, inl, inr, ⊎-elim, _≢_}
+use mathlib.Core.Logic.{_⊎_, inl, inr, ⊎-elim}
 use mathlib.Core.Path.{_≡_, refl, ap, ap₂, sym, _∙_, subst}
 use mathlib.Core.List.{List, [], _∷_, map}
 use mathlib.Core.Bool.{Bool, true, false, _&&_, _||_, not}
@@ -164,9 +164,6 @@ pub unspent-on : {A : Type 0} (Q : A → Type 0) (F : ℕ → Type 0) (S : Type 
 unspent-on Q F S (ok a) u h = h
 unspent-on Q F S (fault e) u h = h
 unspent-on Q F S spent u h = u
-
-pub unspent-not : {A : Type 0} (r : Result A) → Unspent r → r ≢ spent
-unspent-not r u e = subst Unspent e u
 
 pub bind-on : {A B : Type 0} (Q : A → Type 0) (R : B → Type 0) (F : ℕ → Type 0) (S : Type 0) (r : Result A) (f : A → Result B) → On Q F S r → ((a : A) → Q a → On R F S (f a)) → On R F S (bind r f)
 unfolding bind
@@ -799,17 +796,6 @@ module _ (limit : ℕ) (lay : ℕ → Unfold) (k : ℕ) where
   resolved-fault cs h =
       fault-code-ok (resolve-checked limit lay k) cs (every-map (Resolved limit lay k) (λ c. Answered (resolve-checked limit lay k c)) resolved-answered cs h)
 
--- fuel past the ranks of the names that are met does not run out
-pub types-unspent : (limit : ℕ) (lay : ℕ → Unfold) (rank : ℕ → ℕ) → Ranked lay rank → (k : ℕ) (cs : List Cty) → Every (All (Under lay rank k)) cs → Every (λ c. Unspent (resolve-checked limit lay (suc k) c)) cs
-types-unspent limit lay rank ranked k cs h =
-    every-map (All (Under lay rank k)) (λ c. Unspent (resolve-checked limit lay (suc k) c)) (λ c u. checked-unspent lay rank ranked limit k c u) cs h
-
--- and more of it gives the same code
-pub fault-code-more : (limit : ℕ) (lay : ℕ → Unfold) (rank : ℕ → ℕ) → Ranked lay rank → (k m : ℕ) → k ≤ m → (cs : List Cty) → Every (All (Under lay rank k)) cs → fault-code (resolve-checked limit lay (suc k)) cs ≡ fault-code (resolve-checked limit lay (suc m)) cs
-fault-code-more limit lay rank ranked k m q cs h =
-    fault-code-cong (resolve-checked limit lay (suc k)) (resolve-checked limit lay (suc m)) cs
-    (every-map (All (Under lay rank k)) (λ c. resolve-checked limit lay (suc k) c ≡ resolve-checked limit lay (suc m) c) (λ c u. checked-more lay rank ranked limit k m q c u) cs h)
-
 -- ---- one declaration
 -- rows 9 and 10 depend on the names that are met alone
 pub decl-fault-local : (limit : ℕ) (ds ds′ : List Decl) (ls ls′ : List Layout) (i j : ℕ) (P : ℕ → Type 0)
@@ -958,27 +944,6 @@ module _ (Q : Cty → Type 0) (res : Cty → Cty) where
   left-types d (L-struct cls) m h = struct-left (d .dt-body) cls m (field-types-kept Then cls h)
   left-types d (L-abbrev c) m h = h .0
   left-types d L-opaque m h = opaque-left (d .dt-body) m
-
--- the names of the left declaration all stay, and its types are small
-pub left-normal : (limit : ℕ) (lay : ℕ → Unfold) (k : ℕ) (d : Dtype) (l : Layout) → Matches (d .dt-body) l → Every (Resolved limit lay k) (resolves l)
-    → LeftTypes (λ t. Normal lay t × (size t ≤ limit)) (rw-decl (resolve lay k) d l)
-left-normal limit lay k d l m h =
-    left-types (λ t. Normal lay t × (size t ≤ limit)) (resolve lay k) d l m
-    (every-map (Resolved limit lay k) (λ c. Normal lay (resolve lay k c) × (size (resolve lay k c) ≤ limit)) (λ c r. (r .normal, r .small)) (resolves l) h)
-
--- the same from the ranks, whether or not there is a fault
-pub left-done : (lay : ℕ → Unfold) (rank : ℕ → ℕ) → Ranked lay rank → (k : ℕ) (d : Dtype) (l : Layout) → Matches (d .dt-body) l → Every (All (Under lay rank k)) (resolves l)
-    → LeftTypes (Normal lay) (rw-decl (resolve lay (suc k)) d l)
-left-done lay rank ranked k d l m h =
-    left-types (Normal lay) (resolve lay (suc k)) d l m
-    (every-map (All (Under lay rank k)) (λ c. Normal lay (resolve lay (suc k) c)) (λ c u. resolve-done lay rank ranked k c u) (resolves l) h)
-
--- the names of the left declaration are among those that are met
-pub left-all : (lay : ℕ → Unfold) (P : ℕ → Type 0) → Closed lay P → (k : ℕ) (d : Dtype) (l : Layout) → Matches (d .dt-body) l → Every (All P) (resolves l)
-    → LeftTypes (All P) (rw-decl (resolve lay k) d l)
-left-all lay P closed k d l m h =
-    left-types (All P) (resolve lay k) d l m
-    (every-map (All P) (λ c. All P (resolve lay k c)) (λ c a. resolve-all lay P closed k c a) (resolves l) h)
 
 -- ---- the layout of a local declaration goes with its body
 abbrev pub Newtype : Option Layout → Type 0

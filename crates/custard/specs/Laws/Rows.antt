@@ -9,14 +9,14 @@ use Prim.Native.Nat.{ℕ, zero, suc, _+_, _*_, _-_, _≤_, _<_}
 use native.Mathlib.Omega.{arith}
 use lib.Dec.{eqb, leb, ltb}
 use lib.ListN.{length, getD, take, drop, length-append, length-map, List·getD-map, List·getD-append, take-append-drop}
-use lib.Seq.{take-all, take-append-le, take-append-add, getD-append-add, take-length, ext-getD}
+use lib.Seq.{take-all, take-append-le, take-append-add, getD-append-add, take-length}
 use borrow.Author.Tests.{eqb-true, eq-eqb, ltb-true, ltb-false, lt-ltb, le-ltb, leb-true, leb-false, lt-leb, le-leb, not-true, not-false}
 use Rattle.columns.specs.Column.{pick, _⇒_∥_}
-use Rattle.sheet.specs.Format.{Format, lineBytes, textBytes}
+use Rattle.sheet.specs.Format.{Format, textBytes}
 use Rattle.sheet.specs.FirstLaws.{first-le, first-congr, none-first}
 use Rattle.sheet.specs.Line.{Line, named, row, bad, spelling, proper, lettered, cell, isValue, value, decodeNamed, decodeRow, decode, letter, number, text, isBad}
 use Rattle.sheet.specs.Sheet.{first, lineAt, count, line, lines}
-use Rattle.sheet.specs.SheetLaws.{lineAt-left, lineAt-right, lines-append, length-lines, within-count, getD-lines}
+use Rattle.sheet.specs.SheetLaws.{length-lines, getD-lines}
 use Rattle.custard.specs.Cty.{Cty, TUnit}
 use Rattle.custard.specs.Decl.{
   Field,
@@ -936,17 +936,6 @@ module _ (ls qs : List Line) (tis : List TypeInfo) (n : length tis ≡ length (g
   pub row6-verdict : (i : ℕ) → row6 (verdict-lines ls tis ++ qs) i ≡ row6 (ls ++ qs) i
   row6-verdict i = sym (row6-plain (verdict-lines ls tis ++ qs) i) ∙ ap (λ (r : List Line). row6 r i) plain-cut ∙ row6-plain (ls ++ qs) i
 
-  -- and the declarations begin at the same lines
-  pub head-verdict : (i : ℕ) → is-head (line-at (verdict-lines ls tis ++ qs) i) ≡ is-head (line-at (ls ++ qs) i)
-  head-verdict i =
-      sym (plain-head (line-at (verdict-lines ls tis ++ qs) i))
-      ∙ ap is-head (sym (line-plain (verdict-lines ls tis ++ qs) i) ∙ ap (λ (r : List Line). line-at r i) plain-cut ∙ line-plain (ls ++ qs) i)
-      ∙ plain-head (line-at (ls ++ qs) i)
-
-  pub heads-before-verdict : (i : ℕ) → heads-before (verdict-lines ls tis ++ qs) i ≡ heads-before (ls ++ qs) i
-  heads-before-verdict i =
-      sym (heads-before-plain (verdict-lines ls tis ++ qs) i) ∙ ap (λ (r : List Line). heads-before r i) plain-cut ∙ heads-before-plain (ls ++ qs) i
-
 -- row 5 gives the zeros at the end of F and V lines
 ended-line : (names types : ℕ) (xs : List ℕ) (n y : ℕ) (l : Line) → good-line names types xs n y l ≡ true → Ended l
 unfolding good-line
@@ -1482,47 +1471,3 @@ row3-raws w b h i =
     s m = due-take-same m (raws w b) (lines w b) n (λ j k q.
         let c : j < count w b = omega (arith, length-raws w b) in
         ap (due q) (line-raws w b j c) ∙ due-rawly q (raw w b j) (line w b j) (raw-rawly w b j (h j c)) ∙ ap (due q) (sym (getD-lines w b j)))
-
--- ---- raw lines of an append
--- a run of whole lines
-pub count-append : (w : ℕ) (b c : List ℕ) → length b ≡ lineBytes w * count w b → count w (b ++ c) ≡ count w b + count w c
-count-append w b c h =
-    sym (length-lines w (b ++ c))
-    ∙ ap length (lines-append w (count w b) b c h)
-    ∙ length-append (lines w b) (lines w c)
-    ∙ ap₂ (λ (m n : ℕ). m + n) (length-lines w b) (length-lines w c)
-
-raw-left : (w : ℕ) (b c : List ℕ) (i : ℕ) → i < count w b → raw w (b ++ c) i ≡ raw w b i
-raw-left w b c i h = raw-is w (b ++ c) i ∙ ap (raw-line w) (lineAt-left w b c i (within-count w b i h)) ∙ sym (raw-is w b i)
-
-raw-right : (w : ℕ) (b c : List ℕ) (i : ℕ) → length b ≡ lineBytes w * count w b → raw w (b ++ c) (count w b + i) ≡ raw w c i
-raw-right w b c i h = raw-is w (b ++ c) (count w b + i) ∙ ap (raw-line w) (lineAt-right w b c (count w b) i h) ∙ sym (raw-is w c i)
-
-pub raws-append : (w : ℕ) (b c : List ℕ) → length b ≡ lineBytes w * count w b → raws w (b ++ c) ≡ raws w b ++ raws w c
-raws-append w b c h =
-    ext-getD bad (raws w (b ++ c)) (raws w b ++ raws w c)
-    (length-raws w (b ++ c) ∙ n ∙ sym (length-append (raws w b) (raws w c) ∙ ap₂ (λ (x y : ℕ). x + y) (length-raws w b) (length-raws w c)))
-    (λ i k. go i (ltb i (count w b)) refl (omega (arith, length-raws w (b ++ c))))
-  where
-    n : count w (b ++ c) ≡ count w b + count w c
-    n = count-append w b c h
-
-    right : (j : ℕ) → j < count w c → line-at (raws w (b ++ c)) (count w b + j) ≡ line-at (raws w b ++ raws w c) (count w b + j)
-    right j k =
-        line-raws w (b ++ c) (count w b + j) (omega (arith, n))
-        ∙ raw-right w b c j h
-        ∙ sym (line-raws w c j k)
-        ∙ sym (getD-append-add (raws w b) (raws w c) j bad)
-        ∙ ap (λ (x : ℕ). line-at (raws w b ++ raws w c) (x + j)) (length-raws w b)
-
-    go : (i : ℕ) (t : Bool) → ltb i (count w b) ≡ t → i < count w (b ++ c) → line-at (raws w (b ++ c)) i ≡ line-at (raws w b ++ raws w c) i
-    go i true e k =
-        let l : i < count w b = ltb-true i (count w b) e in
-        line-raws w (b ++ c) i k
-        ∙ raw-left w b c i l
-        ∙ sym (line-raws w b i l)
-        ∙ sym (List·getD-append (raws w b) (raws w c) bad i (omega (arith, length-raws w b)))
-    go i false e k =
-        let l : count w b ≤ i = ltb-false i (count w b) e in
-        let q : i ≡ count w b + (i - count w b) = omega arith in
-        rw q (right (i - count w b) (omega (arith, n)))
