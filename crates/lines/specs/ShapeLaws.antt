@@ -19,9 +19,9 @@ use Rattle.sheet.specs.Format.{textBytes}
 use Rattle.sheet.specs.Line.{Line, named, row, bad, graphic, spelling, spaces, proper, lettered, cell, isValue, value, decode, decodeNamed, decodeRow, letter, number, isBad}
 use Rattle.sheet.specs.LineLaws.{value-of, spelling-split, spelling-le, lettered-other}
 use Rattle.sheet.specs.Sheet.{textOf}
+use Rattle.sheet.specs.ListLaws.{false-true, both}
 use Rattle.lines.specs.declared.Shape.the-variants.{Named, Row, Bad as NoLine}
 use Rattle.lines.specs.Shape.{shapeOf, textLength, namedShape}
-use Rattle.sheet.specs.ListLaws.{false-true, both}
 
 -- ---- the text of a name
 pub spelling-take : (t : List ℕ) → spelling t ≡ take (length (spelling t)) t

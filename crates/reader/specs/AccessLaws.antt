@@ -13,11 +13,11 @@ use Rattle.sheet.specs.Format.{textBytes}
 use Rattle.sheet.specs.Line.{Line, named, row, bad, cell, value, decode, letter, number, isBad}
 use Rattle.sheet.specs.Sheet.{count, lineAt, line, row2, textOf, nameText}
 use Rattle.sheet.specs.FirstLaws.{first-le, none-first}
+use Rattle.lines.specs.Shape.{shapeOf}
+use Rattle.lines.specs.ShapeLaws.{letter-decode, number-decode, number-below, textOf-part, textOf-le}
 use Rattle.reader.specs.declared.Letter.the-variants.{Byte}
 use Rattle.reader.specs.declared.Cell.the-variants.{Value as Held}
 use Rattle.reader.specs.Access.{letterAt, cellAt, isNone, spelledIn}
-use Rattle.lines.specs.Shape.{shapeOf}
-use Rattle.lines.specs.ShapeLaws.{letter-decode, number-decode, number-below, textOf-part, textOf-le}
 
 -- ---- shapes
 pub isBad-shape : (l : Line) → isBad l ≡ isNone (shapeOf l)

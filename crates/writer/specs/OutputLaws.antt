@@ -16,8 +16,8 @@ use Rattle.sheet.specs.Line.{Line, row, writes, decode, encode}
 use Rattle.sheet.specs.LineLaws.{Fits, decode-encode, encode-length, length-writes}
 use Rattle.sheet.specs.Sheet.{encodes, lines, count}
 use Rattle.sheet.specs.SheetLaws.{AllFit, encodes-append, encodes-one, within-count, length-lines, lines-cons, lines-append}
-use Rattle.writer.specs.Output.{putAt, puts}
 use Rattle.sheet.specs.ListLaws.{Every}
+use Rattle.writer.specs.Output.{putAt, puts}
 
 -- ---- a run of parts
 -- The law of a run of parts. The whole out is p and then what d has from a on, and is as long as d. Its part from a to e is lent

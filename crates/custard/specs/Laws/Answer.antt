@@ -14,6 +14,7 @@ use Rattle.sheet.specs.Format.{Format}
 use Rattle.sheet.specs.Line.{Line, isBad}
 use Rattle.sheet.specs.Sheet.{first, count, line, lines, row1}
 use Rattle.sheet.specs.FirstLaws.{first-none, none-first, first-le, first-holds}
+use Rattle.sheet.specs.ListLaws.{Every}
 use Rattle.custard.specs.Run.{layouts-of, decl-fault}
 use Rattle.custard.specs.declared.Refusal.{Refusal}
 use Rattle.custard.specs.declared.Refusal.the-variants.{Accepted, Refused}
@@ -34,7 +35,6 @@ use Rattle.custard.specs.Answer.{
   answer,
 }
 use Rattle.custard.specs.Cut.{Sheets, sheets-of, build}
-use Rattle.sheet.specs.ListLaws.{Every}
 
 -- the test of a row holds nowhere below its bound
 abbrev pub Clear : ℕ → (ℕ → Bool) → Type 0

@@ -16,6 +16,7 @@ use Rattle.sheet.specs.Line.{Line, named, row, bad, isBad}
 use Rattle.sheet.specs.Sheet.{count, line, linesFrom, lines, encodes, row1}
 use Rattle.sheet.specs.LineLaws.{Fits}
 use Rattle.sheet.specs.SheetLaws.{AllFit, length-lines, getD-lines, lines-append, fit-lines, encodes-append}
+use Rattle.sheet.specs.ListLaws.{Every, every-map, neither, every-at, at-every}
 use Rattle.custard.specs.Decl.{Decl, Dtype, TypeInfo, position}
 use Rattle.custard.specs.Program.{name-line, is-head, select, groups, program}
 use Rattle.custard.specs.Rows.{row5, row6}
@@ -44,7 +45,6 @@ use Rattle.custard.specs.Laws.Step.{
   left-lines-import,
 }
 use Rattle.custard.specs.Laws.Cut.{Steps}
-use Rattle.sheet.specs.ListLaws.{Every, every-map, neither, every-at, at-every}
 
 -- ---- bytes and lines
 pub whole-length : (w : ℕ) (b : List ℕ) → Whole w b → length b ≡ lineBytes w * count w b

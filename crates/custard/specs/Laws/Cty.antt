@@ -21,6 +21,7 @@ use native.Mathlib.Omega.{arith}
 use lib.Dec.{T, eqb}
 use lib.ListN.{length}
 use Rattle.columns.specs.Column.{pick}
+pub use Rattle.sheet.specs.ListLaws.{every-mem}
 use Rattle.custard.specs.Cty.{
   Cty,
   Ctys,
@@ -58,7 +59,6 @@ use Rattle.custard.specs.Cty.{
 }
 use Rattle.custard.specs.Decl.{member, close}
 use Rattle.custard.specs.Resolve.{attach, instance}
-pub use Rattle.sheet.specs.ListLaws.{every-mem}
 
 -- ---- properties of the variables and the names of a type
 module _ (X P : ℕ → Type 0) where

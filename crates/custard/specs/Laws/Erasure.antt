@@ -10,17 +10,16 @@ use native.Mathlib.Omega.{arith}
 use lib.Dec.{T, eqb, eqb→eq, eqb-refl}
 use lib.ListN.{length, getD, length-map, List·getD-map, List·getD-eq-default}
 use Rattle.columns.specs.Column.{pick}
+use Rattle.sheet.specs.ListLaws.{getD-within}
 use Rattle.custard.specs.Cty.{Cty, Ctys, TUnit, TAny, TExn, TVar, TInt, TFloat, TConst, TArrow, TApp, TTuple, TBuf, TRef, TInline, nil, cons, gather, gathers, names-of-cty}
 use Rattle.custard.specs.Decl.{Field, Ctor, Body, TAbstract, TAbbrev, TRecord, TVariant, Dtype, Erased, Realized, has-flag, ctors-of, CtorLayout, TypeInfo, Origin, here, imported, Decl, no-decl, dtype-at, origin-at, table, position}
 use Rattle.custard.specs.Erasure.{is-pure, cty-erased, ctys-erased, fields-erased, body-erased, dtype-erased, marked, rule-of, rule, start-of, start, erasure-fixpoint}
 use Rattle.custard.specs.Layout.{slots, ctor-layout, ctor-layouts}
 use Rattle.custard.specs.Names.{fields-names, ctors-names, body-names, dtype-names, Declared, Distinct, Agree, Pin, Pinned}
-use Rattle.custard.specs.Laws.Names.{position-name, position-declared, position-distinct, position-same, agree-sym}
+use Rattle.custard.specs.Laws.Names.{position-name, position-declared, position-distinct, position-same, agree-sym, ctors-own}
 use Rattle.custard.specs.Laws.Rounds.{At, Le, At-lt, Le-antisym, Monotone, Sound, Closed, Made, settle-length, settle-sound, settle-least, settle-closed, settle-made, settle-rounds}
-use Rattle.sheet.specs.ListLaws.{getD-within}
 use Rattle.custard.specs.Laws.Lists.{true-of, T-ext, trues, length-table, getD-table}
 use Rattle.custard.specs.Output.{bit}
-use Rattle.custard.specs.Laws.Names.{ctors-own}
 
 -- ---- tests
 -- a conjunction of tests, each of which implies another

@@ -8,9 +8,10 @@ use mathlib.Core.Option.{Option, none, some}
 use Prim.Native.Nat.{ℕ, _≤_, _<_}
 use native.Mathlib.Omega.{arith}
 use lib.Dec.{T, ltb, lt→ltb, ltb→lt}
-use borrow.Author.Tests.{ltb-false}
 use lib.ListN.{length, getD}
+use borrow.Author.Tests.{ltb-false}
 use Rattle.columns.specs.Column.{pick}
+use Rattle.sheet.specs.ListLaws.{false-true, same-test}
 use Rattle.custard.specs.Cty.{Cty, names-of-cty, uninline}
 use Rattle.custard.specs.Decl.{Field, Ctor, Body, TAbstract, TAbbrev, TRecord, TVariant, Dtype, NoNewtype, has-flag, ctors-of, ctors-of-tydef, CtorLayout, NewtypeLayout, Layout, L-erased, L-newtype, L-struct, L-abbrev, L-opaque, Origin, here, imported, Decl, dtype-at, origin-at, position}
 use Rattle.custard.specs.Erasure.{marked}
@@ -38,13 +39,11 @@ use Rattle.custard.specs.Resolve.{Unfold, gone, newtype, abbreviation, s
 use Rattle.custard.specs.Run.{unfold-names, unfold-next}
 use Rattle.custard.specs.Laws.Erasure.{marked-same, ctor-layouts-local}
 use Rattle.custard.specs.Names.{fields-names, ctors-names, dtype-names, Declared, Agree, Pin}
-use Rattle.custard.specs.Laws.Names.{position-name, position-same, agree-sym, kept-names}
+use Rattle.custard.specs.Laws.Names.{position-name, position-same, agree-sym, kept-names, declared-cases, agree-foreign, ctors-own}
 use Rattle.custard.specs.Reach.{Reach, one, more}
 use Rattle.custard.specs.Laws.Reach.{reach-loop, reach-stays, cyclic-iff}
-use Rattle.sheet.specs.ListLaws.{false-true, same-test}
 use Rattle.custard.specs.Laws.Lists.{length-table, getD-table, getD-table-past, table-cong}
 use Rattle.custard.specs.Laws.Cty.{uninline-names}
-use Rattle.custard.specs.Laws.Names.{ctors-own}
 
 -- ---- tests
 -- ---- tables
@@ -437,27 +436,15 @@ pub layout-same : (S : ℕ → Bool) (ds ds' : List Decl) (s s' : List Bool)
     → S n ≡ true
     → (l : Layout)
     → getD (compute-layouts ds s) (position ds n) l ≡ getD (compute-layouts ds' s') (position ds' n) l
-layout-same S ds ds' s s' a n h l = by (ltb (position ds n) (length ds)) refl
+layout-same S ds ds' s s' a n h l =
+    ⊎-elim
+    (λ d. getD-layouts ds s (position ds n) l d ∙ inner d ∙ sym (getD-layouts ds' s' (position ds' n) l (a .agree .declared n h .0 d)))
+    (λ e. getD-layouts-past ds s (position ds n) l (omega arith) ∙ sym (getD-layouts-past ds' s' (position ds' n) l (omega (arith, agree-foreign S ds ds' (a .agree) n h e))))
+    (declared-cases ds n)
   where
     inner : Declared ds n → layout-at ds s (position ds n) ≡ layout-at ds' s' (position ds' n)
     inner d =
         rw (ctor-layouts-same S ds ds' s s' a n h d, candidate-same S ds ds' s s' a n h d, dropped-same S ds ds' s s' a n h d, a .agree .same-dtype n h d, a .agree .same-origin n h d, mark-same S ds ds' s s' a n h)
-
-    by : (b : Bool) → ltb (position ds n) (length ds) ≡ b → getD (compute-layouts ds s) (position ds n) l ≡ getD (compute-layouts ds' s') (position ds' n) l
-    by true u =
-        let d : Declared ds n = ltb→lt (position ds n) (length ds) (rw u tt) in
-        getD-layouts ds s (position ds n) l d ∙ inner d ∙ sym (getD-layouts ds' s' (position ds' n) l (a .agree .declared n h .0 d))
-    by false u =
-        let p : length ds ≤ position ds n = ltb-false (position ds n) (length ds) u in
-        let q : length ds' ≤ position ds' n = foreign (λ d. absurd (omega (arith, a .agree .declared n h .1 d))) in
-        getD-layouts-past ds s (position ds n) l p ∙ sym (getD-layouts-past ds' s' (position ds' n) l q)
-      where
-        foreign : (Declared ds' n → ⊥) → length ds' ≤ position ds' n
-        foreign f = on (ltb (position ds' n) (length ds')) refl
-          where
-            on : (b : Bool) → ltb (position ds' n) (length ds') ≡ b → length ds' ≤ position ds' n
-            on true e = absurd (f (ltb→lt (position ds' n) (length ds') (rw e tt)))
-            on false e = ltb-false (position ds' n) (length ds') e
 
 -- ---- programs with pinned declarations
 -- ds' is ds with the declarations at the places of B pinned to layouts that ds itself gives them, where

@@ -17,6 +17,7 @@ use Rattle.sheet.specs.Line.{Line, bad, letter, number}
 use Rattle.sheet.specs.Format.{Format, lineBytes, base}
 use Rattle.sheet.specs.Sheet.{count, lines, row1}
 use Rattle.sheet.specs.SheetLaws.{AllFit, length-lines, within-count, fit-lines}
+use Rattle.sheet.specs.ListLaws.{false-true, both, one-of, Every, mem-every, every-map}
 use Rattle.custard.specs.Cty.{Cty, size}
 use Rattle.custard.specs.Decl.{
   Field,
@@ -88,7 +89,6 @@ use Rattle.custard.specs.Laws.Program.{None, heads, head-cases, length-g
 use Rattle.custard.specs.Laws.Resolve.{StructMatches, OpaqueMatches, Matches, Newtype, candidate-newtype, layout-matches, Unspent, Normal, Resolved, decl-resolved, LeftTypes, left-types}
 use Rattle.custard.specs.Laws.Layout.{candidates-of, getD-candidates, getD-layouts}
 use Rattle.custard.specs.Laws.Run.{lay, layout-of-decl, left-at, length-infos}
-use Rattle.sheet.specs.ListLaws.{false-true, both, one-of, Every, mem-every, every-map}
 use Rattle.custard.specs.Laws.Build.{row1-small, whole-length, pass-whole}
 use Rattle.custard.specs.Laws.Rows.{last-head-append, last-head-none}
 

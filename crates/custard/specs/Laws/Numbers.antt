@@ -1,5 +1,6 @@
 -- What holds of every number of a sheet's lines holds of every number of the program that is left, and how many types that has: so
 -- the lines of the left sheet of an accepted sheet fit their columns. Assumes nothing.
+use mathlib.Core.Logic.{⊎-elim}
 use mathlib.Core.Path.{_≡_, refl, ap}
 use mathlib.Core.List.{List, [], _∷_, _++_, map, List·Memᴰ}
 use mathlib.Core.Bool.{Bool, true, false, _&&_, _||_, not}
@@ -15,6 +16,7 @@ use Rattle.sheet.specs.Line.{Line, letter, number}
 use Rattle.sheet.specs.LineLaws.{Fits}
 use Rattle.sheet.specs.Sheet.{lines, encodes}
 use Rattle.sheet.specs.SheetLaws.{AllFit, lines-encodes}
+use Rattle.sheet.specs.ListLaws.{Every, every-map, every-over, every-append}
 use Rattle.custard.specs.Cty.{
   Cty,
   Ctys,
@@ -128,8 +130,8 @@ use Rattle.custard.specs.Laws.Resolve.{Stays, Normal, Fields, Ctors, Bod
 use Rattle.custard.specs.Laws.Layout.{candidates-of, getD-candidates, getD-layouts, getD-layouts-past}
 use Rattle.custard.specs.Laws.Run.{lay, left-at, run-program}
 use Rattle.custard.specs.Laws.Output.{types-of-fields, types-of-ctors, types-of-body, types-of, TypeNumbers, TypesNumbers, FieldNumbers, CtorNumbers, BodyNumbers, DtypeNumbers, total, total-bound, ProgramFits, every-select, number-fits, left-fits, NamesIn, left-names}
-use Rattle.sheet.specs.ListLaws.{Every, every-map, every-over, every-append}
 use Rattle.custard.specs.Laws.Lists.{getD-table, getD-table-past}
+use Rattle.custard.specs.Laws.Names.{declared-cases}
 
 -- ---- the numbers of types
 module _ (Q : ℕ → Type 0) where
@@ -474,17 +476,21 @@ module _ (Q : ℕ → Type 0) (kind : (n : ℕ) → n ≤ 12 → Q n) (down : (m
 
     lay-full : (n : ℕ) → UnfoldNumbers Q (lay ds n)
     unfolding unfold-name unfolds layouts-of
-    lay-full n = go (ltb (position ds n) (length ds)) refl
+    lay-full n =
+        ⊎-elim
+        (λ d. rw (getD-table u (length ds) i stays d)
+        (unfold-full (body-fields (dtype-at ds i .dt-body)) (dtype-at ds i) (getD ls i L-opaque) (decl-full i .dtype-full) (layout-at-full (erasure-fixpoint ds .marks) i)))
+        (λ e. let f : length ds ≤ i = omega arith in rw (getD-table-past u (length ds) i stays f) tt)
+        (declared-cases ds n)
       where
+        i : ℕ
+        i = position ds n
+
         ls : List Layout
         ls = layouts-of ds
 
-        go : (c : Bool) → ltb (position ds n) (length ds) ≡ c → UnfoldNumbers Q (getD (table (λ i. unfold-of (dtype-at ds i) (getD ls i L-opaque)) (length ds)) (position ds n) stays)
-        go true e =
-            let i : ℕ = position ds n in
-            rw (getD-table (λ i. unfold-of (dtype-at ds i) (getD ls i L-opaque)) (length ds) i stays (ltb-true i (length ds) e))
-            (unfold-full (body-fields (dtype-at ds i .dt-body)) (dtype-at ds i) (getD ls i L-opaque) (decl-full i .dtype-full) (layout-at-full (erasure-fixpoint ds .marks) i))
-        go false e = rw (getD-table-past (λ i. unfold-of (dtype-at ds i) (getD ls i L-opaque)) (length ds) (position ds n) stays (ltb-false (position ds n) (length ds) e)) tt
+        u : ℕ → Unfold
+        u j = unfold-of (dtype-at ds j) (getD ls j L-opaque)
 
   -- ---- the left declaration
   module _ (res : Cty → Cty) (rn : (c : Cty) → TypeNumbers Q c → TypeNumbers Q (res c)) where

@@ -5,10 +5,10 @@ use mathlib.Core.List.{List, [], _∷_, _++_, map, append-assoc, append-nil, Lis
 use mathlib.Core.Bool.{Bool, true, false}
 use Prim.Native.Nat.{ℕ, zero, suc, _+_, _*_, _^_, _≤_, _<_}
 use native.Mathlib.Omega.{arith}
-use lib.Dec.{eqb}
-use borrow.Author.Tests.{eqb-true}
 use native.Mathlib.Nat.{mul-suc, mul-le-mul-left}
+use lib.Dec.{eqb}
 use lib.ListN.{length, getD, length-append, length-map}
+use borrow.Author.Tests.{eqb-true}
 use Rattle.columns.specs.Column.{pick}
 use Rattle.columns.specs.ColumnLaws.{ten-pos}
 use Rattle.sheet.specs.Format.{lineBytes, textBytes}
@@ -16,13 +16,13 @@ use Rattle.sheet.specs.Line.{Line, named, row, bad, lettered, encode, letter, n
 use Rattle.sheet.specs.LineLaws.{AllBelow, Fits, named-length, row-length}
 use Rattle.sheet.specs.Sheet.{lines, encodes}
 use Rattle.sheet.specs.SheetLaws.{AllFit, length-encodes, lines-encodes}
+use Rattle.sheet.specs.ListLaws.{Every, every-mem, mem-every, every-map, every-over, every-append, every-left, every-right}
 use Rattle.custard.specs.Program.{name-line, arg-line, type-line, local-line, param-line, ctor-line, field-line, verdict-line, import-line, is, is-head, select, before, Group, groups}
 use Rattle.custard.specs.Cty.{Cty, Ctys, TUnit, TAny, TExn, TVar, TInt, TFloat, TConst, TArrow, TApp, TTuple, TBuf, TRef, TInline, nil, cons, gather, gathers, names-of-cty, lengths, size, sizes}
 use Rattle.custard.specs.Laws.Cty.{size-positive}
 use Rattle.custard.specs.Decl.{Field, Ctor, Body, TAbstract, TAbbrev, TRecord, TVariant, Dtype, Layout, L-erased, L-newtype, L-struct, L-abbrev, L-opaque, layout-number, TypeInfo}
 use Rattle.custard.specs.Output.{bit, fill-keeps, fill-verdict, all-slots, fill, fill-all, verdict-lines, Written, put, last, Members, listed, first-arg, emit, emits, Lines, field-lines, ctor-lines, decl-frame, decl-lines, program-lines, left-lines}
 use Rattle.custard.specs.Laws.Program.{flat, before-flat, length-verdict-lines}
-use Rattle.sheet.specs.ListLaws.{Every, every-mem, mem-every, every-map, every-over, every-append, every-left, every-right}
 
 -- ---- lists
 -- ---- what is written is added at the ends

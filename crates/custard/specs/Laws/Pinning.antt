@@ -29,7 +29,7 @@ use Rattle.custard.specs.Erasure.{marked, rule, rule-of, erasure-fixpoin
 use Rattle.custard.specs.Layout.{ctor-layouts, dropped, layout-of, compute-layouts}
 use Rattle.custard.specs.Run.{info, layouts-of, somes, run, returns, decl-fault}
 use Rattle.custard.specs.Names.{dtype-names, Declared, undeclared, Distinct, Agree, Pin}
-use Rattle.custard.specs.Laws.Names.{position-le, position-name, position-distinct, position-declared, position-append-left, agree-prefix, undeclared-of, position-same}
+use Rattle.custard.specs.Laws.Names.{position-name, position-distinct, position-declared, position-append-left, agree-prefix, undeclared-of, position-same, not-declared}
 use Rattle.custard.specs.Laws.Erasure.{erasure-solves, erasure-pinned}
 use Rattle.custard.specs.Laws.Layout.{Placed, candidates-of, layout-at, pinned-layouts, getD-layouts}
 use Rattle.custard.specs.Laws.Run.{layout-of-decl, left-at, info-at, run-program, run-infos, getD-infos, length-infos, left-same, program-same, fault-same, returns-same}
@@ -90,22 +90,19 @@ distinct-left ds es d i j h k e =
 
 -- a name that the first part declares is not declared again
 pub distinct-undeclared : (ds es : List Decl) → Distinct (ds ++ es) → (i : ℕ) → i < length ds → undeclared es (dtype-at ds i .dt-name) ≡ true
-distinct-undeclared ds es d i h = undeclared-of es n (go (ltb (position es n) (length es)) refl)
+distinct-undeclared ds es d i h = undeclared-of es n (not-declared es n again)
   where
     n : ℕ
     n = dtype-at ds i .dt-name
 
-    go : (b : Bool) → ltb (position es n) (length es) ≡ b → position es n ≡ length es
-    go true q =
-        let k : position es n < length es = ltb-true (position es n) (length es) q in
-        let j : ℕ = length ds + position es n in
+    again : Declared es n → ⊥
+    again k =
         let name : dtype-at (ds ++ es) (length ds + position es n) .dt-name ≡ n =
         ap (λ (x : Decl). x .dtype .dt-name) (getD-append-add ds es (position es n) no-decl) ∙ position-name es n k in
         let same : i ≡ length ds + position es n =
         d i (length ds + position es n) (rw length-append (omega arith)) (rw length-append (omega arith))
         (ap (λ (x : Decl). x .dtype .dt-name) (at-left ds es i h) ∙ sym name) in
-        absurd (omega arith)
-    go false q = omega (arith, ltb-false (position es n) (length es) q, position-le es n)
+        omega arith
 
 -- ---- the first part on its own
 module _ (ds es : List Decl) (distinct : Distinct (ds ++ es)) (apart : Apart ds es) where

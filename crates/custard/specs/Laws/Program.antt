@@ -12,6 +12,7 @@ use lib.ListN.{length, getD, take, drop, length-append, length-map}
 use borrow.Author.Tests.{eqb-true, eqb-false}
 use Rattle.columns.specs.Column.{pick, _⇒_∥_}
 use Rattle.sheet.specs.Line.{Line, row, bad, letter, number}
+use Rattle.sheet.specs.ListLaws.{contrary, neither, Every, every-append, every-left, every-right}
 use Rattle.custard.specs.Cty.{Cty, TUnit}
 use Rattle.custard.specs.Decl.{
   Field,
@@ -82,7 +83,6 @@ use Rattle.custard.specs.Program.{
 }
 use Rattle.custard.specs.Output.{bit, fill-keeps, fill-verdict, all-slots, fill, fill-all, verdict-lines, left-lines}
 use Rattle.custard.specs.Rows.{line-at, count-of, heads-before}
-use Rattle.sheet.specs.ListLaws.{contrary, neither, Every, every-append, every-left, every-right}
 use Rattle.custard.specs.Laws.Lists.{getD-map}
 use Rattle.custard.specs.Laws.Layout.{getD-candidates, getD-layouts}
 
@@ -151,6 +151,12 @@ unfolding before
 before-none p [] h = refl
 before-none p (l ∷ ls) h = rw (h .0) (ap (λ (r : List Line). l ∷ r) (before-none p ls (h .1)))
 
+-- lines in front of which none begins a group
+pub before-after : (p : Line → Bool) (a b : List Line) → None p a → before p (a ++ b) ≡ a ++ before p b
+unfolding before
+before-after p [] b h = refl
+before-after p (l ∷ a) b h = rw (h .0) (ap (λ (r : List Line). l ∷ r) (before-after p a b (h .1)))
+
 -- the header of a sheet
 pub before-header : (p : Line → Bool) (hs b : List Line) → None p hs → Starts p b → before p (hs ++ b) ≡ hs
 before-header p hs b h s = before-append p hs b s ∙ before-none p hs h
@@ -175,6 +181,11 @@ groups-append p (l ∷ a) b s = rw (before-append p a b s) (go (p l) (groups-app
         ≡ pick c (record { head = l; rest = before p a } ∷ groups p a) (groups p a) ++ groups p b
     go true e = ap (λ (s : List Group). record { head = l; rest = before p a } ∷ s) e
     go false e = e
+
+pub groups-after : (p : Line → Bool) (a b : List Line) → None p a → groups p (a ++ b) ≡ groups p b
+unfolding groups
+groups-after p [] b h = refl
+groups-after p (l ∷ a) b h = rw (h .0) (groups-after p a b (h .1))
 
 pub groups-none : (p : Line → Bool) (ls : List Line) → None p ls → groups p ls ≡ []
 unfolding groups

@@ -7,12 +7,12 @@ use mathlib.Core.Bool.{Bool, true, false}
 use Prim.Native.Nat.{ℕ, zero, suc, _+_, _<_}
 use native.Mathlib.Omega.{arith}
 use lib.Dec.{eqb}
-use borrow.Author.Tests.{eqb-true, eqb-false}
 use lib.ListN.{length, getD, set, replicate, length-set, length-replicate}
 use lib.Seq.{getD-set-same, getD-set-other}
+use borrow.Author.Tests.{eqb-true, eqb-false}
+use Rattle.sheet.specs.ListLaws.{false-true}
 use Rattle.custard.specs.Laws.Rounds.{At, Le, At-lt, cases-eq, trues-le, trues-mono}
 use Rattle.custard.specs.Reach.{Reach, one, more, go, cyclic}
-use Rattle.sheet.specs.ListLaws.{false-true}
 use Rattle.custard.specs.Laws.Lists.{trues}
 
 -- ---- tests

@@ -12,6 +12,7 @@ use native.Mathlib.Omega.{arith}
 use lib.Dec.{T, eqb, leb, ltb, leb→le, le→leb}
 use lib.ListN.{length, getD}
 use Rattle.columns.specs.Column.{pick}
+use Rattle.sheet.specs.ListLaws.{Every, every-map}
 use Rattle.custard.specs.Cty.{
   Cty,
   Ctys,
@@ -131,7 +132,6 @@ use Rattle.custard.specs.Run.{
   fault-code,
   decl-fault,
 }
-use Rattle.sheet.specs.ListLaws.{Every, every-map}
 use Rattle.custard.specs.Laws.Lists.{true-of}
 
 -- ---- results

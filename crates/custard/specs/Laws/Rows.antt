@@ -17,6 +17,7 @@ use Rattle.sheet.specs.FirstLaws.{first-le, first-congr, none-first}
 use Rattle.sheet.specs.Line.{Line, named, row, bad, spelling, proper, lettered, cell, isValue, value, decodeNamed, decodeRow, decode, letter, number, text, isBad}
 use Rattle.sheet.specs.Sheet.{first, lineAt, count, line, lines}
 use Rattle.sheet.specs.SheetLaws.{length-lines, getD-lines}
+use Rattle.sheet.specs.ListLaws.{false-true, contrary, both, neither, length-nil, at-every}
 use Rattle.custard.specs.Cty.{Cty, TUnit}
 use Rattle.custard.specs.Decl.{
   Field,
@@ -184,8 +185,9 @@ use Rattle.custard.specs.Laws.Program.{
   body-of-number,
   close-number,
   length-slot,
+  before-after,
+  before-header,
 }
-use Rattle.sheet.specs.ListLaws.{false-true, contrary, both, neither, length-nil, at-every}
 use Rattle.custard.specs.Laws.Lists.{trues, length-table, getD-table}
 
 none-some : {A B : Type 0} (a : A) → _≡_ {A = Option A} none (some a) → B
@@ -515,15 +517,6 @@ header-starts place (l ∷ ls) k h = go (is-head l) refl (rw (late-header place 
     go true e q = e
     go false e q = false-true (sym q)
 
-before-starts : (p : Line → Bool) (ls : List Line) → Starts p ls → before p ls ≡ []
-unfolding before
-before-starts p [] s = refl
-before-starts p (l ∷ ls) s = rw s
-
-before-no : (p : Line → Bool) (l : Line) (ls : List Line) → p l ≡ false → before p (l ∷ ls) ≡ l ∷ before p ls
-unfolding before
-before-no p l ls e = rw e
-
 -- the lines up to the next declaration, where a declaration is open
 pub body-lines : (p f c : ℕ) (ls : List Line) → is-header (due-after (Within p f c) ls) ≡ true → BodyLines p f c (before is-head ls)
 unfolding due-after due
@@ -534,7 +527,7 @@ body-lines (suc p) f c (l ∷ ls) h = go (is param-line l) refl h (body-lines p 
         → (is-header (due-after (Within p f c) ls) ≡ true → BodyLines p f c (before is-head ls)) → BodyLines (suc p) f c (before is-head (l ∷ ls))
     go true e k ih =
         let q : letter l ≡ 80 = eqb-true (letter l) 80 e in
-        rw (before-no is-head l ls (rw q)) (body-param p f c l (before is-head ls) q (ih k))
+        rw (before-after is-head (l ∷ []) ls (rw q, tt)) (body-param p f c l (before is-head ls) q (ih k))
     go false e k ih = false-true (sym (unbroken Broken ls k))
 body-lines zero (suc f) c (l ∷ ls) h = go (is field-line l) refl h (body-lines zero f c ls)
   where
@@ -542,7 +535,7 @@ body-lines zero (suc f) c (l ∷ ls) h = go (is field-line l) refl h (body-lines
         → (is-header (due-after (Within zero f c) ls) ≡ true → BodyLines zero f c (before is-head ls)) → BodyLines zero (suc f) c (before is-head (l ∷ ls))
     go true e k ih =
         let q : letter l ≡ 70 = eqb-true (letter l) 70 e in
-        rw (before-no is-head l ls (rw q)) (body-field zero f c l (before is-head ls) q (ih k))
+        rw (before-after is-head (l ∷ []) ls (rw q, tt)) (body-field zero f c l (before is-head ls) q (ih k))
     go false e k ih = false-true (sym (unbroken Broken ls k))
 body-lines zero zero (suc c) (l ∷ ls) h = go (is ctor-line l) refl h (body-lines zero (number l 1) c ls)
   where
@@ -551,14 +544,14 @@ body-lines zero zero (suc c) (l ∷ ls) h = go (is ctor-line l) refl h (body-lin
         → BodyLines zero zero (suc c) (before is-head (l ∷ ls))
     go true e k ih =
         let q : letter l ≡ 67 = eqb-true (letter l) 67 e in
-        rw (before-no is-head l ls (rw q)) (body-ctor zero c l (before is-head ls) q (ih k))
+        rw (before-after is-head (l ∷ []) ls (rw q, tt)) (body-ctor zero c l (before is-head ls) q (ih k))
     go false e k ih = false-true (sym (unbroken Broken ls k))
 body-lines zero zero zero (l ∷ ls) h = go (is verdict-line l) refl h
   where
     go : (t : Bool) → is verdict-line l ≡ t → is-header (due-after (pick t (Header 3) Broken) ls) ≡ true → BodyLines zero zero zero (before is-head (l ∷ ls))
     go true e k =
         let q : letter l ≡ 86 = eqb-true (letter l) 86 e in
-        rw (before-no is-head l ls (rw q), before-starts is-head ls (header-starts 3 ls (omega arith) k)) (body-verdict l q)
+        rw (before-after is-head (l ∷ []) ls (rw q, tt), before-header is-head [] ls tt (header-starts 3 ls (omega arith) k)) (body-verdict l q)
     go false e k = false-true (sym (unbroken Broken ls k))
 
 -- no C line: all are before the first

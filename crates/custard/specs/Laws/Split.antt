@@ -18,24 +18,24 @@ use mathlib.Core.List.{
   Memᴰ·append-right,
   map-append,
 }
-use mathlib.Core.Bool.{Bool, true, false, _||_}
+use mathlib.Core.Bool.{true, false, _||_}
 use Prim.Native.Nat.{ℕ, zero, suc, _+_, _≤_, _<_}
 use native.Mathlib.Omega.{arith}
 use native.Mathlib.Nat.{zero-div, zero-mod}
-use lib.Dec.{eqb, ltb}
+use lib.Dec.{eqb}
 use lib.ListN.{length, getD, length-append, List·getD-append}
-use borrow.Author.Tests.{ltb-true, ltb-false}
 use Rattle.sheet.specs.Format.{Format, lineBytes}
 use Rattle.sheet.specs.Line.{Line, bad, isBad, letter, number}
 use Rattle.sheet.specs.Sheet.{first, count, line, linesFrom, lines, row2}
 use Rattle.sheet.specs.FirstLaws.{first-none}
 use Rattle.sheet.specs.SheetLaws.{within-count, length-lines, getD-lines, lines-append}
+use Rattle.sheet.specs.ListLaws.{Every, at-every, every-left, every-right}
 use Rattle.custard.specs.Cty.{Cty}
 use Rattle.custard.specs.Decl.{Decl, no-decl, dtype-at, position}
 use Rattle.custard.specs.Program.{arg-line, type-line, is-head, select, groups, trees, decl-of, program}
 use Rattle.custard.specs.Rows.{line-at, raw, heads-before, row5, row6}
 use Rattle.custard.specs.Names.{dtype-names, Declared, undeclared, Distinct}
-use Rattle.custard.specs.Laws.Names.{position-le, position-name, position-first, position-append-left, position-append-right, undeclared-of}
+use Rattle.custard.specs.Laws.Names.{position-name, position-first, position-append-left, position-append-right, undeclared-of, declared-cases, not-declared}
 use Rattle.custard.specs.Cut.{build, builds, join, Whole, Declarations, program-names, Cut}
 use Rattle.custard.specs.Laws.Program.{Starts, None, select-append, program-append, groups-append, groups-none, length-program, HeadAt, head-at, heads-before-program, none-left, none-right}
 use Rattle.custard.specs.Laws.Rows.{Ends, raw-rawly, ends-prefix, NoHeader, no-header, row5-prefix}
@@ -45,7 +45,6 @@ use Rattle.custard.specs.Laws.Pinning.{Apart, distinct-undeclared}
 use Rattle.custard.specs.Laws.Step.{later, program-parts}
 use Rattle.custard.specs.Laws.Build.{whole-length, whole-append, NoBad, no-bad-pass, Split, split-steps}
 use Rattle.custard.specs.Laws.Cut.{Splits, chain}
-use Rattle.sheet.specs.ListLaws.{Every, at-every, every-left, every-right}
 
 -- ---- declared names, by the lines where declarations begin
 pub record HeadNamed (ls : List Line) (n : ℕ) : Type 0 where
@@ -197,22 +196,11 @@ nil-right [] b e = e
 nil-right (l ∷ a) b e = let z : _≡_ {A = ℕ} 0 1 = cc in absurd (omega arith)
 
 declared-right : (ds es : List Decl) (n : ℕ) → Declared es n → Declared (ds ++ es) n
-declared-right ds es n d = go (ltb (position ds n) (length ds)) refl
-  where
-    go : (c : Bool) → ltb (position ds n) (length ds) ≡ c → Declared (ds ++ es) n
-    go true e =
-        let k : Declared ds n = ltb-true (position ds n) (length ds) e in
-        rw (position-append-left ds es n k, length-append) (omega arith)
-    go false e =
-        let k : position ds n ≡ length ds = omega (arith, ltb-false (position ds n) (length ds) e, position-le ds n) in
-        rw (position-append-right ds es n k, length-append) (omega arith)
-
-not-declared : (ds : List Decl) (n : ℕ) → (Declared ds n → ⊥) → undeclared ds n ≡ true
-not-declared ds n h = undeclared-of ds n (go (ltb (position ds n) (length ds)) refl)
-  where
-    go : (c : Bool) → ltb (position ds n) (length ds) ≡ c → position ds n ≡ length ds
-    go true e = absurd (h (ltb-true (position ds n) (length ds) e))
-    go false e = omega (arith, ltb-false (position ds n) (length ds) e, position-le ds n)
+declared-right ds es n d =
+    ⊎-elim
+    (λ k. rw (position-append-left ds es n k, length-append) (omega arith))
+    (λ k. rw (position-append-right ds es n k, length-append) (omega arith))
+    (declared-cases ds n)
 
 -- lines of a header, and of units behind it
 module _ (w : ℕ) (header : List ℕ) (whole : Whole w header) (none : NoBad (lines w header) → None is-head (lines w header)) (xs : List (List ℕ)) (us : Units w xs)
@@ -315,7 +303,7 @@ module _ (w : ℕ) (b header : List ℕ) (units : List (List ℕ)) (cut : Cut w 
     split-apart :
         NoBad (P ++ Q) → Ends (P ++ Q) → Clear (length P) (row5 P) → Clear (length (P ++ Q)) (row6 (P ++ Q)) → Apart (program P) (later P Q)
     unfolding join
-    split-apart nb ends c5 c6 i h n m = ⊎-elim declared-apart (λ z. not-declared (later P Q) n (λ d. z (elsewhere d))) (told r)
+    split-apart nb ends c5 c6 i h n m = ⊎-elim declared-apart (λ z. undeclared-of (later P Q) n (not-declared (later P Q) n (λ d. z (elsewhere d)))) (told r)
       where
         st : Starts is-head Q
         st = join-starts w ys ys-units (none-right isBad P Q nb)
