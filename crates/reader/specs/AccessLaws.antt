@@ -12,9 +12,10 @@ use Rattle.columns.specs.Column.{pick}
 use Rattle.sheet.specs.Format.{textBytes}
 use Rattle.sheet.specs.Line.{Line, named, row, bad, cell, value, decode, letter, number, isBad}
 use Rattle.sheet.specs.Sheet.{count, lineAt, line, row2, textOf, nameText}
+use Rattle.sheet.specs.LineLaws.{letter-decode, number-decode, number-below}
+use Rattle.sheet.specs.SheetLaws.{textOf-part, textOf-le}
 use Rattle.sheet.specs.FirstLaws.{first-le, none-first}
 use Rattle.lines.specs.Shape.{shapeOf}
-use Rattle.lines.specs.ShapeLaws.{letter-decode, number-decode, number-below, textOf-part, textOf-le}
 use Rattle.reader.specs.declared.Letter.the-variants.{Byte}
 use Rattle.reader.specs.declared.Cell.the-variants.{Value as Held}
 use Rattle.reader.specs.Access.{letterAt, cellAt, isNone, spelledIn}

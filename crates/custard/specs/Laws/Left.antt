@@ -82,7 +82,7 @@ use Rattle.custard.specs.Answer.{row8, row9, verdict-sheet, left-sheet}
 use Rattle.custard.specs.Laws.Answer.{Clear, Passes}
 use Rattle.custard.specs.Laws.Pass.{clear-heads}
 use Rattle.custard.specs.Laws.Fuel.{NoReturn, fuel-unspent}
-use Rattle.custard.specs.Laws.Output.{verdict-bytes, verdict-round}
+use Rattle.custard.specs.Laws.Output.{verdict-bytes, verdict-round, columns-positive}
 use Rattle.custard.specs.Laws.Written.{left-program-read}
 use Rattle.custard.specs.Laws.Numbers.{sheet-round, left-sheet-normal}
 use Rattle.custard.specs.Laws.Program.{None, heads, head-cases, length-groups, length-program, program-at, HeadAt, head-at, body-number, body-of-number, close-number}
@@ -444,11 +444,7 @@ module _ (f : Format) (b : List ℕ) (v l : ℕ) (ample : Ample f) (pass : Passe
   -- ---- the verdict sheet
   pub verdict-sheet-lines : lines (f .columns) (verdict-sheet f sheet-lines) ≡ verdict-lines sheet-lines (run sheet-program .infos)
   unfolding verdict-sheet
-  verdict-sheet-lines = verdict-round (f .columns) sheet-lines (run sheet-program .infos) (columns (f .columns) (ample .kinds)) pass-fit
-    where
-      columns : (w : ℕ) → 12 < 10 ^ w → 0 < w
-      columns zero h = absurd (omega arith)
-      columns (suc w) h = omega arith
+  verdict-sheet-lines = verdict-round (f .columns) sheet-lines (run sheet-program .infos) (columns-positive (f .columns) (ample .kinds)) pass-fit
 
   -- It is as long as the sheet.
   pub verdict-sheet-length : length (verdict-sheet f sheet-lines) ≡ length b

@@ -129,7 +129,7 @@ use Rattle.custard.specs.Laws.Cty.{all-names}
 use Rattle.custard.specs.Laws.Resolve.{Stays, Normal, Fields, Ctors, BodyTypes, LeftTypes, Left}
 use Rattle.custard.specs.Laws.Layout.{candidates-of, getD-candidates, getD-layouts, getD-layouts-past}
 use Rattle.custard.specs.Laws.Run.{lay, left-at, run-program}
-use Rattle.custard.specs.Laws.Output.{types-of-fields, types-of-ctors, types-of-body, types-of, TypeNumbers, TypesNumbers, FieldNumbers, CtorNumbers, BodyNumbers, DtypeNumbers, total, total-bound, ProgramFits, every-select, number-fits, left-fits, NamesIn, left-names}
+use Rattle.custard.specs.Laws.Output.{types-of-fields, types-of-ctors, types-of-body, types-of, TypeNumbers, TypesNumbers, FieldNumbers, CtorNumbers, BodyNumbers, DtypeNumbers, total, total-bound, ProgramFits, every-select, number-fits, left-fits, NamesIn, left-names, columns-positive}
 use Rattle.custard.specs.Laws.Lists.{getD-table, getD-table-past}
 use Rattle.custard.specs.Laws.Names.{declared-cases}
 
@@ -1021,8 +1021,4 @@ sheet-fits w limit ls k h n b t =
 pub sheet-round : (w limit : ℕ) (ls : List Line) → 12 < 10 ^ w → AllFit w ls → length ls < 10 ^ w → limit * (heads ls + count-of field-line ls) < 10 ^ w →
     ((i : ℕ) → i < length (program ls) → LeftTypes (λ t. size t ≤ limit) (left-at (program ls) i)) →
     lines w (encodes w (left-lines ls (run (program ls) .program))) ≡ left-lines ls (run (program ls) .program)
-sheet-round w limit ls k h n b t = lines-encodes w (left-lines ls (run (program ls) .program)) (columns w k) (sheet-fits w limit ls k h n b t)
-  where
-    columns : (v : ℕ) → 12 < 10 ^ v → 0 < v
-    columns zero j = absurd (omega arith)
-    columns (suc v) j = omega arith
+sheet-round w limit ls k h n b t = lines-encodes w (left-lines ls (run (program ls) .program)) (columns-positive w k) (sheet-fits w limit ls k h n b t)

@@ -688,6 +688,11 @@ left-names-occur ls ds l m =
     left-names P ls ds (mem-every (NamesIn P) (types-of ds) (λ c j n k. (c, j, k))) l m
 
 -- ---- the verdict sheet
+-- where numbers of two digits fit, there are columns
+pub columns-positive : (w : ℕ) → 12 < 10 ^ w → 0 < w
+columns-positive zero h = absurd (omega arith)
+columns-positive (suc w) h = omega arith
+
 -- any column holds a digit
 pub ten : (w : ℕ) → 0 < w → 4 < 10 ^ w
 ten zero h = absurd (omega arith)

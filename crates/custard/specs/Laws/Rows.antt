@@ -5,19 +5,20 @@ use mathlib.Core.Path.{_≡_, refl, ap, ap₂, sym, _∙_}
 use mathlib.Core.List.{List, [], _∷_, _++_, map, append-nil, map-append}
 use mathlib.Core.Bool.{Bool, true, false, _&&_, _||_, not, and-false}
 use mathlib.Core.Option.{Option, none, some}
-use Prim.Native.Nat.{ℕ, zero, suc, _+_, _*_, _-_, _≤_, _<_}
+use Prim.Native.Nat.{ℕ, zero, suc, _+_, _-_, _≤_, _<_}
 use native.Mathlib.Omega.{arith}
 use lib.Dec.{eqb, leb, ltb}
 use lib.ListN.{length, getD, take, drop, length-append, length-map, List·getD-map, List·getD-append, take-append-drop}
 use lib.Seq.{take-all, take-append-le, take-append-add, getD-append-add, take-length}
 use borrow.Author.Tests.{eqb-true, eq-eqb, ltb-true, ltb-false, lt-ltb, le-ltb, leb-true, leb-false, lt-leb, le-leb, not-true, not-false}
 use Rattle.columns.specs.Column.{pick, _⇒_∥_}
-use Rattle.sheet.specs.Format.{Format, textBytes}
+use Rattle.sheet.specs.Format.{Format}
 use Rattle.sheet.specs.FirstLaws.{first-le, first-congr, none-first}
-use Rattle.sheet.specs.Line.{Line, named, row, bad, spelling, proper, lettered, cell, isValue, value, decodeNamed, decodeRow, decode, letter, number, text, isBad}
+use Rattle.sheet.specs.Line.{Line, named, row, bad, cell, value, decode, letter, number, text, isBad}
 use Rattle.sheet.specs.Sheet.{first, lineAt, count, line, lines}
 use Rattle.sheet.specs.SheetLaws.{length-lines, getD-lines}
 use Rattle.sheet.specs.ListLaws.{false-true, contrary, both, neither, length-nil, at-every}
+use Rattle.sheet.specs.LineLaws.{Decoded, as-named, as-row, as-bad, decoded, five-numbers}
 use Rattle.custard.specs.Cty.{Cty, TUnit}
 use Rattle.custard.specs.Decl.{
   Field,
@@ -1376,37 +1377,18 @@ pub record Rawly (k l : Line) : Type 0 where
   pub first-number : number k 0 ≡ number l 0
   pub lines : is name-line l ≡ false → k ≡ l
 
-raw-named : (w : ℕ) (b : List ℕ) → getD b 0 0 ≡ 78 → isBad (decodeNamed w b) ≡ false → Rawly (raw-line w b) (decodeNamed w b)
-unfolding raw-line table decodeNamed
-raw-named w b e n = go (isValue (cell w b 0) && proper (take (textBytes w) (drop (1 + w) b))) n
-  where
-    go : (c : Bool) → isBad (pick c (named (value (cell w b 0)) (spelling (take (textBytes w) (drop (1 + w) b)))) bad) ≡ false
-        → Rawly (raw-line w b) (pick c (named (value (cell w b 0)) (spelling (take (textBytes w) (drop (1 + w) b)))) bad)
-    go true k = record { letters = e; first-number = refl; lines = λ q. false-true (sym q) }
-    go false k = false-true (sym k)
-
-raw-row : (w : ℕ) (b : List ℕ) → isBad (decodeRow w b) ≡ false → Rawly (raw-line w b) (decodeRow w b)
-unfolding raw-line table decodeRow
-raw-row w b n = go (isValue (cell w b 0) && isValue (cell w b 1) && isValue (cell w b 2) && isValue (cell w b 3) && isValue (cell w b 4)) n
-  where
-    r : Line
-    r = row (getD b 0 0) (value (cell w b 0) ∷ value (cell w b 1) ∷ value (cell w b 2) ∷ value (cell w b 3) ∷ value (cell w b 4) ∷ [])
-
-    go : (c : Bool) → isBad (pick c r bad) ≡ false → Rawly (raw-line w b) (pick c r bad)
-    go true k = record { letters = refl; first-number = refl; lines = λ q. refl }
-    go false k = false-true (sym k)
-
 raw-decode : (w : ℕ) (b : List ℕ) → isBad (decode w b) ≡ false → Rawly (raw-line w b) (decode w b)
-unfolding decode
-raw-decode w b n = go (eqb (getD b (5 * w + 1) 0) 10) (eqb (getD b 0 0) 78) (lettered (getD b 0 0)) refl n
+unfolding raw-line table
+raw-decode w b = go (decoded w b)
   where
-    go : (x y z : Bool) → eqb (getD b 0 0) 78 ≡ y
-        → isBad (pick x (pick y (decodeNamed w b) (pick z (decodeRow w b) bad)) bad) ≡ false
-        → Rawly (raw-line w b) (pick x (pick y (decodeNamed w b) (pick z (decodeRow w b) bad)) bad)
-    go true true z e k = raw-named w b (eqb-true (getD b 0 0) 78 e) k
-    go true false true e k = raw-row w b k
-    go true false false e k = false-true (sym k)
-    go false y z e k = false-true (sym k)
+    go : {l : Line} → Decoded w b l → isBad l ≡ false → Rawly (raw-line w b) l
+    go (as-named n z e p) h = record { letters = z; first-number = rw e; lines = λ q. false-true (sym q) }
+    go (as-row ns z l k e) h =
+        let v : (i : ℕ) → i < 5 → value (cell w b i) ≡ getD ns i 0 = λ i j. ap value (e i j) in
+        let r : raw-line w b ≡ row (getD b 0 0) ns =
+        rw (v 0 (omega arith), v 1 (omega arith), v 2 (omega arith), v 3 (omega arith), v 4 (omega arith)) (ap (row (getD b 0 0)) (five-numbers ns k)) in
+        record { letters = refl; first-number = v 0 (omega arith); lines = λ q. r }
+    go as-bad h = false-true (sym h)
 
 -- of a line that is not bad, letter and first number are the raw ones, and all of it unless it is an N line
 pub raw-rawly : (w : ℕ) (b : List ℕ) (i : ℕ) → isBad (line w b i) ≡ false → Rawly (raw w b i) (line w b i)

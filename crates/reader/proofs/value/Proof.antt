@@ -4,7 +4,7 @@ use native.Mathlib.Omega.{arith}
 use mathlib.Core.Logic.{⊎-elim}
 use lib.ListN.{getD}
 use Rattle.sheet.specs.Sheet.{line, lineAt}
-use Rattle.lines.specs.ShapeLaws.{number-named, number-over}
+use Rattle.sheet.specs.LineLaws.{number-named, number-over}
 use Rattle.sheet.specs.SheetLaws.{line-past}
 use Rattle.reader.specs.AccessLaws.{value-good}
 use borrow.Author.Needs.{needs}
