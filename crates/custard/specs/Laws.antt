@@ -1,3 +1,4 @@
+pub mod Lists
 pub mod Names
 pub mod Cty
 pub mod Rounds

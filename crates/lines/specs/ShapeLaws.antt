@@ -1,55 +1,25 @@
--- What a line is by its bytes, of any number and of any width.
+-- The shape of a line by its bytes: its text, its numbers and its letter, for any width.
 -- Assumes nothing.
-use mathlib.Core.Path.{_≡_, refl, ap, sym, _∙_}
+use mathlib.Core.Path.{_≡_, refl}
 use mathlib.Core.List.{List, [], _∷_}
 use mathlib.Core.Bool.{Bool, true, false, _&&_, and-false}
 use mathlib.Core.Logic.{_⊎_, inl, inr}
-use Prim.Native.Nat.{ℕ, zero, suc, _+_, _*_, _^_, _≤_, _<_}
-use native.Mathlib.Nat.{lt-of-lt-of-le, pow-le-pow-right}
+use Prim.Native.Nat.{ℕ, zero, suc, _+_, _*_, _≤_, _<_}
 use native.Mathlib.Omega.{arith}
-use lib.Dec.{eqb, ltb, leb}
-use lib.ListN.{length, getD, take, drop, length-take, List·getD-eq-default}
-use lib.Seq.{drop-cons, take-take}
-use borrow.Author.Tests.{eq-eqb, ne-eqb, eqb-true, eqb-false, ltb-true, ltb-false, leb-false}
+use lib.Dec.{eqb, leb}
+use lib.ListN.{length, getD, take, drop}
+use lib.Seq.{drop-cons}
+use borrow.Author.Tests.{eq-eqb, ne-eqb, eqb-true, eqb-false, leb-false}
 use Rattle.columns.specs.declared.Number.{Number}
 use Rattle.columns.specs.declared.Number.the-variants.{Value, Bad}
 use Rattle.columns.specs.Column.{pick}
-use Rattle.columns.specs.ColumnLaws.{write-read, ten-pos}
-use Rattle.sheet.specs.Format.{lineBytes, textBytes}
-use Rattle.sheet.specs.Line.{Line, named, row, bad, graphic, spelling, spaces, proper, lettered, cell, isValue, value, decode, decodeNamed, decodeRow, letter, number, isBad}
-use Rattle.sheet.specs.Sheet.{textOf}
+use Rattle.sheet.specs.Format.{textBytes}
+use Rattle.sheet.specs.Line.{named, bad, graphic, spelling, spaces, proper, lettered, cell, isValue, value, decode, decodeNamed, decodeRow}
+use Rattle.sheet.specs.LineLaws.{lettered-other}
 use Rattle.lines.specs.declared.Shape.the-variants.{Named, Row, Bad as NoLine}
 use Rattle.lines.specs.Shape.{shapeOf, textLength, namedShape}
 
-false-not-true : false ≡ true → ⊥
-false-not-true e = let z : _≡_ {A = ℕ} 0 1 = cc in omega arith
-
--- ---- too few bytes
-pub decode-short : (w : ℕ) (b : List ℕ) → length b < lineBytes w → decode w b ≡ bad
-unfolding decode
-decode-short w b h =
-    let e : getD b (5 * w + 1) 0 ≡ 0 = List·getD-eq-default b 0 (omega arith) in
-    rw e
-
 -- ---- the text of a name
-pub spelling-le : (t : List ℕ) → length (spelling t) ≤ length t
-unfolding spelling
-spelling-le [] = omega arith
-spelling-le (b ∷ t) = go (graphic b) (spelling-le t)
-  where
-    go : (g : Bool) → length (spelling t) ≤ length t → length (pick g (b ∷ spelling t) []) ≤ suc (length t)
-    go true h = omega arith
-    go false h = omega arith
-
-pub spelling-take : (t : List ℕ) → spelling t ≡ take (length (spelling t)) t
-unfolding spelling
-spelling-take [] = refl
-spelling-take (b ∷ t) = go (graphic b) (spelling-take t)
-  where
-    go : (g : Bool) → spelling t ≡ take (length (spelling t)) t → pick g (b ∷ spelling t) [] ≡ take (length (pick g (b ∷ spelling t) [])) (b ∷ t)
-    go true h = ap (λ (l : List ℕ). b ∷ l) h
-    go false h = refl
-
 -- at each byte, for a loop
 pub spelling-here : (t : List ℕ) (i : ℕ) → i < length t → length (spelling (drop i t)) ≡ pick (graphic (getD t i 0)) (suc (length (spelling (drop (suc i) t)))) 0
 unfolding spelling
@@ -162,168 +132,9 @@ module _ (w : ℕ) (b : List ℕ) where
   decode-named h e = rw (eq-eqb _ 10 h, eq-eqb _ 78 e)
 
   pub decode-row : getD b (5 * w + 1) 0 ≡ 10 → lettered (getD b 0 0) ≡ true → decode w b ≡ decodeRow w b
-  unfolding decode lettered
-  decode-row h l = rw (eq-eqb _ 10 h, ne-eqb (getD b 0 0) 78 (λ e. (let z : _≡_ {A = Bool} false true = rw e at l in absurd (false-not-true z))), l)
+  unfolding decode
+  decode-row h l = rw (eq-eqb _ 10 h, lettered-other (getD b 0 0) l, l)
 
   pub decode-unknown : getD b (5 * w + 1) 0 ≡ 10 → (getD b 0 0 ≡ 78 → ⊥) → lettered (getD b 0 0) ≡ false → decode w b ≡ bad
   unfolding decode
   decode-unknown h e l = rw (eq-eqb _ 10 h, ne-eqb _ 78 e, l)
-
--- ---- what a line is, by its bytes
--- An N line, a line of five numbers each of which its columns hold, or no line.
-pub data Decoded (w : ℕ) (b : List ℕ) : Line → Type 0 where
-  as-named : (n : ℕ) → getD b 0 0 ≡ 78 → cell w b 0 ≡ Value n → proper (take (textBytes w) (drop (1 + w) b)) ≡ true
-      → Decoded w b (named n (spelling (take (textBytes w) (drop (1 + w) b))))
-  as-row : (ns : List ℕ) → (getD b 0 0 ≡ 78 → ⊥) → lettered (getD b 0 0) ≡ true → length ns ≡ 5 → ((k : ℕ) → k < 5 → cell w b k ≡ Value (getD ns k 0))
-      → Decoded w b (row (getD b 0 0) ns)
-  as-bad : Decoded w b bad
-
-and-left : (a b : Bool) → a && b ≡ true → a ≡ true
-and-left true b h = refl
-and-left false b h = h
-
-and-right : (a b : Bool) → a && b ≡ true → b ≡ true
-and-right true b h = h
-and-right false b h = let z : _≡_ {A = ℕ} 0 1 = cc in absurd (omega arith)
-
-value-is : (c : Number) → isValue c ≡ true → c ≡ Value (value c)
-value-is (Value n) h = refl
-value-is Bad h = let z : _≡_ {A = ℕ} 0 1 = cc in absurd (omega arith)
-
-decoded-row : (w : ℕ) (b : List ℕ) → (getD b 0 0 ≡ 78 → ⊥) → lettered (getD b 0 0) ≡ true → Decoded w b (decodeRow w b)
-unfolding decodeRow
-decoded-row w b z l = go (v 0 && v 1 && v 2 && v 3 && v 4) refl
-  where
-    v : ℕ → Bool
-    v k = isValue (cell w b k)
-
-    ns : List ℕ
-    ns = value (cell w b 0) ∷ value (cell w b 1) ∷ value (cell w b 2) ∷ value (cell w b 3) ∷ value (cell w b 4) ∷ []
-
-    each : v 0 && v 1 && v 2 && v 3 && v 4 ≡ true → (k : ℕ) → k < 5 → cell w b k ≡ Value (getD ns k 0)
-    each h zero k = value-is _ (and-left _ _ (and-left _ _ (and-left _ _ (and-left _ _ h))))
-    each h (suc zero) k = value-is _ (and-right (v 0) (v 1) (and-left _ _ (and-left _ _ (and-left _ _ h))))
-    each h (suc (suc zero)) k = value-is _ (and-right (v 0 && v 1) (v 2) (and-left _ _ (and-left _ _ h)))
-    each h (suc (suc (suc zero))) k = value-is _ (and-right (v 0 && v 1 && v 2) (v 3) (and-left _ _ h))
-    each h (suc (suc (suc (suc zero)))) k = value-is _ (and-right (v 0 && v 1 && v 2 && v 3) (v 4) h)
-    each h (suc (suc (suc (suc (suc k))))) q = absurd (omega arith)
-
-    go : (q : Bool) → v 0 && v 1 && v 2 && v 3 && v 4 ≡ q → Decoded w b (pick q (row (getD b 0 0) ns) bad)
-    go true h = as-row ns z l refl (each h)
-    go false h = as-bad
-
-decoded-named : (w : ℕ) (b : List ℕ) → getD b 0 0 ≡ 78 → Decoded w b (decodeNamed w b)
-unfolding decodeNamed
-decoded-named w b z = go (cell w b 0) refl (proper t) refl
-  where
-    t : List ℕ
-    t = take (textBytes w) (drop (1 + w) b)
-
-    go : (c : Number) → cell w b 0 ≡ c → (q : Bool) → proper t ≡ q → Decoded w b (pick (isValue c && q) (named (value c) (spelling t)) bad)
-    go (Value n) e true p = as-named n z e p
-    go (Value n) e false p = as-bad
-    go Bad e q p = as-bad
-
-pub decoded : (w : ℕ) (b : List ℕ) → Decoded w b (decode w b)
-unfolding decode
-decoded w b = last (eqb (getD b (5 * w + 1) 0) 10)
-  where
-    other : (getD b 0 0 ≡ 78 → ⊥) → (q : Bool) → lettered (getD b 0 0) ≡ q → Decoded w b (pick q (decodeRow w b) bad)
-    other z true l = decoded-row w b z l
-    other z false l = as-bad
-
-    start : (q : Bool) → eqb (getD b 0 0) 78 ≡ q → Decoded w b (pick q (decodeNamed w b) (pick (lettered (getD b 0 0)) (decodeRow w b) bad))
-    start true h = decoded-named w b (eqb-true _ _ h)
-    start false h = other (eqb-false _ _ h) (lettered (getD b 0 0)) refl
-
-    last : (q : Bool) → Decoded w b (pick q (pick (eqb (getD b 0 0) 78) (decodeNamed w b) (pick (lettered (getD b 0 0)) (decodeRow w b) bad)) bad)
-    last true = start (eqb (getD b 0 0) 78) refl
-    last false = as-bad
-
--- ---- the text of a name is a part of its line
-spelling-part : (m : ℕ) (d : List ℕ) → spelling (take m d) ≡ take (length (spelling (take m d))) d
-spelling-part m d =
-    let h : length (spelling (take m d)) ≤ m = omega (arith, spelling-le (take m d), length-take m d) in
-    spelling-take (take m d) ∙ take-take _ m d h
-
-pub textOf-part : (w n : ℕ) (b : List ℕ) → textOf n (decode w b) ≡ take (length (textOf n (decode w b))) (drop (1 + w) b)
-textOf-part w n b = go (decoded w b)
-  where
-    one : (q : Bool) → pick q (spelling (take (textBytes w) (drop (1 + w) b))) [] ≡ take (length (pick q (spelling (take (textBytes w) (drop (1 + w) b))) [])) (drop (1 + w) b)
-    one true = spelling-part (textBytes w) (drop (1 + w) b)
-    one false = refl
-
-    go : {l : Line} → Decoded w b l → textOf n l ≡ take (length (textOf n l)) (drop (1 + w) b)
-    go (as-named m z e p) = one (eqb m n)
-    go (as-row ns z l k e) = refl
-    go as-bad = refl
-
-pub textOf-le : (w n : ℕ) (b : List ℕ) → length (textOf n (decode w b)) ≤ textBytes w
-textOf-le w n b = go (decoded w b)
-  where
-    t : List ℕ
-    t = take (textBytes w) (drop (1 + w) b)
-
-    one : (q : Bool) → length (pick q (spelling t) []) ≤ textBytes w
-    one true = omega (arith, spelling-le t, length-take (textBytes w) (drop (1 + w) b))
-    one false = omega arith
-
-    go : {l : Line} → Decoded w b l → length (textOf n l) ≤ textBytes w
-    go (as-named m z e p) = one (eqb m n)
-    go (as-row ns z l k e) = omega arith
-    go as-bad = omega arith
-
--- ---- lines that are not bad
-pub letter-decode : (w : ℕ) (b : List ℕ) → isBad (decode w b) ≡ false → letter (decode w b) ≡ getD b 0 0
-letter-decode w b = go (decoded w b)
-  where
-    go : {l : Line} → Decoded w b l → isBad l ≡ false → letter l ≡ getD b 0 0
-    go (as-named n z e p) h = sym z
-    go (as-row ns z l k e) h = refl
-    go as-bad h = let z : _≡_ {A = ℕ} 0 1 = cc in absurd (omega arith)
-
--- a number by its columns; of an N line only the first is one
-pub number-decode : (w : ℕ) (b : List ℕ) (k : ℕ) → isBad (decode w b) ≡ false → k < 5 → (getD b 0 0 ≡ 78 → k ≡ 0) → cell w b k ≡ Value (number (decode w b) k)
-number-decode w b k = go (decoded w b)
-  where
-    go : {l : Line} → Decoded w b l → isBad l ≡ false → k < 5 → (getD b 0 0 ≡ 78 → k ≡ 0) → cell w b k ≡ Value (number l k)
-    go (as-named n z e p) h q o = rw (o z) e
-    go (as-row ns z l g e) h q o = e k q
-    go as-bad h q o = let z : _≡_ {A = ℕ} 0 1 = cc in absurd (omega arith)
-
--- and any other is 0
-pub number-named : (w : ℕ) (b : List ℕ) (k : ℕ) → getD b 0 0 ≡ 78 → 0 < k → number (decode w b) k ≡ 0
-number-named w b k = go (decoded w b)
-  where
-    go : {l : Line} → Decoded w b l → getD b 0 0 ≡ 78 → 0 < k → number l k ≡ 0
-    go (as-named n z e p) h q = List·getD-eq-default (n ∷ []) 0 {n = k} (omega arith)
-    go (as-row ns z l g e) h q = absurd (z h)
-    go as-bad h q = refl
-
-pub number-over : (w : ℕ) (b : List ℕ) (k : ℕ) → 5 ≤ k → number (decode w b) k ≡ 0
-number-over w b k = go (decoded w b)
-  where
-    go : {l : Line} → Decoded w b l → 5 ≤ k → number l k ≡ 0
-    go (as-named n z e p) q = List·getD-eq-default (n ∷ []) 0 {n = k} (omega arith)
-    go (as-row ns z l g e) q = List·getD-eq-default ns 0 {n = k} (omega arith)
-    go as-bad q = refl
-
--- every number fits its columns
-cell-below : (w : ℕ) (b : List ℕ) (k n : ℕ) → cell w b k ≡ Value n → n < 10 ^ w
-unfolding cell
-cell-below w b k n e =
-    let d = drop (1 + k * w) b in
-    lt-of-lt-of-le (write-read (take w d) n e .1) (pow-le-pow-right (omega arith) (omega (arith, length-take w d)))
-
-pub number-below : (w : ℕ) (b : List ℕ) (k : ℕ) → number (decode w b) k < 10 ^ w
-number-below w b k = go k (decoded w b)
-  where
-    go : (k : ℕ) {l : Line} → Decoded w b l → number l k < 10 ^ w
-    go zero (as-named n z e p) = cell-below w b 0 n e
-    go (suc k) (as-named n z e p) = ten-pos w
-    go k (as-row ns z l g e) = each (ltb k 5) refl
-      where
-        each : (q : Bool) → ltb k 5 ≡ q → getD ns k 0 < 10 ^ w
-        each true h = cell-below w b k (getD ns k 0) (e k (ltb-true k 5 h))
-        each false h = rw (List·getD-eq-default ns 0 {n = k} (omega (arith, ltb-false k 5 h))) (ten-pos w)
-    go k as-bad = ten-pos w

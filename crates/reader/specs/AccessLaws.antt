@@ -3,46 +3,22 @@
 use mathlib.Core.Path.{_≡_, refl, sym, _∙_}
 use mathlib.Core.List.{List, []}
 use mathlib.Core.Bool.{Bool, true, false}
-use Prim.Native.Nat.{ℕ, suc, _+_, _*_, _^_, _≤_, _<_}
-use native.Mathlib.Nat.{le-div-iff-mul-le, div-lt-iff-lt-mul, mul-comm, suc-mul}
+use Prim.Native.Nat.{ℕ, _+_, _^_, _≤_, _<_}
 use native.Mathlib.Omega.{arith}
 use lib.Dec.{eqb}
-use lib.ListN.{length, getD, take, drop, length-take, length-drop}
+use lib.ListN.{length, getD, take, drop}
 use borrow.Author.Tests.{lt-ltb}
 use Rattle.columns.specs.Column.{pick}
-use Rattle.sheet.specs.Format.{lineBytes, textBytes}
+use Rattle.sheet.specs.Format.{textBytes}
 use Rattle.sheet.specs.Line.{Line, named, row, bad, cell, value, decode, letter, number, isBad}
 use Rattle.sheet.specs.Sheet.{count, lineAt, line, row2, textOf, nameText}
+use Rattle.sheet.specs.LineLaws.{letter-decode, number-decode, number-below}
+use Rattle.sheet.specs.SheetLaws.{textOf-part, textOf-le}
+use Rattle.sheet.specs.FirstLaws.{first-le, none-first}
+use Rattle.lines.specs.Shape.{shapeOf}
 use Rattle.reader.specs.declared.Letter.the-variants.{Byte}
 use Rattle.reader.specs.declared.Cell.the-variants.{Value as Held}
 use Rattle.reader.specs.Access.{letterAt, cellAt, isNone, spelledIn}
-use Rattle.lines.specs.Shape.{shapeOf}
-use Rattle.lines.specs.ShapeLaws.{decode-short, letter-decode, number-decode, number-below, textOf-part, textOf-le}
-use Rattle.reader.specs.FirstLaws.{first-le, first-clear}
-
--- ---- whole lines
-pub line-inside : (w : ℕ) (b : List ℕ) (i : ℕ) → i < count w b → lineBytes w * i + lineBytes w ≤ length b
-line-inside w b i h =
-    let k : suc i * lineBytes w ≤ length b = le-div-iff-mul-le {k = lineBytes w} (omega arith) .0 h in
-    let e : suc i * lineBytes w ≡ i * lineBytes w + lineBytes w = suc-mul i (lineBytes w) in
-    let c : lineBytes w * i ≡ i * lineBytes w = mul-comm (lineBytes w) i in
-    rw (c, ← e) k
-
-pub line-outside : (w : ℕ) (b : List ℕ) (i : ℕ) → count w b ≤ i → length b < lineBytes w * i + lineBytes w
-line-outside w b i h =
-    let k : length b < suc i * lineBytes w = div-lt-iff-lt-mul {k = lineBytes w} (omega arith) .0 (omega arith) in
-    let e : suc i * lineBytes w ≡ i * lineBytes w + lineBytes w = suc-mul i (lineBytes w) in
-    let c : lineBytes w * i ≡ i * lineBytes w = mul-comm (lineBytes w) i in
-    rw (c, ← e) k
-
-pub lineAt-length : (w : ℕ) (b : List ℕ) (i : ℕ) → i < count w b → length (lineAt w b i) ≡ lineBytes w
-unfolding lineAt
-lineAt-length w b i h = simp (length-take, length-drop) (omega (arith, line-inside w b i h))
-
--- ---- past the end
-pub line-past : (w : ℕ) (b : List ℕ) (i : ℕ) → count w b ≤ i → line w b i ≡ bad
-unfolding line lineAt
-line-past w b i h = decode-short w (lineAt w b i) (simp (length-take, length-drop) (omega (arith, line-outside w b i h)))
 
 -- ---- shapes
 pub isBad-shape : (l : Line) → isBad l ≡ isNone (shapeOf l)
@@ -93,7 +69,7 @@ number-fits w b i k = number-below w (lineAt w b i) k
 module _ (w : ℕ) (b : List ℕ) (good : row2 w b ≡ count w b) where
   pub line-good : (i : ℕ) → i < count w b → isBad (line w b i) ≡ false
   unfolding row2
-  line-good i h = first-clear (λ i. isBad (line w b i)) (count w b) good i h
+  line-good i h = none-first (λ i. isBad (line w b i)) (count w b) good i h
 
   pub letterAt-good : (i : ℕ) → i < count w b → letterAt w b i ≡ Byte (letter (line w b i))
   unfolding letterAt line

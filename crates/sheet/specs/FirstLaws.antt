@@ -2,20 +2,19 @@
 -- Assumes nothing.
 use mathlib.Core.Path.{_≡_, refl, _∙_}
 use mathlib.Core.Bool.{Bool, true, false}
-use Prim.Native.Nat.{ℕ, zero, suc, _≤_, _<_, min}
+use Prim.Native.Nat.{ℕ, zero, suc, _+_, _≤_, _<_, min}
+use native.Mathlib.Numerals.{add-one}
 use native.Mathlib.Omega.{arith}
 use lib.Dec.{ltb}
-use borrow.Author.Tests.{ltb-true, ltb-false}
+use borrow.Author.Tests.{le-ltb, ltb-true, ltb-false}
 use Rattle.sheet.specs.Sheet.{first}
+use Rattle.sheet.specs.ListLaws.{contrary}
 
 -- f is the first number below n at which the test holds, or n where there is none
 pub record Place (p : ℕ → Bool) (n f : ℕ) : Type 0 where
   pub within : f ≤ n
   pub holds : f < n → p f ≡ true
   pub before : (i : ℕ) → i < f → p i ≡ false
-
-true-false : (b : Bool) → b ≡ true → b ≡ false → ⊥
-true-false b t f = let z : _≡_ {A = ℕ} 0 1 = cc in omega arith
 
 -- the first of n + 1 numbers, by the first of n and the test at n
 next : Bool → Bool → ℕ → ℕ → ℕ
@@ -46,9 +45,9 @@ place-unique p n f g a b = go (ltb f g) (ltb g f) refl refl
   where
     go : (s t : Bool) → ltb f g ≡ s → ltb g f ≡ t → f ≡ g
     go true t d e =
-        let l : f < g = ltb-true f g d in absurd (true-false (p f) (a .holds (omega (arith, b .within))) (b .before f l))
+        let l : f < g = ltb-true f g d in (contrary (p f) (a .holds (omega (arith, b .within))) (b .before f l))
     go false true d e =
-        let l : g < f = ltb-true g f e in absurd (true-false (p g) (b .holds (omega (arith, a .within))) (a .before g l))
+        let l : g < f = ltb-true g f e in (contrary (p g) (b .holds (omega (arith, a .within))) (a .before g l))
     go false false d e = omega (arith, ltb-false f g d, ltb-false g f e)
 
 pub first-le : (p : ℕ → Bool) (n : ℕ) → first p n ≤ n
@@ -72,7 +71,7 @@ pub first-le-at : (p : ℕ → Bool) (n i : ℕ) → i < n → p i ≡ true → 
 first-le-at p n i h t = go (ltb i (first p n)) refl
   where
     go : (s : Bool) → ltb i (first p n) ≡ s → first p n ≤ i
-    go true d = absurd (true-false (p i) t (first-before p n i (ltb-true i (first p n) d)))
+    go true d = (contrary (p i) t (first-before p n i (ltb-true i (first p n) d)))
     go false d = ltb-false i (first p n) d
 
 -- tests that agree below n give the same place
@@ -101,3 +100,16 @@ first-prefix p m n h = go (ltb (first p n) m) refl
         let l : m ≤ first p n = ltb-false (first p n) m d in
         let e : first p m ≡ m = first-none p m (λ i j. k .before i (omega arith)) in
         omega arith
+
+-- ---- for a loop
+-- A loop that looks for the place keeps `first p i ≡ i`. A turn: the number is passed.
+pub first-more : (p : ℕ → Bool) (i : ℕ) → first p i ≡ i → p i ≡ false → first p (i + 1) ≡ i + 1
+unfolding next
+first-more p i e h =
+    let k : Place p i i = rw e at (first-place p i) in
+    rw add-one (place-unique p (suc i) (first p (suc i)) (suc i) (first-place p (suc i)) (place-next p i i false false (le-ltb i i (omega arith)) h k))
+
+-- the end: the number is found
+pub first-found : (p : ℕ → Bool) (n i : ℕ) → i < n → first p i ≡ i → p i ≡ true → first p n ≡ i
+first-found p n i h e t =
+    place-unique p n (first p n) i (first-place p n) (record { within = omega arith; holds = λ _. t; before = none-first p i e })

@@ -1,21 +1,23 @@
--- A line whose numbers and text fit their columns is what its bytes decode to, and bytes that decode to a line are its encoding,
--- for any number of columns. Assumes nothing.
+-- A line whose numbers and text fit their columns is what its bytes decode to, bytes that decode to a line are its encoding, and
+-- what a line is by its bytes: for any number of columns. Assumes nothing.
 use mathlib.Core.Path.{_≡_, refl, ap, ap₂, sym, _∙_}
 use mathlib.Core.List.{List, [], _∷_, _++_, append-assoc, append-nil}
 use mathlib.Core.Bool.{Bool, true, false, _&&_}
 use Prim.Native.Nat.{ℕ, zero, suc, _+_, _*_, _-_, _^_, _≤_, _<_}
 use native.Mathlib.Omega.{arith}
-use native.Mathlib.Nat.{suc-mul, mul-le-mul-right}
-use lib.Dec.{eqb, leb}
-use lib.ListN.{length, take, drop, getD, replicate, length-append, length-drop, length-replicate, take-append-drop, drop-of-length-le, List·getD-eq-default}
+use native.Mathlib.Nat.{suc-mul, mul-le-mul-right, lt-of-lt-of-le, pow-le-pow-right}
+use lib.Dec.{eqb, ltb, leb}
+use lib.ListN.{length, take, drop, getD, replicate, length-append, length-take, length-drop, length-replicate, take-append-drop, drop-of-length-le, List·getD-eq-default}
 use lib.Seq.{take-at, drop-at, getD-at, drop-drop, drop-cons, drop-append-seam, length-take-le}
-use borrow.Author.Tests.{le-leb, eqb-true, leb-true, leb-false}
+use borrow.Author.Tests.{le-leb, eqb-true, eqb-false, ltb-true, ltb-false, leb-true, leb-false}
 use Rattle.columns.specs.declared.Number.{Number}
 use Rattle.columns.specs.declared.Number.the-variants.{Value, Bad}
 use Rattle.columns.specs.Column.{pick, read, write}
-use Rattle.columns.specs.ColumnLaws.{read-write, write-read, write-length}
+use Rattle.columns.specs.ColumnLaws.{read-write, write-read, write-length, ten-pos}
 use Rattle.sheet.specs.Format.{lineBytes, textBytes}
-use Rattle.sheet.specs.Line.{Line, named, row, bad, graphic, spelling, spaces, proper, padded, lettered, cell, isValue, value, decodeNamed, decodeRow, decode, writes, encode, isBad}
+use Rattle.sheet.specs.Line.{Line, named, row, bad, graphic, spelling, spaces, proper, padded, lettered, cell, isValue, value, decodeNamed, decodeRow, decode, writes, encode, letter, number, isBad}
+pub use Rattle.sheet.specs.ListLaws.{both}
+use Rattle.sheet.specs.ListLaws.{false-true, Every, every-at}
 
 -- ---- a line that fits
 -- every byte is one of a name's text
@@ -25,8 +27,7 @@ Graphic (b ∷ t) = (33 ≤ b) × (b ≤ 126) × Graphic t
 
 -- every number is below m
 abbrev pub AllBelow : ℕ → List ℕ → Type 0
-AllBelow m [] = Unit {0}
-AllBelow m (n ∷ ns) = (n < m) × AllBelow m ns
+AllBelow m = Every (λ n. n < m)
 
 -- The numbers fit their w columns and a name's text its part of the line; the letter is one of a line with five numbers.
 abbrev pub Fits : ℕ → Line → Type 0
@@ -35,19 +36,12 @@ Fits w (row x ns) = (lettered x ≡ true) × (length ns ≡ 5) × AllBelow (10 ^
 Fits w bad = ⊥
 
 -- ---- tests
-false-true : {A : Type 0} → false ≡ true → A
-false-true e = let z : _≡_ {A = ℕ} 0 1 = cc in absurd (omega arith)
-
-pub both : (a b : Bool) → (a && b) ≡ true → (a ≡ true) × (b ≡ true)
-both true b e = (refl, e)
-both false b e = false-true e
-
 -- what is not bad was picked
 picked : (c : Bool) (l : Line) → isBad (pick c l bad) ≡ false → c ≡ true
 picked true l e = refl
 picked false l e = false-true (sym e)
 
-value-of : (m : Number) → isValue m ≡ true → m ≡ Value (value m)
+pub value-of : (m : Number) → isValue m ≡ true → m ≡ Value (value m)
 value-of (Value n) e = refl
 value-of Bad e = false-true e
 
@@ -62,7 +56,7 @@ spelling-graphic (b ∷ t) = go (graphic b) refl (spelling-graphic t)
     go false e h = tt
 
 -- the text is its spelling and what comes after
-spelling-split : (t : List ℕ) → spelling t ++ drop (length (spelling t)) t ≡ t
+pub spelling-split : (t : List ℕ) → spelling t ++ drop (length (spelling t)) t ≡ t
 unfolding spelling
 spelling-split [] = refl
 spelling-split (b ∷ t) = go (graphic b) (spelling-split t)
@@ -115,8 +109,13 @@ padded-spelling t e =
     let l : length s ≡ length t - length (spelling t) = length-drop (length (spelling t)) t in
     rw (← l, ← spaces-replicate s (k .1)) (spelling-split t)
 
-spelling-length : (t : List ℕ) → length (spelling t) ≤ length t
-spelling-length t = omega (arith, length-append (spelling t) (drop (length (spelling t)) t), ap length (spelling-split t))
+pub spelling-le : (t : List ℕ) → length (spelling t) ≤ length t
+spelling-le t = omega (arith, length-append (spelling t) (drop (length (spelling t)) t), ap length (spelling-split t))
+
+pub spelling-take : (t : List ℕ) → spelling t ≡ take (length (spelling t)) t
+spelling-take t =
+    let n = length (spelling t) in
+    sym (take-at (spelling t) (drop n t) n refl) ∙ ap (take n) (spelling-split t)
 
 proper-length : (t : List ℕ) → proper t ≡ true → 0 < length (spelling t)
 unfolding proper
@@ -127,19 +126,15 @@ proper-length t e = leb-true 1 (length (spelling t)) (both (leb 1 (length (spell
 abbrev values : ℕ → List ℕ → List ℕ
 values w b = value (cell w b 0) ∷ value (cell w b 1) ∷ value (cell w b 2) ∷ value (cell w b 3) ∷ value (cell w b 4) ∷ []
 
-five : (ns : List ℕ) → length ns ≡ 5 → getD ns 0 0 ∷ getD ns 1 0 ∷ getD ns 2 0 ∷ getD ns 3 0 ∷ getD ns 4 0 ∷ [] ≡ ns
-five [] h = absurd (omega arith)
-five (a ∷ []) h = absurd (omega arith)
-five (a ∷ b ∷ []) h = absurd (omega arith)
-five (a ∷ b ∷ c ∷ []) h = absurd (omega arith)
-five (a ∷ b ∷ c ∷ d ∷ []) h = absurd (omega arith)
-five (a ∷ b ∷ c ∷ d ∷ e ∷ []) h = refl
-five (a ∷ b ∷ c ∷ d ∷ e ∷ f ∷ ns) h = absurd (omega arith)
-
-below-at : (m : ℕ) (ns : List ℕ) (k : ℕ) → AllBelow m ns → k < length ns → getD ns k 0 < m
-below-at m [] k h l = absurd (omega arith)
-below-at m (n ∷ ns) zero h l = h .0
-below-at m (n ∷ ns) (suc k) h l = below-at m ns k (h .1) (omega arith)
+-- a list of five by its members
+pub five-numbers : (ns : List ℕ) → length ns ≡ 5 → getD ns 0 0 ∷ getD ns 1 0 ∷ getD ns 2 0 ∷ getD ns 3 0 ∷ getD ns 4 0 ∷ [] ≡ ns
+five-numbers [] h = absurd (omega arith)
+five-numbers (a ∷ []) h = absurd (omega arith)
+five-numbers (a ∷ b ∷ []) h = absurd (omega arith)
+five-numbers (a ∷ b ∷ c ∷ []) h = absurd (omega arith)
+five-numbers (a ∷ b ∷ c ∷ d ∷ []) h = absurd (omega arith)
+five-numbers (a ∷ b ∷ c ∷ d ∷ e ∷ []) h = refl
+five-numbers (a ∷ b ∷ c ∷ d ∷ e ∷ f ∷ ns) h = absurd (omega arith)
 
 pub length-writes : (w : ℕ) (ns : List ℕ) → length (writes w ns) ≡ length ns * w
 unfolding writes
@@ -170,9 +165,9 @@ cell-writes : (w x : ℕ) (ns r : List ℕ) (k : ℕ) → 0 < w → AllBelow (10
 unfolding cell
 cell-writes w x ns r k z h l =
     let e : 1 + k * w ≡ suc (k * w) = omega arith in
-    rw (e, writes-at w ns r k l) (read-written w (getD ns k 0) z (below-at (10 ^ w) ns k h l))
+    rw (e, writes-at w ns r k l) (read-written w (getD ns k 0) z (every-at (λ n. n < 10 ^ w) 0 ns h k l))
 
-lettered-other : (x : ℕ) → lettered x ≡ true → eqb x 78 ≡ false
+pub lettered-other : (x : ℕ) → lettered x ≡ true → eqb x 78 ≡ false
 unfolding lettered
 lettered-other x h = go (eqb x 78) refl
   where
@@ -206,7 +201,7 @@ unfolding decode decodeRow
 decoded-row w b ns e x l c =
     rw
     (e, lettered-other (getD b 0 0) x, x, c 0 (omega arith), c 1 (omega arith), c 2 (omega arith), c 3 (omega arith), c 4 (omega arith))
-    (ap (row (getD b 0 0)) (five ns l))
+    (ap (row (getD b 0 0)) (five-numbers ns l))
 
 pub decode-encode : (w : ℕ) (l : Line) → 0 < w → Fits w l → decode w (encode w l) ≡ l
 unfolding encode
@@ -281,7 +276,7 @@ module _ (w : ℕ) (b : List ℕ) (l : lineBytes w ≤ length b) where
       let rest : drop (1 + w) b ≡ padded (textBytes w) (spelling t) ++ (10 ∷ drop (lineBytes w) b) =
       cut (textBytes w) (1 + w) b ∙ ap₂ (λ (r s : List ℕ). r ++ s) (sym pt) (rw d (last-byte e)) in
       rw (k .0, k .1) (
-        (cell-written 0 (omega arith) (k .0) .1, proper-length t (k .1), rw lt at (spelling-length t), spelling-graphic t),
+        (cell-written 0 (omega arith) (k .0) .1, proper-length t (k .1), rw lt at (spelling-le t), spelling-graphic t),
         sym
             (first-byte
             ∙ ap₂ (λ (y : ℕ) (s : List ℕ). y ∷ s) x
@@ -310,16 +305,16 @@ module _ (w : ℕ) (b : List ℕ) (l : lineBytes w ≤ length b) where
   unfolding decode
   round-long n = last (eqb (getD b (5 * w + 1) 0) 10) refl n
     where
-      letter : (c d : Bool) → getD b (5 * w + 1) 0 ≡ 10 → eqb (getD b 0 0) 78 ≡ c → lettered (getD b 0 0) ≡ d →
+      by-letter : (c d : Bool) → getD b (5 * w + 1) 0 ≡ 10 → eqb (getD b 0 0) 78 ≡ c → lettered (getD b 0 0) ≡ d →
           isBad (pick c (decodeNamed w b) (pick d (decodeRow w b) bad)) ≡ false → Round w b (pick c (decodeNamed w b) (pick d (decodeRow w b) bad))
-      letter true d e x y m = named-round e (eqb-true (getD b 0 0) 78 x) m
-      letter false true e x y m = row-round e y m
-      letter false false e x y m = false-true (sym m)
+      by-letter true d e x y m = named-round e (eqb-true (getD b 0 0) 78 x) m
+      by-letter false true e x y m = row-round e y m
+      by-letter false false e x y m = false-true (sym m)
 
       last : (c : Bool) → eqb (getD b (5 * w + 1) 0) 10 ≡ c →
           isBad (pick c (pick (eqb (getD b 0 0) 78) (decodeNamed w b) (pick (lettered (getD b 0 0)) (decodeRow w b) bad)) bad) ≡ false →
           Round w b (pick c (pick (eqb (getD b 0 0) 78) (decodeNamed w b) (pick (lettered (getD b 0 0)) (decodeRow w b) bad)) bad)
-      last true e m = letter (eqb (getD b 0 0) 78) (lettered (getD b 0 0)) (eqb-true (getD b (5 * w + 1) 0) 10 e) refl refl m
+      last true e m = by-letter (eqb (getD b 0 0) 78) (lettered (getD b 0 0)) (eqb-true (getD b (5 * w + 1) 0) 10 e) refl refl m
       last false e m = false-true (sym m)
 
 -- too few bytes are no line
@@ -341,3 +336,117 @@ encode-decode w b l n =
 
 pub decode-fits : (w : ℕ) (b : List ℕ) → isBad (decode w b) ≡ false → Fits w (decode w b)
 decode-fits w b n = round-long w b (decode-long w b n) n .0
+
+-- ---- what a line is, by its bytes
+-- An N line, a line of five numbers each of which its columns hold, or no line.
+pub data Decoded (w : ℕ) (b : List ℕ) : Line → Type 0 where
+  as-named : (n : ℕ) → getD b 0 0 ≡ 78 → cell w b 0 ≡ Value n → proper (take (textBytes w) (drop (1 + w) b)) ≡ true
+      → Decoded w b (named n (spelling (take (textBytes w) (drop (1 + w) b))))
+  as-row : (ns : List ℕ) → (getD b 0 0 ≡ 78 → ⊥) → lettered (getD b 0 0) ≡ true → length ns ≡ 5 → ((k : ℕ) → k < 5 → cell w b k ≡ Value (getD ns k 0))
+      → Decoded w b (row (getD b 0 0) ns)
+  as-bad : Decoded w b bad
+
+row-decoded : (w : ℕ) (b : List ℕ) → (getD b 0 0 ≡ 78 → ⊥) → lettered (getD b 0 0) ≡ true → Decoded w b (decodeRow w b)
+unfolding decodeRow
+row-decoded w b z l = go (v 0 && v 1 && v 2 && v 3 && v 4) refl
+  where
+    v : ℕ → Bool
+    v k = isValue (cell w b k)
+
+    ns : List ℕ
+    ns = value (cell w b 0) ∷ value (cell w b 1) ∷ value (cell w b 2) ∷ value (cell w b 3) ∷ value (cell w b 4) ∷ []
+
+    each : v 0 && v 1 && v 2 && v 3 && v 4 ≡ true → (k : ℕ) → k < 5 → cell w b k ≡ Value (getD ns k 0)
+    each h zero k = value-of _ (both _ _ (both _ _ (both _ _ (both _ _ h .0) .0) .0) .0)
+    each h (suc zero) k = value-of _ (both (v 0) (v 1) (both _ _ (both _ _ (both _ _ h .0) .0) .0) .1)
+    each h (suc (suc zero)) k = value-of _ (both (v 0 && v 1) (v 2) (both _ _ (both _ _ h .0) .0) .1)
+    each h (suc (suc (suc zero))) k = value-of _ (both (v 0 && v 1 && v 2) (v 3) (both _ _ h .0) .1)
+    each h (suc (suc (suc (suc zero)))) k = value-of _ (both (v 0 && v 1 && v 2 && v 3) (v 4) h .1)
+    each h (suc (suc (suc (suc (suc k))))) q = absurd (omega arith)
+
+    go : (q : Bool) → v 0 && v 1 && v 2 && v 3 && v 4 ≡ q → Decoded w b (pick q (row (getD b 0 0) ns) bad)
+    go true h = as-row ns z l refl (each h)
+    go false h = as-bad
+
+named-decoded : (w : ℕ) (b : List ℕ) → getD b 0 0 ≡ 78 → Decoded w b (decodeNamed w b)
+unfolding decodeNamed
+named-decoded w b z = go (cell w b 0) refl (proper t) refl
+  where
+    t : List ℕ
+    t = take (textBytes w) (drop (1 + w) b)
+
+    go : (c : Number) → cell w b 0 ≡ c → (q : Bool) → proper t ≡ q → Decoded w b (pick (isValue c && q) (named (value c) (spelling t)) bad)
+    go (Value n) e true p = as-named n z e p
+    go (Value n) e false p = as-bad
+    go Bad e q p = as-bad
+
+pub decoded : (w : ℕ) (b : List ℕ) → Decoded w b (decode w b)
+unfolding decode
+decoded w b = last (eqb (getD b (5 * w + 1) 0) 10)
+  where
+    other : (getD b 0 0 ≡ 78 → ⊥) → (q : Bool) → lettered (getD b 0 0) ≡ q → Decoded w b (pick q (decodeRow w b) bad)
+    other z true l = row-decoded w b z l
+    other z false l = as-bad
+
+    start : (q : Bool) → eqb (getD b 0 0) 78 ≡ q → Decoded w b (pick q (decodeNamed w b) (pick (lettered (getD b 0 0)) (decodeRow w b) bad))
+    start true h = named-decoded w b (eqb-true _ _ h)
+    start false h = other (eqb-false _ _ h) (lettered (getD b 0 0)) refl
+
+    last : (q : Bool) → Decoded w b (pick q (pick (eqb (getD b 0 0) 78) (decodeNamed w b) (pick (lettered (getD b 0 0)) (decodeRow w b) bad)) bad)
+    last true = start (eqb (getD b 0 0) 78) refl
+    last false = as-bad
+
+-- ---- lines that are not bad
+pub letter-decode : (w : ℕ) (b : List ℕ) → isBad (decode w b) ≡ false → letter (decode w b) ≡ getD b 0 0
+letter-decode w b = go (decoded w b)
+  where
+    go : {l : Line} → Decoded w b l → isBad l ≡ false → letter l ≡ getD b 0 0
+    go (as-named n z e p) h = sym z
+    go (as-row ns z l k e) h = refl
+    go as-bad h = false-true (sym h)
+
+-- a number by its columns; of an N line only the first is one
+pub number-decode : (w : ℕ) (b : List ℕ) (k : ℕ) → isBad (decode w b) ≡ false → k < 5 → (getD b 0 0 ≡ 78 → k ≡ 0) → cell w b k ≡ Value (number (decode w b) k)
+number-decode w b k = go (decoded w b)
+  where
+    go : {l : Line} → Decoded w b l → isBad l ≡ false → k < 5 → (getD b 0 0 ≡ 78 → k ≡ 0) → cell w b k ≡ Value (number l k)
+    go (as-named n z e p) h q o = rw (o z) e
+    go (as-row ns z l g e) h q o = e k q
+    go as-bad h q o = false-true (sym h)
+
+-- and any other is 0
+pub number-named : (w : ℕ) (b : List ℕ) (k : ℕ) → getD b 0 0 ≡ 78 → 0 < k → number (decode w b) k ≡ 0
+number-named w b k = go (decoded w b)
+  where
+    go : {l : Line} → Decoded w b l → getD b 0 0 ≡ 78 → 0 < k → number l k ≡ 0
+    go (as-named n z e p) h q = List·getD-eq-default (n ∷ []) 0 {n = k} (omega arith)
+    go (as-row ns z l g e) h q = absurd (z h)
+    go as-bad h q = refl
+
+pub number-over : (w : ℕ) (b : List ℕ) (k : ℕ) → 5 ≤ k → number (decode w b) k ≡ 0
+number-over w b k = go (decoded w b)
+  where
+    go : {l : Line} → Decoded w b l → 5 ≤ k → number l k ≡ 0
+    go (as-named n z e p) q = List·getD-eq-default (n ∷ []) 0 {n = k} (omega arith)
+    go (as-row ns z l g e) q = List·getD-eq-default ns 0 {n = k} (omega arith)
+    go as-bad q = refl
+
+-- every number fits its columns
+cell-below : (w : ℕ) (b : List ℕ) (k n : ℕ) → cell w b k ≡ Value n → n < 10 ^ w
+unfolding cell
+cell-below w b k n e =
+    let d = drop (1 + k * w) b in
+    lt-of-lt-of-le (write-read (take w d) n e .1) (pow-le-pow-right (omega arith) (omega (arith, length-take w d)))
+
+pub number-below : (w : ℕ) (b : List ℕ) (k : ℕ) → number (decode w b) k < 10 ^ w
+number-below w b k = go k (decoded w b)
+  where
+    go : (k : ℕ) {l : Line} → Decoded w b l → number l k < 10 ^ w
+    go zero (as-named n z e p) = cell-below w b 0 n e
+    go (suc k) (as-named n z e p) = ten-pos w
+    go k (as-row ns z l g e) = each (ltb k 5) refl
+      where
+        each : (q : Bool) → ltb k 5 ≡ q → getD ns k 0 < 10 ^ w
+        each true h = cell-below w b k (getD ns k 0) (e k (ltb-true k 5 h))
+        each false h = rw (List·getD-eq-default ns 0 {n = k} (omega (arith, ltb-false k 5 h))) (ten-pos w)
+    go k as-bad = ten-pos w

@@ -8,19 +8,19 @@ use native.Mathlib.Numerals.{add-one}
 use native.Mathlib.Nat.{mul-suc, mul-add, mul-comm, zero-div, add-div-left, div-add-mod, mul-div-le, div-lt-iff-lt-mul, mul-le-mul-left, le-trans}
 use lib.Dec.{eqb, ltb}
 use lib.ListN.{length, take, drop, getD, length-append, length-take, length-drop, take-append-drop, List·getD-eq-default}
-use lib.Seq.{take-at, drop-drop, take-append-le, drop-append-le, drop-append-add, length-take-le}
+use lib.Seq.{take-at, take-take, drop-drop, take-append-le, drop-append-le, drop-append-add, length-take-le}
 use borrow.Author.Tests.{eq-eqb, eqb-true, ltb-true, ltb-false}
 use Rattle.columns.specs.Column.{pick}
-use Rattle.sheet.specs.Format.{lineBytes}
-use Rattle.sheet.specs.Line.{Line, named, row, bad, decode, encode, isBad}
+use Rattle.sheet.specs.Format.{lineBytes, textBytes}
+use Rattle.sheet.specs.Line.{Line, named, row, bad, spelling, decode, encode, isBad}
 use Rattle.sheet.specs.Sheet.{lineAt, count, line, linesFrom, lines, encodes, row2, textOf, nameText}
 use Rattle.sheet.specs.FirstLaws.{none-first}
-use Rattle.sheet.specs.LineLaws.{Fits, decode-encode, encode-decode, encode-length, decode-fits, decode-short}
+use Rattle.sheet.specs.LineLaws.{Fits, spelling-take, spelling-le, decode-encode, encode-decode, encode-length, decode-fits, decode-short, Decoded, as-named, as-row, as-bad, decoded}
+use Rattle.sheet.specs.ListLaws.{length-nil, Every, every-append}
 
 -- every line fits
 abbrev pub AllFit : ℕ → List Line → Type 0
-AllFit w [] = Unit {0}
-AllFit w (l ∷ ls) = Fits w l × AllFit w ls
+AllFit w = Every (Fits w)
 
 -- ---- encoding
 pub encodes-append : (w : ℕ) (ls ms : List Line) → encodes w (ls ++ ms) ≡ encodes w ls ++ encodes w ms
@@ -38,10 +38,6 @@ length-encodes w [] h = omega arith
 length-encodes w (l ∷ ls) h = rw (length-append, encode-length w l (h .0), length-encodes w ls (h .1), mul-suc) (omega arith)
 
 -- ---- the lines of an append
-length-nil : (b : List ℕ) → length b ≡ 0 → b ≡ []
-length-nil [] h = refl
-length-nil (x ∷ b) h = absurd (omega arith)
-
 -- line i of b, where b has it, whatever follows b
 pub lineAt-left : (w : ℕ) (b c : List ℕ) (i : ℕ) → lineBytes w * suc i ≤ length b → lineAt w (b ++ c) i ≡ lineAt w b i
 unfolding lineAt
@@ -106,12 +102,8 @@ lines-encodes w [] z h = rw (zero-div (lineBytes w))
 lines-encodes w (l ∷ ls) z h =
     lines-cons w (encode w l) (encodes w ls) (encode-length w l (h .0)) ∙ rw (decode-encode w l z (h .0), lines-encodes w ls z (h .1))
 
-pub allFit-append : (w : ℕ) (ls ms : List Line) → AllFit w ls → AllFit w ms → AllFit w (ls ++ ms)
-allFit-append w [] ms h k = k
-allFit-append w (l ∷ ls) ms h k = (h .0, allFit-append w ls ms (h .1) k)
-
 pub lines-encodes-append : (w : ℕ) (ls ms : List Line) → 0 < w → AllFit w ls → AllFit w ms → lines w (encodes w ls ++ encodes w ms) ≡ ls ++ ms
-lines-encodes-append w ls ms z h k = rw (← encodes-append w ls ms) (lines-encodes w (ls ++ ms) z (allFit-append w ls ms h k))
+lines-encodes-append w ls ms z h k = rw (← encodes-append w ls ms) (lines-encodes w (ls ++ ms) z (every-append (Fits w) ls ms h k))
 
 -- ---- the lines of a sheet
 pub length-linesFrom : (w : ℕ) (b : List ℕ) (i n : ℕ) → length (linesFrom w b i n) ≡ n
@@ -231,3 +223,36 @@ named-nameText w b n h = rw (nameText-lines w b n) (go (getD (lines w b) n bad) 
 -- the spelling that a run of lines gives
 pub nameText-encodes : (w : ℕ) (ls : List Line) (n : ℕ) → 0 < w → AllFit w ls → nameText w (encodes w ls) n ≡ textOf n (getD ls n bad)
 nameText-encodes w ls n z h = nameText-lines w (encodes w ls) n ∙ rw (lines-encodes w ls z h)
+
+-- ---- the text of a name is a part of its line
+spelling-part : (m : ℕ) (d : List ℕ) → spelling (take m d) ≡ take (length (spelling (take m d))) d
+spelling-part m d =
+    let h : length (spelling (take m d)) ≤ m = omega (arith, spelling-le (take m d), length-take m d) in
+    spelling-take (take m d) ∙ take-take _ m d h
+
+pub textOf-part : (w n : ℕ) (b : List ℕ) → textOf n (decode w b) ≡ take (length (textOf n (decode w b))) (drop (1 + w) b)
+textOf-part w n b = go (decoded w b)
+  where
+    one : (q : Bool) → pick q (spelling (take (textBytes w) (drop (1 + w) b))) [] ≡ take (length (pick q (spelling (take (textBytes w) (drop (1 + w) b))) [])) (drop (1 + w) b)
+    one true = spelling-part (textBytes w) (drop (1 + w) b)
+    one false = refl
+
+    go : {l : Line} → Decoded w b l → textOf n l ≡ take (length (textOf n l)) (drop (1 + w) b)
+    go (as-named m z e p) = one (eqb m n)
+    go (as-row ns z l k e) = refl
+    go as-bad = refl
+
+pub textOf-le : (w n : ℕ) (b : List ℕ) → length (textOf n (decode w b)) ≤ textBytes w
+textOf-le w n b = go (decoded w b)
+  where
+    t : List ℕ
+    t = take (textBytes w) (drop (1 + w) b)
+
+    one : (q : Bool) → length (pick q (spelling t) []) ≤ textBytes w
+    one true = omega (arith, spelling-le t, length-take (textBytes w) (drop (1 + w) b))
+    one false = omega arith
+
+    go : {l : Line} → Decoded w b l → length (textOf n l) ≤ textBytes w
+    go (as-named m z e p) = one (eqb m n)
+    go (as-row ns z l k e) = omega arith
+    go as-bad = omega arith

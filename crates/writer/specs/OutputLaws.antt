@@ -16,6 +16,7 @@ use Rattle.sheet.specs.Line.{Line, row, writes, decode, encode}
 use Rattle.sheet.specs.LineLaws.{Fits, decode-encode, encode-length, length-writes}
 use Rattle.sheet.specs.Sheet.{encodes, lines, count}
 use Rattle.sheet.specs.SheetLaws.{AllFit, encodes-append, encodes-one, within-count, length-lines, lines-cons, lines-append}
+use Rattle.sheet.specs.ListLaws.{Every}
 use Rattle.writer.specs.Output.{putAt, puts}
 
 -- ---- a run of parts
@@ -80,8 +81,7 @@ put-more w n out p q d o h =
 
 -- every line fills its bytes
 abbrev pub Whole : ℕ → List Line → Type 0
-Whole w [] = Unit {0}
-Whole w (l ∷ ls) = (length (encode w l) ≡ lineBytes w) × Whole w ls
+Whole w = Every (λ l. length (encode w l) ≡ lineBytes w)
 
 pub fit-whole : (w : ℕ) (ls : List Line) → AllFit w ls → Whole w ls
 fit-whole w [] h = tt

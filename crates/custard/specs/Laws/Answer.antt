@@ -1,19 +1,20 @@
 -- When a build is accepted, and with which sheets. Assumes nothing.
 use mathlib.Core.Logic.{_↔_}
-use mathlib.Core.Path.{_≡_, refl, sym, _∙_, ap, subst}
+use mathlib.Core.Path.{_≡_, refl, sym, _∙_, ap}
 use mathlib.Core.List.{List, [], _∷_}
-use mathlib.Core.Bool.{Bool, true, false, _&&_, not}
+use mathlib.Core.Bool.{Bool, true, false, not}
 use mathlib.Core.Option.{Option, none, some}
-use Prim.Native.Nat.{ℕ, zero, suc, _≤_, _<_}
+use Prim.Native.Nat.{ℕ, suc, _≤_, _<_}
 use native.Mathlib.Omega.{arith}
 use lib.Dec.{eqb, ltb}
 use lib.ListN.{length}
-use borrow.Author.Tests.{ltb-true, ltb-false, lt-ltb, le-ltb, eq-eqb, ne-eqb, eqb-true, eqb-false, not-true}
+use borrow.Author.Tests.{ltb-true, ltb-false, le-ltb, ne-eqb, eqb-false, not-true}
 use Rattle.columns.specs.Column.{pick}
 use Rattle.sheet.specs.Format.{Format}
 use Rattle.sheet.specs.Line.{Line, isBad}
 use Rattle.sheet.specs.Sheet.{first, count, line, lines, row1}
 use Rattle.sheet.specs.FirstLaws.{first-none, none-first, first-le, first-holds}
+use Rattle.sheet.specs.ListLaws.{Every}
 use Rattle.custard.specs.Run.{layouts-of, decl-fault}
 use Rattle.custard.specs.declared.Refusal.{Refusal}
 use Rattle.custard.specs.declared.Refusal.the-variants.{Accepted, Refused}
@@ -55,8 +56,7 @@ pub record Passes (f : Format) (b : List ℕ) (v l : ℕ) : Type 0 where
 
 -- ---- a list of rows
 abbrev pub AllClear : List Row → Type 0
-AllClear [] = Unit {0}
-AllClear (r ∷ rs) = Clear (r .bound) (r .test) × AllClear rs
+AllClear = Every (λ r. Clear (r .bound) (r .test))
 
 clear-first : (r : Row) → Clear (r .bound) (r .test) → ltb (first (r .test) (r .bound)) (r .bound) ≡ false
 clear-first r h = le-ltb (first (r .test) (r .bound)) (r .bound) (omega (arith, first-none (r .test) (r .bound) h))
@@ -89,8 +89,7 @@ pub record Coded (r : Row) : Type 0 where
   pub coded : (i : ℕ) → r .test i ≡ true → r .code i ≡ 0 → ⊥
 
 abbrev pub AllCoded : List Row → Type 0
-AllCoded [] = Unit {0}
-AllCoded (r ∷ rs) = Coded r × AllCoded rs
+AllCoded = Every Coded
 
 abbrev pub CodeOf : Refusal → Type 0
 CodeOf Accepted = Unit {0}

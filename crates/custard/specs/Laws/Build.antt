@@ -2,33 +2,32 @@
 -- stand for it. Assumes nothing.
 use mathlib.Core.Logic.{_↔_}
 use mathlib.Core.Path.{_≡_, refl, sym, _∙_, ap, ap₂, subst}
-use mathlib.Core.List.{List, [], _∷_, _++_, map, append-nil}
-use mathlib.Core.Bool.{Bool, true, false, _||_, not}
-use mathlib.Core.Option.{Option, none, some}
-use Prim.Native.Nat.{ℕ, zero, suc, _+_, _*_, _-_, _/_, _%_, _^_, _≤_, _<_}
+use mathlib.Core.List.{List, [], _++_, append-nil}
+use mathlib.Core.Bool.{false, not}
+use mathlib.Core.Option.{Option, some}
+use Prim.Native.Nat.{ℕ, _+_, _*_, _-_, _%_, _≤_, _<_}
 use native.Mathlib.Omega.{arith}
 use native.Mathlib.Nat.{div-add-mod, mul-add, mul-mod-right, zero-div, zero-mod}
 use lib.Dec.{eqb, ltb}
-use lib.ListN.{length, getD, drop, length-append, List·getD-append}
-use lib.Seq.{getD-append-add}
-use borrow.Author.Tests.{ltb-true, ltb-false, le-ltb, eq-eqb, eqb-true, not-false}
+use lib.ListN.{length, drop, length-append}
+use borrow.Author.Tests.{ltb-false, le-ltb, eq-eqb, eqb-true, not-false}
 use Rattle.sheet.specs.Format.{Format, lineBytes}
-use Rattle.sheet.specs.Line.{Line, named, row, bad, isBad, letter}
+use Rattle.sheet.specs.Line.{Line, named, row, bad, isBad}
 use Rattle.sheet.specs.Sheet.{count, line, linesFrom, lines, encodes, row1}
 use Rattle.sheet.specs.LineLaws.{Fits}
 use Rattle.sheet.specs.SheetLaws.{AllFit, length-lines, getD-lines, lines-append, fit-lines, encodes-append}
+use Rattle.sheet.specs.ListLaws.{Every, every-map, neither, every-at, at-every}
 use Rattle.custard.specs.Decl.{Decl, Dtype, TypeInfo, position}
 use Rattle.custard.specs.Program.{name-line, is-head, select, groups, program}
-use Rattle.custard.specs.Rows.{raw, raws, row3, row4, row5, row6, row7}
+use Rattle.custard.specs.Rows.{row5, row6}
 use Rattle.custard.specs.Run.{run, layouts-of, somes, returns, decl-fault}
 use Rattle.custard.specs.Output.{fill-all, verdict-lines, left-lines}
 use Rattle.custard.specs.Answer.{row8, row9, verdict-sheet, left-sheet}
 use Rattle.custard.specs.Cut.{Sheets, build, Whole}
 use Rattle.custard.specs.Names.{Distinct, undeclared}
-use Rattle.custard.specs.Laws.Cty.{Every, every-map}
-use Rattle.custard.specs.Laws.Program.{Starts, select-append, told-groups, run-told, verdict-lines-append}
+use Rattle.custard.specs.Laws.Program.{None, Starts, select-append, told-groups, run-told, verdict-lines-append, none-left, none-right, none-append}
 use Rattle.custard.specs.Laws.Rows.{Ends, row3-ends, ends-row3, row3-raws, NoHeader, no-header, row5-prefix}
-use Rattle.custard.specs.Laws.Output.{Sized, fits-sized, allFit-every, left-bytes-prefix, ten, verdict-fits, verdict-bytes, verdict-round}
+use Rattle.custard.specs.Laws.Output.{Sized, fits-sized, left-bytes-prefix, ten, verdict-fits, verdict-bytes, verdict-round}
 use Rattle.custard.specs.Laws.Answer.{Clear, Passes, sheets, passes-build, build-passes, build-equal}
 use Rattle.custard.specs.Laws.Pass.{clear-heads, heads-clear, own-imports}
 use Rattle.custard.specs.Laws.Pinning.{Apart, prefix-program, prefix-infos}
@@ -53,30 +52,13 @@ whole-length w b h = omega (arith, div-add-mod (length b) (lineBytes w))
 
 -- no line of the list is bad
 abbrev pub NoBad : List Line → Type 0
-NoBad ls = (i : ℕ) → i < length ls → isBad (getD ls i bad) ≡ false
+NoBad = None isBad
 
 pub pass-no-bad : (w : ℕ) (b : List ℕ) → Clear (count w b) (λ i. isBad (line w b i)) → NoBad (lines w b)
-pass-no-bad w b h i k = ap isBad (getD-lines w b i) ∙ h i (omega (arith, length-lines w b))
+pass-no-bad w b h = at-every (λ l. isBad l ≡ false) bad (lines w b) (λ i k. ap isBad (getD-lines w b i) ∙ h i (omega (arith, length-lines w b)))
 
 pub no-bad-pass : (w : ℕ) (b : List ℕ) → NoBad (lines w b) → Clear (count w b) (λ i. isBad (line w b i))
-no-bad-pass w b h i k = ap isBad (sym (getD-lines w b i)) ∙ h i (omega (arith, length-lines w b))
-
-pub no-bad-left : (a b : List Line) → NoBad (a ++ b) → NoBad a
-no-bad-left a b h i k = ap isBad (sym (List·getD-append a b bad i k)) ∙ h i (rw length-append (omega arith))
-
-pub no-bad-right : (a b : List Line) → NoBad (a ++ b) → NoBad b
-no-bad-right a b h i k = ap isBad (sym (getD-append-add a b i bad)) ∙ h (length a + i) (rw length-append (omega arith))
-
-pub no-bad-append : (a b : List Line) → NoBad a → NoBad b → NoBad (a ++ b)
-no-bad-append a b h k i j = go (ltb i (length a)) refl
-  where
-    go : (c : Bool) → ltb i (length a) ≡ c → isBad (getD (a ++ b) i bad) ≡ false
-    go true e = let m : i < length a = ltb-true i (length a) e in ap isBad (List·getD-append a b bad i m) ∙ h i m
-    go false e =
-        let m : length a ≤ i = ltb-false i (length a) e in
-        let n : length a + (i - length a) ≡ i = omega arith in
-        subst (λ (x : ℕ). isBad (getD (a ++ b) x bad) ≡ false) n
-        (ap isBad (getD-append-add a b (i - length a) bad) ∙ k (i - length a) (omega (arith, rw length-append at j)))
+no-bad-pass w b h i k = ap isBad (sym (getD-lines w b i)) ∙ every-at (λ l. isBad l ≡ false) bad (lines w b) h i (omega (arith, length-lines w b))
 
 fits-not-bad : (w : ℕ) (l : Line) → Fits w l → isBad l ≡ false
 fits-not-bad w (named n t) h = refl
@@ -84,9 +66,7 @@ fits-not-bad w (row x ns) h = refl
 fits-not-bad w bad h = absurd h
 
 pub fit-no-bad : (w : ℕ) (ls : List Line) → AllFit w ls → NoBad ls
-fit-no-bad w [] h i k = absurd (omega arith)
-fit-no-bad w (l ∷ ls) h zero k = fits-not-bad w l (h .0)
-fit-no-bad w (l ∷ ls) h (suc i) k = fit-no-bad w ls (h .1) i (omega arith)
+fit-no-bad w = every-map (Fits w) (λ l. isBad l ≡ false) (fits-not-bad w)
 
 pub no-bad-fit : (w : ℕ) (b : List ℕ) → NoBad (lines w b) → AllFit w (lines w b)
 no-bad-fit w b h = fit-lines w b (no-bad-pass w b h)
@@ -97,13 +77,10 @@ unfolding row1
 row1-false f b h e =
     rw (le-ltb (lineBytes (f .columns) * f .lines) (length b) h, eq-eqb (length b % lineBytes (f .columns)) 0 e)
 
-row1-small : (f : Format) (b : List ℕ) → row1 f b ≡ false → length b ≤ lineBytes (f .columns) * f .lines
+pub row1-small : (f : Format) (b : List ℕ) → row1 f b ≡ false → length b ≤ lineBytes (f .columns) * f .lines
 unfolding row1
-row1-small f b h = ltb-false (lineBytes (f .columns) * f .lines) (length b) (left (ltb (lineBytes (f .columns) * f .lines) (length b)) h)
-  where
-    left : (a : Bool) → (a || not (eqb (length b % lineBytes (f .columns)) 0)) ≡ false → a ≡ false
-    left true k = k
-    left false k = refl
+row1-small f b h =
+    ltb-false (lineBytes (f .columns) * f .lines) (length b) (neither (ltb (lineBytes (f .columns) * f .lines) (length b)) (not (eqb (length b % lineBytes (f .columns)) 0)) h .0)
 
 -- ---- passing, by lines
 pub record Sound (f : Format) (b : List ℕ) (v l : ℕ) : Type 0 where
@@ -175,7 +152,7 @@ whole-append w p q h k =
     ap (λ (x : ℕ). x % lineBytes w) m ∙ mul-mod-right (lineBytes w) (count w p + count w q)
 
 all-sized : (w : ℕ) (ls : List Line) → AllFit w ls → Every (Sized w) ls
-all-sized w ls h = every-map (Fits w) (Sized w) (fits-sized w) ls (allFit-every w ls h)
+all-sized w ls h = every-map (Fits w) (Sized w) (fits-sized w) ls h
 
 module _ (f : Format) (v l : ℕ) (p q : List ℕ) (s : Split (f .columns) p q) where
   abbrev ps : List Line
@@ -193,18 +170,18 @@ module _ (f : Format) (v l : ℕ) (p q : List ℕ) (s : Split (f .columns) p q) 
   sound-prefix h =
       let nb : NoBad (ps ++ qs) = subst NoBad lines-parts (h .no-bad) in
       let c : Checks f (ps ++ qs) = subst (Checks f) lines-parts (h .checks) in
-      let st : Starts is-head qs = s .starts (no-bad-right ps qs nb) in
+      let st : Starts is-head qs = s .starts (none-right isBad ps qs nb) in
       let n : NoHeader qs = no-header ps qs st (c .ends) in
       let c5 : Clear (length ps) (row5 ps) = λ i k. sym (row5-prefix ps qs i (n .names) (n .args) (n .types) k) ∙ c .clear5 i (rw length-append (omega arith)) in
       let ap' : Apart (program ps) (later ps qs) = s .apart nb (c .ends) c5 (c .clear6) in
       let d : Distinct (program ps ++ later ps qs) = parts-distinct ps qs st (c .ends) (c .clear6) in
       let x = prefix-program (program ps) (later ps qs) d ap' (own-imports ps) in
       let e : select name-line ps ≡ select name-line (ps ++ qs) = sym (select-append name-line ps qs ∙ (ap (λ (r : List Line). select name-line ps ++ r) (n .names) ∙ append-nil (select name-line ps))) in
-      let fit : AllFit (f .columns) ps = no-bad-fit (f .columns) p (no-bad-left ps qs nb) in
+      let fit : AllFit (f .columns) ps = no-bad-fit (f .columns) p (none-left isBad ps qs nb) in
       let fit' : Every (Sized (f .columns)) (ps ++ qs) = subst (Every (Sized (f .columns))) lines-parts (all-sized (f .columns) (lines (f .columns) (p ++ q)) (no-bad-fit (f .columns) (p ++ q) (h .no-bad))) in
       record {
         small = omega (arith, h .small, length-append p q);
-        no-bad = no-bad-left ps qs nb;
+        no-bad = none-left isBad ps qs nb;
         checks = checks-prefix f ps qs st ap' c;
         verdict-room = omega (arith, h .verdict-room, length-append p q);
         left-room = left-small st c nb x (left-bytes-prefix (f .columns) ps (ps ++ qs) (run (program ps) .program) (somes (x .0)) (all-sized (f .columns) ps fit) fit' e);
@@ -264,7 +241,7 @@ module _ (f : Format) (v l : ℕ) (p q : List ℕ) (s : Split (f .columns) p q) 
     -- the whole that passes, and its two sheets
     module _ (nb : NoBad (ps ++ qs)) (c : Checks f (ps ++ qs)) where
       st : Starts is-head qs
-      st = s .starts (no-bad-right ps qs nb)
+      st = s .starts (none-right isBad ps qs nb)
 
       far : Apart (program ps) (later ps qs)
       far = s .apart nb (c .ends) (h .checks .clear5) (c .clear6)
@@ -283,19 +260,19 @@ module _ (f : Format) (v l : ℕ) (p q : List ℕ) (s : Split (f .columns) p q) 
         let r : SameRows f ps qs = rows st in
         let e : Ends (ps ++ qs) = r .same-ends .0 (c .ends) in
         let c6 : Clear (length (ps ++ qs)) (row6 (ps ++ qs)) = λ i k. sym (r .same6 i) ∙ c .clear6 i (omega (arith, r .same-length)) in
-        checks-import f ps qs st (s .apart (no-bad-append ps qs (h .no-bad) nb) e (h .checks .clear5) c6) (h .checks) r .0 c
+        checks-import f ps qs st (s .apart (none-append isBad ps qs (h .no-bad) nb) e (h .checks .clear5) c6) (h .checks) r .0 c
 
     checks-from : NoBad (ps ++ qs) → Checks f (ps ++ qs) → Checks f (vs ++ qs)
     checks-from nb c =
-        let st : Starts is-head qs = s .starts (no-bad-right ps qs nb) in
+        let st : Starts is-head qs = s .starts (none-right isBad ps qs nb) in
         checks-import f ps qs st (far nb c) (h .checks) (rows st) .1 c
 
     pub sound-import : Sound f (vb ++ q) v l ↔ Sound f (p ++ q) v l
     sound-import = (
       λ k.
           let nv : NoBad (vs ++ qs) = subst NoBad lines-verdict (k .no-bad) in
-          let nb : NoBad (ps ++ qs) = no-bad-append ps qs (h .no-bad) (no-bad-right vs qs nv) in
-          let c : Checks f (ps ++ qs) = checks-to (no-bad-right vs qs nv) (subst (Checks f) lines-verdict (k .checks)) in
+          let nb : NoBad (ps ++ qs) = none-append isBad ps qs (h .no-bad) (none-right isBad vs qs nv) in
+          let c : Checks f (ps ++ qs) = checks-to (none-right isBad vs qs nv) (subst (Checks f) lines-verdict (k .checks)) in
           record {
             small = omega (arith, k .small, both-length);
             no-bad = subst NoBad (sym lines-parts) nb;
@@ -308,7 +285,7 @@ module _ (f : Format) (v l : ℕ) (p q : List ℕ) (s : Split (f .columns) p q) 
           let c : Checks f (ps ++ qs) = subst (Checks f) lines-parts (k .checks) in
           record {
             small = omega (arith, k .small, both-length);
-            no-bad = subst NoBad (sym lines-verdict) (no-bad-append vs qs verdict-no-bad (no-bad-right ps qs nb));
+            no-bad = subst NoBad (sym lines-verdict) (none-append isBad vs qs verdict-no-bad (none-right isBad ps qs nb));
             checks = subst (Checks f) (sym lines-verdict) (checks-from nb c);
             verdict-room = omega (arith, k .verdict-room, both-length);
             left-room = subst (λ (ls : List Line). length (left-sheet f ls) ≤ l) (sym lines-verdict) (subst (λ (x : List ℕ). length x ≤ l) (sym (left-equal nb c)) (subst (λ (ls : List Line). length (left-sheet f ls) ≤ l) lines-parts (k .left-room)));
@@ -361,7 +338,7 @@ prefix-verdict f v l p q s y e =
     let nb : NoBad (ps ++ qs) = subst NoBad parts (k .no-bad) in
     let c : Checks f (ps ++ qs) = subst (Checks f) parts (k .checks) in
     let h : Sound f p v l = sound-prefix f v l p q s k in
-    let st : Starts is-head qs = s .starts (no-bad-right ps qs nb) in
+    let st : Starts is-head qs = s .starts (none-right isBad ps qs nb) in
     let far : Apart (program ps) (later ps qs) = s .apart nb (c .ends) (h .checks .clear5) (c .clear6) in
     let d : Distinct (program ps ++ later ps qs) = parts-distinct ps qs st (c .ends) (c .clear6) in
     let tis : List TypeInfo = run (program ps) .infos in
@@ -393,8 +370,6 @@ split-nothing w p h =
 -- a sheet that row 1 passes is whole lines
 pub pass-whole : (f : Format) (b : List ℕ) (v l : ℕ) → Passes f b v l → Whole (f .columns) b
 unfolding row1
-pass-whole f b v l h = eqb-true (length b % lineBytes (f .columns)) 0 (right (ltb (lineBytes (f .columns) * f .lines) (length b)) (h .pass1))
-  where
-    right : (a : Bool) → (a || not (eqb (length b % lineBytes (f .columns)) 0)) ≡ false → eqb (length b % lineBytes (f .columns)) 0 ≡ true
-    right true k = let z : _≡_ {A = ℕ} 0 1 = cc in absurd (omega arith)
-    right false k = not-false (eqb (length b % lineBytes (f .columns)) 0) k
+pass-whole f b v l h =
+    let r = length b % lineBytes (f .columns) in
+    eqb-true r 0 (not-false (eqb r 0) (neither (ltb (lineBytes (f .columns) * f .lines) (length b)) (not (eqb r 0)) (h .pass1) .1))

@@ -9,9 +9,7 @@ use mathlib.Core.List.{
   _++_,
   List·Memᴰ,
   List·Memᴰ·head,
-  List·Memᴰ·tail,
   List·Memᴰ·not-nil,
-  List·Memᴰ·cases-cons,
   List·Memᴰ·append-cases,
   List·Memᴰ·eq-of-singleton,
   Memᴰ·append-left,
@@ -23,6 +21,7 @@ use native.Mathlib.Omega.{arith}
 use lib.Dec.{T, eqb}
 use lib.ListN.{length}
 use Rattle.columns.specs.Column.{pick}
+pub use Rattle.sheet.specs.ListLaws.{every-mem}
 use Rattle.custard.specs.Cty.{
   Cty,
   Ctys,
@@ -60,29 +59,6 @@ use Rattle.custard.specs.Cty.{
 }
 use Rattle.custard.specs.Decl.{member, close}
 use Rattle.custard.specs.Resolve.{attach, instance}
-
--- ---- lists
--- a property of each member of a list
-abbrev pub Every : {A : Type 0} → (A → Type 0) → List A → Type 0
-Every Q [] = Unit {0}
-Every Q (x ∷ xs) = Q x × Every Q xs
-
-pub every-mem : {A : Type 0} (Q : A → Type 0) (xs : List A) → Every Q xs → (x : A) → List·Memᴰ x xs → Q x
-every-mem Q [] h x m = absurd (List·Memᴰ·not-nil m)
-every-mem Q (y ∷ ys) h x m =
-    ⊎-elim (λ e. subst Q (sym e) (h .0)) (λ n. every-mem Q ys (h .1) x n) (List·Memᴰ·cases-cons m)
-
-pub mem-every : {A : Type 0} (Q : A → Type 0) (xs : List A) → ((x : A) → List·Memᴰ x xs → Q x) → Every Q xs
-mem-every Q [] f = tt
-mem-every Q (x ∷ xs) f = (f x (List·Memᴰ·head refl), mem-every Q xs (λ y m. f y (List·Memᴰ·tail m)))
-
-pub every-map : {A : Type 0} (Q R : A → Type 0) (f : (x : A) → Q x → R x) (xs : List A) → Every Q xs → Every R xs
-every-map Q R f [] h = tt
-every-map Q R f (x ∷ xs) h = (f x (h .0), every-map Q R f xs (h .1))
-
-pub every-both : {A : Type 0} (Q R : A → Type 0) (xs : List A) → Every Q xs → Every R xs → Every (λ x. Q x × R x) xs
-every-both Q R [] h k = tt
-every-both Q R (x ∷ xs) h k = ((h .0, k .0), every-both Q R xs (h .1) (k .1))
 
 -- ---- properties of the variables and the names of a type
 module _ (X P : ℕ → Type 0) where
@@ -145,32 +121,6 @@ all-map P Q g = each-map Any Any P Q (λ v u. u) g
 
 pub alls-map : (P Q : ℕ → Type 0) (g : (n : ℕ) → P n → Q n) (ts : Ctys) → Alls P ts → Alls Q ts
 alls-map P Q g = eachs-map Any Any P Q (λ v u. u) g
-
--- two properties at once
-module _ (X Y P Q : ℕ → Type 0) where
-  mutual
-    pub each-both : (c : Cty) → Each X P c → Each Y Q c → Each (λ v. X v × Y v) (λ n. P n × Q n) c
-    each-both TUnit h k = tt
-    each-both TAny h k = tt
-    each-both TExn h k = tt
-    each-both (TVar v) h k = (h, k)
-    each-both (TInt s w) h k = tt
-    each-both (TFloat f) h k = tt
-    each-both (TConst c) h k = tt
-    each-both (TArrow a e b) h k = (each-both a (h .0) (k .0), each-both b (h .1) (k .1))
-    each-both (TApp n ts) h k = ((h .0, k .0), eachs-both ts (h .1) (k .1))
-    each-both (TTuple ts) h k = eachs-both ts h k
-    each-both (TBuf t) h k = each-both t h k
-    each-both (TRef r t) h k = each-both t h k
-    each-both (TInline t) h k = each-both t h k
-
-    pub eachs-both : (ts : Ctys) → Eachs X P ts → Eachs Y Q ts → Eachs (λ v. X v × Y v) (λ n. P n × Q n) ts
-    eachs-both nil h k = tt
-    eachs-both (cons t ts) h k = (each-both t (h .0) (k .0), eachs-both ts (h .1) (k .1))
-
-pub all-both : (P Q : ℕ → Type 0) (c : Cty) → All P c → All Q c → All (λ n. P n × Q n) c
-all-both P Q c h k =
-    each-map (λ v. Any v × Any v) Any (λ n. P n × Q n) (λ n. P n × Q n) (λ v u. tt) (λ n p. p) c (each-both Any Any P Q c h k)
 
 -- a property that every number has
 module _ (X P : ℕ → Type 0) (f : (v : ℕ) → X v) (g : (n : ℕ) → P n) where
@@ -283,10 +233,6 @@ module _ (P : ℕ → Type 0) where
   vars-each c f =
       each-map (λ v. (x : ℕ) → List·Memᴰ x (v ∷ []) → P x) P (λ n. (x : ℕ) → List·Memᴰ x [] → P x) Any (λ n h. h n (List·Memᴰ·head refl)) (λ v h. tt) c
       (gather-each P (λ v. v ∷ []) (λ n. []) c f)
-
--- every name of a type is one of its names
-pub all-of-names : (c : Cty) → All (λ n. List·Memᴰ n (names-of-cty c)) c
-all-of-names c = names-all (λ n. List·Memᴰ n (names-of-cty c)) c (λ x m. m)
 
 -- ---- walks
 -- what a walk gives, where its two functions give that
@@ -446,9 +392,6 @@ close-each P ps c h =
     go v true f = f tt
     go v false f = tt
 
-pub close-all : (P : ℕ → Type 0) (ps : List ℕ) (c : Cty) → All P c → All P (close ps c)
-close-all P ps c h = each-map (λ v. T (member v ps)) Any P P (λ v t. tt) (λ n p. p) (close ps c) (close-each P ps c h)
-
 -- closing again changes nothing
 pub close-still : (ps : List ℕ) (c : Cty) → Each (λ v. T (member v ps)) Any c → close ps c ≡ c
 unfolding close
@@ -465,22 +408,6 @@ close-close ps c = close-still ps (close ps c) (close-each Any ps c (all-of Any 
 
 -- ---- the other functions on types
 module _ (X P : ℕ → Type 0) where
-  pub uninline-each : (c : Cty) → Each X P c → Each X P (uninline c)
-  unfolding uninline
-  uninline-each TUnit h = tt
-  uninline-each TAny h = tt
-  uninline-each TExn h = tt
-  uninline-each (TVar v) h = h
-  uninline-each (TInt s w) h = tt
-  uninline-each (TFloat f) h = tt
-  uninline-each (TConst c) h = tt
-  uninline-each (TArrow a e b) h = h
-  uninline-each (TApp n ts) h = h
-  uninline-each (TTuple ts) h = h
-  uninline-each (TBuf t) h = h
-  uninline-each (TRef k t) h = h
-  uninline-each (TInline t) h = h
-
   pub append-eachs : (ts us : Ctys) → Eachs X P ts → Eachs X P us → Eachs X P (append ts us)
   unfolding append
   append-eachs nil us h k = k
@@ -558,6 +485,23 @@ module _ (X P : ℕ → Type 0) where
 pub subst-none : (c : Cty) → subst-cty [] c ≡ c
 unfolding subst-cty look
 subst-none c = walk-id c
+
+-- a type less its outer `TInline` names the same
+pub uninline-names : (c : Cty) → names-of-cty (uninline c) ≡ names-of-cty c
+unfolding uninline names-of-cty gather
+uninline-names TUnit = refl
+uninline-names TAny = refl
+uninline-names TExn = refl
+uninline-names (TVar v) = refl
+uninline-names (TInt s w) = refl
+uninline-names (TFloat f) = refl
+uninline-names (TConst c) = refl
+uninline-names (TArrow a e b) = refl
+uninline-names (TApp n ts) = refl
+uninline-names (TTuple ts) = refl
+uninline-names (TBuf t) = refl
+uninline-names (TRef k t) = refl
+uninline-names (TInline t) = refl
 
 -- ---- lists of types
 pub append-nil : (ts : Ctys) → append ts nil ≡ ts

@@ -3,20 +3,23 @@
 -- Assumes nothing.
 use mathlib.Core.Logic.{⊎-elim}
 use mathlib.Core.Path.{_≡_, refl, ap, ap₂, sym, _∙_, subst}
-use mathlib.Core.List.{List, [], _∷_, map, List·Memᴰ, List·Memᴰ·head, List·Memᴰ·not-nil, List·Memᴰ·append-cases, Memᴰ·append-left, Memᴰ·append-right}
+use mathlib.Core.List.{List, [], _∷_, map, List·Memᴰ, List·Memᴰ·head, Memᴰ·append-left, Memᴰ·append-right}
 use mathlib.Core.Bool.{Bool, true, false, _&&_, not}
-use Prim.Native.Nat.{ℕ, zero, suc, _+_, _≤_, _<_}
+use Prim.Native.Nat.{ℕ, suc, _+_, _≤_, _<_}
 use native.Mathlib.Omega.{arith}
 use lib.Dec.{T, eqb, eqb→eq, eqb-refl}
 use lib.ListN.{length, getD, length-map, List·getD-map, List·getD-eq-default}
 use Rattle.columns.specs.Column.{pick}
+use Rattle.sheet.specs.ListLaws.{getD-within}
 use Rattle.custard.specs.Cty.{Cty, Ctys, TUnit, TAny, TExn, TVar, TInt, TFloat, TConst, TArrow, TApp, TTuple, TBuf, TRef, TInline, nil, cons, gather, gathers, names-of-cty}
 use Rattle.custard.specs.Decl.{Field, Ctor, Body, TAbstract, TAbbrev, TRecord, TVariant, Dtype, Erased, Realized, has-flag, ctors-of, CtorLayout, TypeInfo, Origin, here, imported, Decl, no-decl, dtype-at, origin-at, table, position}
 use Rattle.custard.specs.Erasure.{is-pure, cty-erased, ctys-erased, fields-erased, body-erased, dtype-erased, marked, rule-of, rule, start-of, start, erasure-fixpoint}
 use Rattle.custard.specs.Layout.{slots, ctor-layout, ctor-layouts}
 use Rattle.custard.specs.Names.{fields-names, ctors-names, body-names, dtype-names, Declared, Distinct, Agree, Pin, Pinned}
-use Rattle.custard.specs.Laws.Names.{position-name, position-declared, position-distinct, position-pinned, agree-sym}
-use Rattle.custard.specs.Laws.Rounds.{T-ext, At, Le, At-lt, Le-antisym, bit, trues, Monotone, Sound, Closed, Made, settle-length, settle-sound, settle-least, settle-closed, settle-made, settle-rounds}
+use Rattle.custard.specs.Laws.Names.{position-name, position-declared, position-distinct, position-same, agree-sym, ctors-own}
+use Rattle.custard.specs.Laws.Rounds.{At, Le, At-lt, Le-antisym, Monotone, Sound, Closed, Made, settle-length, settle-sound, settle-least, settle-closed, settle-made, settle-rounds}
+use Rattle.custard.specs.Laws.Lists.{true-of, T-ext, trues, length-table, getD-table}
+use Rattle.custard.specs.Output.{bit}
 
 -- ---- tests
 -- a conjunction of tests, each of which implies another
@@ -133,18 +136,6 @@ module _ (er er' : ℕ → Bool) where
       (cty-erased-mono er er' c (alike-covers er er' (names-of-cty c) h))
       (cty-erased-mono er' er c (alike-covered er er' (names-of-cty c) h))
 
-  pub fields-erased-local : (fs : List Field) → Alike er er' (fields-names fs) → fields-erased er fs ≡ fields-erased er' fs
-  fields-erased-local fs h =
-      T-ext (fields-erased er fs) (fields-erased er' fs)
-      (fields-erased-mono er er' fs (alike-covers er er' (fields-names fs) h))
-      (fields-erased-mono er' er fs (alike-covered er er' (fields-names fs) h))
-
-  pub body-erased-local : (b : Body) → Alike er er' (body-names b) → body-erased er b ≡ body-erased er' b
-  body-erased-local b h =
-      T-ext (body-erased er b) (body-erased er' b)
-      (body-erased-mono er er' b (alike-covers er er' (body-names b) h))
-      (body-erased-mono er' er b (alike-covered er er' (body-names b) h))
-
   pub dtype-erased-local : (d : Dtype) → Alike er er' (dtype-names d) → dtype-erased er d ≡ dtype-erased er' d
   dtype-erased-local d h =
       T-ext (dtype-erased er d) (dtype-erased er' d)
@@ -174,35 +165,11 @@ module _ (er er' : ℕ → Bool) where
       (slots-local (c .ct-fields) (λ n m. h n (Memᴰ·append-left (ctors-names cs) m)))
       (ctors-local cs (λ n m. h n (Memᴰ·append-right (fields-names (c .ct-fields)) m)))
 
-  body-local : (n : ℕ) (b : Body) → Alike er er' (body-names b) → Alike er er' (ctors-names (ctors-of n b))
-  unfolding body-names ctors-of ctors-names
-  body-local n TAbstract h = h
-  body-local n (TAbbrev c) h = λ x m. absurd (List·Memᴰ·not-nil m)
-  body-local n (TRecord fs) h = λ x m. h x (⊎-elim (λ y. y) (λ y. absurd (List·Memᴰ·not-nil y)) (List·Memᴰ·append-cases (fields-names fs) m))
-  body-local n (TVariant cs) h = h
-
   pub ctor-layouts-local : (d : Dtype) → Alike er er' (dtype-names d) → ctor-layouts er d ≡ ctor-layouts er' d
   unfolding ctor-layouts dtype-names
-  ctor-layouts-local d h = ctors-local (ctors-of (d .dt-name) (d .dt-body)) (body-local (d .dt-name) (d .dt-body) h)
+  ctor-layouts-local d h = ctors-local (ctors-of (d .dt-name) (d .dt-body)) (λ n m. h n (ctors-own (d .dt-name) (d .dt-body) n m))
 
 -- ---- lists
--- within a list the default is not looked at
-getD-within : {A : Type 0} (l : List A) (i : ℕ) (a b : A) → i < length l → getD l i a ≡ getD l i b
-getD-within [] i a b h = absurd (omega arith)
-getD-within (x ∷ l) zero a b h = refl
-getD-within (x ∷ l) (suc i) a b h = getD-within l i a b (omega arith)
-
-length-table : {A : Type 0} (f : ℕ → A) (n : ℕ) → length (table f n) ≡ n
-unfolding table
-length-table f zero = refl
-length-table f (suc n) = ap suc (length-table (λ i. f (suc i)) n)
-
-getD-table : {A : Type 0} (f : ℕ → A) (n i : ℕ) (d : A) → i < n → getD (table f n) i d ≡ f i
-unfolding table
-getD-table f zero i d h = absurd (omega arith)
-getD-table f (suc n) zero d h = refl
-getD-table f (suc n) (suc i) d h = getD-table (λ j. f (suc j)) n i d (omega arith)
-
 -- ---- the program's rules
 -- how many marks a declaration adds at the most: an import's is given
 unfoldable pub local : Origin → ℕ
@@ -223,7 +190,7 @@ most : List Decl → List Bool
 most ds = map (λ d. most-of (d .origin)) ds
 
 trues-most : (ds : List Decl) → trues (most ds) ≡ trues (start ds) + locals ds
-unfolding trues bit most start locals most-of start-of local
+unfolding trues most start locals most-of start-of local
 trues-most [] = omega arith
 trues-most (d ∷ ds) = omega (arith, trues-most ds, go (d .origin))
   where
@@ -354,10 +321,6 @@ module _ (ds : List Decl) where
       omega (arith, trues-most ds, settle-rounds (rule ds) rule-mono (suc (length ds)) (start ds) (most ds) start-sound (length-start ∙ sym length-most) start-below-most most-closed)
 
 -- ---- locality
-T-true : (b : Bool) → T b → b ≡ true
-T-true true t = refl
-T-true false t = absurd t
-
 -- One half: a name of S that ds marks, ds' marks. The marks of ds, less those of names in S that ds' does not mark, are closed.
 module _ (S : ℕ → Bool) (ds ds' : List Decl) (g : Agree S ds ds') where
   abbrev mine : List Bool
@@ -387,7 +350,7 @@ module _ (S : ℕ → Bool) (ds ds' : List Decl) (g : Agree S ds ds') where
       let i : ℕ = position ds n in
       let q : Declared ds n = rw length-table at (At-lt meet i a) in
       let b : T (pick (S (name i) && eqb (position ds (name i)) i) (marked ds' other (name i)) true) = and-right (getD mine i false) (pick (S (name i) && eqb (position ds (name i)) i) (marked ds' other (name i)) true) (meet-met i a) in
-      rw (position-name ds n q, e, T-true (eqb i i) (eqb-refl i)) at b
+      rw (position-name ds n q, e, true-of (eqb i i) (eqb-refl i)) at b
 
   -- the rule of ds' holds at a name of S at which that of ds does
   meet-rule : (n : ℕ) → S n ≡ true → Declared ds n → T (rule ds meet (position ds n)) → T (marked ds' other n)
@@ -411,7 +374,7 @@ module _ (S : ℕ → Bool) (ds ds' : List Decl) (g : Agree S ds ds') where
       go true e =
           let b : T (S (name i) && eqb (position ds (name i)) i) = rw e tt in
           let p : position ds (name i) ≡ i = eqb→eq (position ds (name i)) i (and-right (S (name i)) (eqb (position ds (name i)) i) b) in
-          meet-rule (name i) (T-true (S (name i)) (and-left (S (name i)) (eqb (position ds (name i)) i) b)) (position-declared ds i (rw length-table at h)) (subst (λ (j : ℕ). T (rule ds meet j)) (sym p) t)
+          meet-rule (name i) (true-of (S (name i)) (and-left (S (name i)) (eqb (position ds (name i)) i) b)) (position-declared ds i (rw length-table at h)) (subst (λ (j : ℕ). T (rule ds meet j)) (sym p) t)
       go false e = tt
 
   local-half : (n : ℕ) → S n ≡ true → T (marked ds mine n) → T (marked ds' other n)
@@ -427,10 +390,10 @@ erasure-local S ds ds' g n e =
     (local-half S ds' ds (agree-sym S ds ds' g) n e)
 
 -- ---- pinning
--- a name has the same place, and so the same mark, in a program with some places pinned
-pub marked-pinned : {P : ℕ → TypeInfo → Type 0} (ds ds' : List Decl) → Pinned P ds ds' → (s : List Bool) (n : ℕ) → marked ds s n ≡ marked ds' s n
+-- the same types in the same places: a name's mark is the same
+pub marked-same : (ds ds' : List Decl) → length ds ≡ length ds' → ((i : ℕ) → i < length ds → dtype-at ds i ≡ dtype-at ds' i) → (s : List Bool) (n : ℕ) → marked ds s n ≡ marked ds' s n
 unfolding marked
-marked-pinned ds ds' g s n = ap (λ (j : ℕ). getD s j false) (position-pinned ds ds' n g)
+marked-same ds ds' e f s n = rw (position-same ds ds' n e f)
 
 -- A program with some places pinned to the marks that it has there has the same marks.
 module _ {P : ℕ → TypeInfo → Type 0} (ds ds' : List Decl) (g : Pinned P ds ds')
@@ -439,7 +402,7 @@ module _ {P : ℕ → TypeInfo → Type 0} (ds ds' : List Decl) (g : Pinned P ds
   pinned-rule : (s : List Bool) (i : ℕ) → i < length ds → origin-at ds i ≡ origin-at ds' i → rule ds s i ≡ rule ds' s i
   unfolding rule
   pinned-rule s i h e =
-      rw (g .same-dtypes i h, e) (rule-of-local (marked ds s) (marked ds' s) (dtype-at ds' i) (origin-at ds' i) (λ n m. marked-pinned ds ds' g s n))
+      rw (g .same-dtypes i h, e) (rule-of-local (marked ds s) (marked ds' s) (dtype-at ds' i) (origin-at ds' i) (λ n m. marked-same ds ds' (g .same-length) (g .same-dtypes) s n))
 
   -- a pinned place has the mark of ds
   pinned-at : (s : List Bool) (i : ℕ) → i < length ds → (p : Pin (P i) ds' i) → rule ds' s i ≡ getD (erasure-fixpoint ds .marks) i false

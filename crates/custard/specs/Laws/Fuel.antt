@@ -1,26 +1,26 @@
 -- Fuel: in a program of which no unfolded name returns to itself, the fuel of the resolution is not
 -- spent. Assumes nothing.
+use mathlib.Core.Logic.{⊎-elim}
 use mathlib.Core.Path.{_≡_, refl, sym, _∙_, ap, subst}
 use mathlib.Core.List.{List, List·Memᴰ}
-use mathlib.Core.Bool.{Bool, true, false}
-use Prim.Native.Nat.{ℕ, zero, suc, _≤_, _<_}
+use mathlib.Core.Bool.{true, false}
+use Prim.Native.Nat.{ℕ, suc, _≤_, _<_}
 use native.Mathlib.Omega.{arith}
-use lib.Dec.{ltb}
-use lib.ListN.{length, getD}
-use borrow.Author.Tests.{ltb-true, ltb-false}
+use lib.ListN.{length}
 use Rattle.custard.specs.Cty.{Cty, names-of-cty}
-use Rattle.custard.specs.Decl.{Decl, Layout, position}
+use Rattle.custard.specs.Decl.{Decl, position}
 use Rattle.custard.specs.Layout.{names-in}
-use Rattle.custard.specs.Reach.{Reach, cyclic}
-use Rattle.custard.specs.Resolve.{Unfold, gone, newtype, abbreviation, stays, unfold-name, unfolds, resolve, resolve-checked}
+use Rattle.custard.specs.Reach.{Reach}
+use Rattle.custard.specs.Resolve.{Unfold, gone, newtype, abbreviation, stays, unfold-name, resolve, resolve-checked}
 use Rattle.custard.specs.Run.{layouts-of, unfold-names, unfold-next, returns}
 use Rattle.custard.specs.Names.{Declared}
 use Rattle.custard.specs.Laws.Reach.{cyclic-complete, rank, rank-less, rank-bound}
-use Rattle.custard.specs.Laws.Layout.{Placed, names-in-iff, unfold-below}
+use Rattle.custard.specs.Laws.Layout.{names-in-iff, unfold-below}
 use Rattle.custard.specs.Laws.Cty.{All, names-all}
 use Rattle.custard.specs.Laws.Resolve.{Unspent, Unfolds, BodyAll, Normal, Under, Ranked, resolve-done, resolve-more, checked-unspent, checked-more}
 use Rattle.custard.specs.Laws.Run.{lay}
 use Rattle.custard.specs.Laws.Locality.{lay-foreign}
+use Rattle.custard.specs.Laws.Names.{declared-cases}
 
 -- no unfolded name returns to itself: row 8
 abbrev pub NoReturn : List Decl → Type 0
@@ -43,11 +43,7 @@ module _ (ds : List Decl) (clear : NoReturn ds) where
       omega arith
 
   unfolds-declared : (n : ℕ) → Unfolds (lay ds n) → Declared ds n
-  unfolds-declared n u = go (ltb (position ds n) (length ds)) refl
-    where
-      go : (b : Bool) → ltb (position ds n) (length ds) ≡ b → Declared ds n
-      go true e = ltb-true (position ds n) (length ds) e
-      go false e = absurd (subst Unfolds (lay-foreign ds n (ltb-false (position ds n) (length ds) e)) u)
+  unfolds-declared n u = ⊎-elim (λ d. d) (λ e. absurd (subst Unfolds (lay-foreign ds n (omega arith)) u)) (declared-cases ds n)
 
   -- an unfolded name in the body of another has a lower rank
   lower : (n m : ℕ) (c : Cty) → unfold-names ds (lay ds n) ≡ names-in ds c → List·Memᴰ m (names-of-cty c) → Unfolds (lay ds m) → rank-of m < rank-of n

@@ -1,17 +1,19 @@
 -- Laws of the layouts: what each entry of the tables is, where the steps of the two searches lead, when
 -- a declaration becomes a newtype, and what the layouts depend on. Assumes nothing.
 use mathlib.Core.Logic.{_⊎_, inl, inr, ⊎-elim, _↔_}
-use mathlib.Core.Path.{_≡_, refl, ap, ap₂, sym, _∙_}
-use mathlib.Core.List.{List, [], _∷_, map, List·Memᴰ, List·Memᴰ·head, List·Memᴰ·tail, List·Memᴰ·not-nil, List·Memᴰ·cases-cons, List·Memᴰ·append-cases, Memᴰ·append-left, Memᴰ·append-right}
+use mathlib.Core.Path.{_≡_, refl, ap, sym, _∙_}
+use mathlib.Core.List.{List, [], _∷_, map, List·Memᴰ, List·Memᴰ·head, List·Memᴰ·tail, List·Memᴰ·not-nil, List·Memᴰ·cases-cons, Memᴰ·append-left}
 use mathlib.Core.Bool.{Bool, true, false, _||_}
 use mathlib.Core.Option.{Option, none, some}
-use Prim.Native.Nat.{ℕ, zero, suc, _≤_, _<_}
+use Prim.Native.Nat.{ℕ, _≤_, _<_}
 use native.Mathlib.Omega.{arith}
-use lib.Dec.{T, ltb, lt→ltb, ltb→lt, nltb→le}
-use lib.ListN.{length, getD, List·getD-eq-default}
+use lib.Dec.{T, ltb, lt→ltb, ltb→lt}
+use lib.ListN.{length, getD}
+use borrow.Author.Tests.{ltb-false}
 use Rattle.columns.specs.Column.{pick}
-use Rattle.custard.specs.Cty.{Cty, TUnit, TAny, TExn, TVar, TInt, TFloat, TConst, TArrow, TApp, TTuple, TBuf, TRef, TInline, gather, names-of-cty, uninline}
-use Rattle.custard.specs.Decl.{Field, Ctor, Body, TAbstract, TAbbrev, TRecord, TVariant, Dtype, NoNewtype, has-flag, ctors-of, ctors-of-tydef, CtorLayout, NewtypeLayout, Layout, L-erased, L-newtype, L-struct, L-abbrev, L-opaque, Origin, here, imported, Decl, dtype-at, origin-at, table, position}
+use Rattle.sheet.specs.ListLaws.{false-true, same-test}
+use Rattle.custard.specs.Cty.{Cty, names-of-cty, uninline}
+use Rattle.custard.specs.Decl.{Field, Ctor, Body, TAbstract, TAbbrev, TRecord, TVariant, Dtype, NoNewtype, has-flag, ctors-of, ctors-of-tydef, CtorLayout, NewtypeLayout, Layout, L-erased, L-newtype, L-struct, L-abbrev, L-opaque, Origin, here, imported, Decl, dtype-at, origin-at, position}
 use Rattle.custard.specs.Erasure.{marked}
 use Rattle.custard.specs.Layout.{
   slots,
@@ -35,44 +37,16 @@ use Rattle.custard.specs.Layout.{
 }
 use Rattle.custard.specs.Resolve.{Unfold, gone, newtype, abbreviation, stays, unfolds}
 use Rattle.custard.specs.Run.{unfold-names, unfold-next}
-use Rattle.custard.specs.Laws.Erasure.{ctor-layouts-local}
-use Rattle.custard.specs.Names.{fields-names, ctors-names, body-names, dtype-names, Declared, Agree, Pin}
-use Rattle.custard.specs.Laws.Names.{position-name, position-same, agree-sym}
+use Rattle.custard.specs.Laws.Erasure.{marked-same, ctor-layouts-local}
+use Rattle.custard.specs.Names.{fields-names, ctors-names, dtype-names, Declared, Agree, Pin}
+use Rattle.custard.specs.Laws.Names.{position-name, position-same, agree-sym, kept-names, declared-cases, agree-foreign, ctors-own}
 use Rattle.custard.specs.Reach.{Reach, one, more}
-use Rattle.custard.specs.Laws.Reach.{true-false, reach-loop, reach-stays, cyclic-iff}
+use Rattle.custard.specs.Laws.Reach.{reach-loop, reach-stays, cyclic-iff}
+use Rattle.custard.specs.Laws.Lists.{length-table, getD-table, getD-table-past, table-cong}
+use Rattle.custard.specs.Laws.Cty.{uninline-names}
 
 -- ---- tests
--- two tests that hold alike are equal
-pub same-test : (a b : Bool) → (a ≡ true → b ≡ true) → (b ≡ true → a ≡ true) → a ≡ b
-same-test true b f g = sym (f refl)
-same-test false true f g = g refl
-same-test false false f g = refl
-
-pub ltb-false : (m n : ℕ) → ltb m n ≡ false → n ≤ m
-ltb-false m n e = nltb→le m n (rw e tt)
-
 -- ---- tables
-pub length-table : {A : Type 0} (f : ℕ → A) (n : ℕ) → length (table f n) ≡ n
-unfolding table
-length-table f zero = refl
-length-table f (suc n) = ap suc (length-table (λ i. f (suc i)) n)
-
--- an entry of a table is what the table's function gives there
-pub getD-table : {A : Type 0} (f : ℕ → A) (n i : ℕ) (d : A) → i < n → getD (table f n) i d ≡ f i
-unfolding table
-getD-table f zero i d h = absurd (omega arith)
-getD-table f (suc n) zero d h = refl
-getD-table f (suc n) (suc i) d h = getD-table (λ j. f (suc j)) n i d (omega arith)
-
-pub getD-table-past : {A : Type 0} (f : ℕ → A) (n i : ℕ) (d : A) → n ≤ i → getD (table f n) i d ≡ d
-getD-table-past f n i d h = List·getD-eq-default (table f n) d (rw length-table h)
-
--- equal entries make equal tables
-pub table-cong : {A : Type 0} (f g : ℕ → A) (n : ℕ) → ((i : ℕ) → i < n → f i ≡ g i) → table f n ≡ table g n
-unfolding table
-table-cong f g zero e = refl
-table-cong f g (suc n) e = ap₂ _∷_ (e 0 (omega arith)) (table-cong (λ i. f (suc i)) (λ i. g (suc i)) n (λ i h. e (suc i) (omega arith)))
-
 -- ---- entries
 -- what the table of candidates has at place i
 abbrev pub candidate-at : List Decl → (ℕ → Bool) → List Bool → ℕ → Option Layout
@@ -150,6 +124,12 @@ positions-of ds (k ∷ ns) n m h = by (positions-of ds ns n) (ltb (position ds k
     by ih false e (inl u) = let t : T (ltb (position ds k) (length ds)) = lt→ltb (position ds k) (length ds) (rw u at h) in absurd (rw e at t)
     by ih false e (inr u) = ih u h
 
+-- the same types in the same places: names are declared in the same places
+pub positions-same : (ds ds' : List Decl) → length ds ≡ length ds' → ((i : ℕ) → i < length ds → dtype-at ds i ≡ dtype-at ds' i) → (ns : List ℕ) → positions ds ns ≡ positions ds' ns
+unfolding positions
+positions-same ds ds' e f [] = refl
+positions-same ds ds' e f (n ∷ ns) = rw (position-same ds ds' n e f, positions-same ds ds' e f ns, e)
+
 -- The places that a type names: those of the declared names in it.
 pub names-in-iff : (ds : List Decl) (c : Cty) (j : ℕ) → List·Memᴰ j (names-in ds c) ↔ Placed ds (names-of-cty c) j
 names-in-iff ds c j =
@@ -212,7 +192,7 @@ dropped-iff ds cands i = cyclic-iff (guard-next ds cands) (length ds) i (guard-b
 
 pub not-dropped : (ds : List Decl) (cands : List (Option Layout)) (i : ℕ) → (dropped ds cands i ≡ false) ↔ (Reach (guard-next ds cands) i i → ⊥)
 not-dropped ds cands i =
-    (λ e r. true-false (sym (dropped-iff ds cands i .1 r) ∙ e), λ n. by n (dropped ds cands i) refl)
+    (λ e r. false-true (sym e ∙ dropped-iff ds cands i .1 r), λ n. by n (dropped ds cands i) refl)
   where
     by : (Reach (guard-next ds cands) i i → ⊥) → (b : Bool) → dropped ds cands i ≡ b → b ≡ false
     by n true e = absurd (n (dropped-iff ds cands i .0 e))
@@ -320,46 +300,13 @@ candidate-next ds s i h o nt c =
     rw (getD-candidates ds (marked ds s) s i none h, o, candidate-iff (marked ds s) (dtype-at ds i) (getD s i false) nt .1 c)
 
 -- ---- names of a payload
-pub uninline-names : (c : Cty) → names-of-cty (uninline c) ≡ names-of-cty c
-unfolding uninline names-of-cty gather
-uninline-names TUnit = refl
-uninline-names TAny = refl
-uninline-names TExn = refl
-uninline-names (TVar v) = refl
-uninline-names (TInt s w) = refl
-uninline-names (TFloat f) = refl
-uninline-names (TConst c) = refl
-uninline-names (TArrow a e b) = refl
-uninline-names (TApp n ts) = refl
-uninline-names (TTuple ts) = refl
-uninline-names (TBuf t) = refl
-uninline-names (TRef k t) = refl
-uninline-names (TInline t) = refl
-
--- the kept fields name nothing that the fields do not
-pub kept-names : (bs : List Bool) (fs : List Field) (n : ℕ) → List·Memᴰ n (fields-names (kept bs fs)) → List·Memᴰ n (fields-names fs)
-unfolding kept fields-names
-kept-names [] fs n m = absurd (List·Memᴰ·not-nil m)
-kept-names (b ∷ bs) [] n m = absurd (List·Memᴰ·not-nil m)
-kept-names (true ∷ bs) (f ∷ fs) n m =
-    ⊎-elim (λ u. Memᴰ·append-left (fields-names fs) u) (λ u. Memᴰ·append-right (names-of-cty (f .fd-type)) (kept-names bs fs n u)) (List·Memᴰ·append-cases (names-of-cty (f .fd-type)) m)
-kept-names (false ∷ bs) (f ∷ fs) n m = Memᴰ·append-right (names-of-cty (f .fd-type)) (kept-names bs fs n m)
-
--- nor does a constructor name anything that its declaration does not
-ctor-names : (k : ℕ) (b : Body) (c : Ctor) (n : ℕ) → ctors-of k b ≡ c ∷ [] → List·Memᴰ n (fields-names (c .ct-fields)) → List·Memᴰ n (body-names b)
-unfolding ctors-of body-names ctors-names
-ctor-names k TAbstract c n e m = let y : _≡_ {A = ℕ} 0 1 = cc in absurd (omega arith)
-ctor-names k (TAbbrev t) c n e m = let y : _≡_ {A = ℕ} 0 1 = cc in absurd (omega arith)
-ctor-names k (TRecord fs) c n e m = let y : record { ct-name = k; ct-fields = fs } ≡ c = cc in rw (← y) at m
-ctor-names k (TVariant cs) c n e m = rw e (Memᴰ·append-left [] m)
-
 -- A candidate's payload names nothing that its declaration does not.
 pub payload-named : (er : ℕ → Bool) (d : Dtype) (e : Bool) (nt : NewtypeLayout) → Candidate er d e nt → (n : ℕ) → List·Memᴰ n (names-of-cty (nt .nt-ty)) → List·Memᴰ n (dtype-names d)
-unfolding dtype-names fields-names
+unfolding dtype-names fields-names ctors-names
 payload-named er d e nt k n m =
     let q : List·Memᴰ n (names-of-cty (k .field .fd-type)) = rw (k .made, uninline-names) at m in
     let r : List·Memᴰ n (fields-names (kept (slots er (k .ctor .ct-fields)) (k .ctor .ct-fields))) = rw (k .one-kept) (Memᴰ·append-left [] q) in
-    ctor-names (d .dt-name) (d .dt-body) (k .ctor) n (k .one-ctor) (kept-names (slots er (k .ctor .ct-fields)) (k .ctor .ct-fields) n r)
+    ctors-own (d .dt-name) (d .dt-body) n (rw (k .one-ctor) (Memᴰ·append-left [] (kept-names (slots er (k .ctor .ct-fields)) (k .ctor .ct-fields) n r)))
 
 -- an entry of the table of candidates is a local declaration that is one
 pub record CandidateAt (ds : List Decl) (er : ℕ → Bool) (s : List Bool) (i : ℕ) (nt : NewtypeLayout) : Type 0 where
@@ -489,27 +436,15 @@ pub layout-same : (S : ℕ → Bool) (ds ds' : List Decl) (s s' : List Bool)
     → S n ≡ true
     → (l : Layout)
     → getD (compute-layouts ds s) (position ds n) l ≡ getD (compute-layouts ds' s') (position ds' n) l
-layout-same S ds ds' s s' a n h l = by (ltb (position ds n) (length ds)) refl
+layout-same S ds ds' s s' a n h l =
+    ⊎-elim
+    (λ d. getD-layouts ds s (position ds n) l d ∙ inner d ∙ sym (getD-layouts ds' s' (position ds' n) l (a .agree .declared n h .0 d)))
+    (λ e. getD-layouts-past ds s (position ds n) l (omega arith) ∙ sym (getD-layouts-past ds' s' (position ds' n) l (omega (arith, agree-foreign S ds ds' (a .agree) n h e))))
+    (declared-cases ds n)
   where
     inner : Declared ds n → layout-at ds s (position ds n) ≡ layout-at ds' s' (position ds' n)
     inner d =
         rw (ctor-layouts-same S ds ds' s s' a n h d, candidate-same S ds ds' s s' a n h d, dropped-same S ds ds' s s' a n h d, a .agree .same-dtype n h d, a .agree .same-origin n h d, mark-same S ds ds' s s' a n h)
-
-    by : (b : Bool) → ltb (position ds n) (length ds) ≡ b → getD (compute-layouts ds s) (position ds n) l ≡ getD (compute-layouts ds' s') (position ds' n) l
-    by true u =
-        let d : Declared ds n = ltb→lt (position ds n) (length ds) (rw u tt) in
-        getD-layouts ds s (position ds n) l d ∙ inner d ∙ sym (getD-layouts ds' s' (position ds' n) l (a .agree .declared n h .0 d))
-    by false u =
-        let p : length ds ≤ position ds n = ltb-false (position ds n) (length ds) u in
-        let q : length ds' ≤ position ds' n = foreign (λ d. absurd (omega (arith, a .agree .declared n h .1 d))) in
-        getD-layouts-past ds s (position ds n) l p ∙ sym (getD-layouts-past ds' s' (position ds' n) l q)
-      where
-        foreign : (Declared ds' n → ⊥) → length ds' ≤ position ds' n
-        foreign f = on (ltb (position ds' n) (length ds')) refl
-          where
-            on : (b : Bool) → ltb (position ds' n) (length ds') ≡ b → length ds' ≤ position ds' n
-            on true e = absurd (f (ltb→lt (position ds' n) (length ds') (rw e tt)))
-            on false e = ltb-false (position ds' n) (length ds') e
 
 -- ---- programs with pinned declarations
 -- ds' is ds with the declarations at the places of B pinned to layouts that ds itself gives them, where
@@ -522,17 +457,8 @@ pub record PinnedLayouts (B : ℕ → Bool) (ds ds' : List Decl) (s : List Bool)
   pub closed : (i j : ℕ) → i < length ds → B i ≡ true → Placed ds (dtype-names (dtype-at ds i)) j → B j ≡ true
 
 module _ (B : ℕ → Bool) (ds ds' : List Decl) (s : List Bool) (p : PinnedLayouts B ds ds' s) where
-  positions-pinned : (ns : List ℕ) → positions ds ns ≡ positions ds' ns
-  unfolding positions
-  positions-pinned [] = refl
-  positions-pinned (n ∷ ns) = rw (position-same ds ds' n (p .same-length) (p .same-dtypes), positions-pinned ns, p .same-length)
-
-  marked-pinned : (n : ℕ) → marked ds s n ≡ marked ds' s n
-  unfolding marked
-  marked-pinned n = rw (position-same ds ds' n (p .same-length) (p .same-dtypes))
-
   ctor-layouts-pinned : (i : ℕ) → i < length ds → ctor-layouts (marked ds s) (dtype-at ds i) ≡ ctor-layouts (marked ds' s) (dtype-at ds' i)
-  ctor-layouts-pinned i h = ctor-layouts-local (marked ds s) (marked ds' s) (dtype-at ds i) (λ n m. marked-pinned n) ∙ rw (p .same-dtypes i h)
+  ctor-layouts-pinned i h = ctor-layouts-local (marked ds s) (marked ds' s) (dtype-at ds i) (λ n m. marked-same ds ds' (p .same-length) (p .same-dtypes) s n) ∙ rw (p .same-dtypes i h)
 
   -- a place outside B has the same candidate,
   candidate-other : (i : ℕ) → i < length ds → B i ≡ false → getD (candidates-of ds s) i none ≡ getD (candidates-of ds' s) i none
@@ -554,7 +480,7 @@ module _ (B : ℕ → Bool) (ds ds' : List Decl) (s : List Bool) (p : PinnedLayo
       let h : a < length ds = guard-from ds (marked ds s) s a b m in
       let q : Step ds (candidates-of ds s) a b = guard-step ds (candidates-of ds s) a b m in
       let r : getD (candidates-of ds' s) a none ≡ some (L-newtype (q .newtype)) = sym (candidate-other a h e) ∙ q .is-candidate in
-      rw (r, ← (positions-pinned (names-of-cty (q .newtype .nt-ty)))) (rw (q .is-candidate) at m)
+      rw (r, ← (positions-same ds ds' (p .same-length) (p .same-dtypes) (names-of-cty (q .newtype .nt-ty)))) (rw (q .is-candidate) at m)
 
   -- and no step is new
   step-from : (a b : ℕ) → List·Memᴰ b (guard-next ds' (candidates-of ds' s) a) → List·Memᴰ b (guard-next ds (candidates-of ds s) a)
@@ -574,7 +500,7 @@ module _ (B : ℕ → Bool) (ds ds' : List Decl) (s : List Bool) (p : PinnedLayo
           absurd (omega arith)
       by false e =
           let r : getD (candidates-of ds s) a none ≡ some (L-newtype (q .newtype)) = candidate-other a h e ∙ q .is-candidate in
-          rw (r, positions-pinned (names-of-cty (q .newtype .nt-ty))) (rw (q .is-candidate) at m)
+          rw (r, positions-same ds ds' (p .same-length) (p .same-dtypes) (names-of-cty (q .newtype .nt-ty))) (rw (q .is-candidate) at m)
 
   -- B is not left
   step-inside : (a b : ℕ) → B a ≡ true → List·Memᴰ b (guard-next ds (candidates-of ds s) a) → B b ≡ true
@@ -585,13 +511,13 @@ module _ (B : ℕ → Bool) (ds ds' : List Decl) (s : List Bool) (p : PinnedLayo
   walk-to e (one {a} {b} m) = one (step-to a b (by (B a) refl) m)
     where
       by : (x : Bool) → B a ≡ x → x ≡ false
-      by true z = true-false (sym (step-inside a b z m) ∙ e)
+      by true z = false-true (sym e ∙ step-inside a b z m)
       by false z = refl
   walk-to {c = c} e (more {a} {b} m r) = more (step-to a b (by (B a) refl) m) (walk-to e r)
     where
       by : (x : Bool) → B a ≡ x → x ≡ false
       by true z =
-          true-false (sym (reach-stays (guard-next ds (candidates-of ds s)) (λ (i : ℕ). B i ≡ true) step-inside r (step-inside a b z m)) ∙ e)
+          false-true (sym e ∙ reach-stays (guard-next ds (candidates-of ds s)) (λ (i : ℕ). B i ≡ true) step-inside r (step-inside a b z m))
       by false z = refl
 
   walk-from : {a c : ℕ} → Reach (guard-next ds' (candidates-of ds' s)) a c → Reach (guard-next ds (candidates-of ds s)) a c

@@ -2,23 +2,23 @@
 -- that is unfolded or erased. Assumes nothing.
 use mathlib.Core.Logic.{_⊎_, inl, inr, ⊎-elim}
 use mathlib.Core.Path.{_≡_, refl, ap, sym, _∙_, subst}
-use mathlib.Core.List.{List, [], _∷_, _++_, map, List·Memᴰ}
+use mathlib.Core.List.{List, [], _∷_, map, List·Memᴰ}
 use mathlib.Core.Bool.{Bool, true, false, _&&_, _||_, not}
 use mathlib.Core.Option.{Option, none}
-use Prim.Native.Nat.{ℕ, zero, suc, _+_, _*_, _%_, _^_, _≤_, _<_}
+use Prim.Native.Nat.{ℕ, zero, suc, _+_, _*_, _^_, _≤_, _<_}
 use native.Mathlib.Omega.{arith}
-use native.Mathlib.Nat.{mul-suc, mul-le-mul-left, div-add-mod}
+use native.Mathlib.Nat.{mul-suc, mul-le-mul-left}
 use lib.Dec.{eqb, leb, ltb}
 use lib.ListN.{length, getD, take, drop, length-drop}
 use lib.Seq.{take-suc, take-add, getD-drop}
-use borrow.Author.Tests.{eqb-true, eqb-false, ltb-true, ltb-false, leb-false, not-false}
+use borrow.Author.Tests.{eqb-true, ltb-true, ltb-false, leb-false, not-false}
 use Rattle.columns.specs.Column.{pick, _⇒_∥_}
 use Rattle.sheet.specs.Line.{Line, bad, letter, number}
 use Rattle.sheet.specs.Format.{Format, lineBytes, base}
-use Rattle.sheet.specs.LineLaws.{both}
 use Rattle.sheet.specs.Sheet.{count, lines, row1}
 use Rattle.sheet.specs.SheetLaws.{AllFit, length-lines, within-count, fit-lines}
-use Rattle.custard.specs.Cty.{Cty, TUnit, size}
+use Rattle.sheet.specs.ListLaws.{false-true, both, one-of, Every, mem-every, every-map}
+use Rattle.custard.specs.Cty.{Cty, size}
 use Rattle.custard.specs.Decl.{
   Field,
   Body,
@@ -42,7 +42,6 @@ use Rattle.custard.specs.Decl.{
   no-decl,
   dtype-at,
   origin-at,
-  close-body,
   close-fields,
 }
 use Rattle.custard.specs.Erasure.{marked, erasure-fixpoint}
@@ -65,9 +64,6 @@ use Rattle.custard.specs.Program.{
   before,
   Group,
   groups,
-  field-of,
-  ctor-of,
-  body-of,
   keeps-of,
   ctor-layouts-by,
   abbreviated,
@@ -86,55 +82,17 @@ use Rattle.custard.specs.Answer.{row8, row9, verdict-sheet, left-sheet}
 use Rattle.custard.specs.Laws.Answer.{Clear, Passes}
 use Rattle.custard.specs.Laws.Pass.{clear-heads}
 use Rattle.custard.specs.Laws.Fuel.{NoReturn, fuel-unspent}
-use Rattle.custard.specs.Laws.Cty.{Every, mem-every, every-map}
-use Rattle.custard.specs.Laws.Output.{verdict-bytes, verdict-round}
+use Rattle.custard.specs.Laws.Output.{verdict-bytes, verdict-round, columns-positive}
 use Rattle.custard.specs.Laws.Written.{left-program-read}
 use Rattle.custard.specs.Laws.Numbers.{sheet-round, left-sheet-normal}
-use Rattle.custard.specs.Laws.Program.{None, false-true, or-false, heads, head-cases, length-groups, length-program, program-at, HeadAt, head-at}
+use Rattle.custard.specs.Laws.Program.{None, heads, head-cases, length-groups, length-program, program-at, HeadAt, head-at, body-number, body-of-number, close-number}
 use Rattle.custard.specs.Laws.Resolve.{StructMatches, OpaqueMatches, Matches, Newtype, candidate-newtype, layout-matches, Unspent, Normal, Resolved, decl-resolved, LeftTypes, left-types}
 use Rattle.custard.specs.Laws.Layout.{candidates-of, getD-candidates, getD-layouts}
 use Rattle.custard.specs.Laws.Run.{lay, layout-of-decl, left-at, length-infos}
+use Rattle.custard.specs.Laws.Build.{row1-small, whole-length, pass-whole}
+use Rattle.custard.specs.Laws.Rows.{last-head-append, last-head-none}
 
 -- ---- an import's layout goes with its body
-or-true : (a b : Bool) → (a || b) ≡ true → (a ≡ true) ⊎ (b ≡ true)
-or-true true b e = inl refl
-or-true false b e = inr e
-
--- document 01's number of a body
-unfoldable pub body-number : Body → ℕ
-body-number TAbstract = 0
-body-number (TAbbrev c) = 1
-body-number (TRecord fs) = 2
-body-number (TVariant cs) = 3
-
-body-of-number : (ts : List Cty) (k last : ℕ) (ls : List Line) → k ≤ 3 → body-number (body-of ts k last ls) ≡ k
-unfolding body-of body-number
-body-of-number ts k last ls h = go (eqb k 1) (eqb k 2) (eqb k 3) refl refl refl
-  where
-    go : (x y z : Bool) → eqb k 1 ≡ x → eqb k 2 ≡ y → eqb k 3 ≡ z → body-number (
-        x ⇒ TAbbrev (getD ts last TUnit) ∥
-        y ⇒ TRecord (map (field-of ts) (select field-line ls)) ∥
-        z ⇒ TVariant (map (ctor-of ts) (groups (is ctor-line) ls)) ∥
-        TAbstract) ≡ k
-    go true y z a b c = sym (eqb-true k 1 a)
-    go false true z a b c = sym (eqb-true k 2 b)
-    go false false true a b c = sym (eqb-true k 3 c)
-    go false false false a b c = few k h (eqb-false k 1 a) (eqb-false k 2 b) (eqb-false k 3 c)
-      where
-        few : (n : ℕ) → n ≤ 3 → (n ≡ 1 → ⊥) → (n ≡ 2 → ⊥) → (n ≡ 3 → ⊥) → 0 ≡ n
-        few zero l p q r = refl
-        few (suc zero) l p q r = absurd (p refl)
-        few (suc (suc zero)) l p q r = absurd (q refl)
-        few (suc (suc (suc zero))) l p q r = absurd (r refl)
-        few (suc (suc (suc (suc n)))) l p q r = absurd (omega arith)
-
-close-number : (ps : List ℕ) (b : Body) → body-number (close-body ps b) ≡ body-number b
-unfolding body-number close-body
-close-number ps TAbstract = refl
-close-number ps (TAbbrev c) = refl
-close-number ps (TRecord fs) = refl
-close-number ps (TVariant cs) = refl
-
 by-matches : (n : ℕ) (b : Body) (ls : List Line) → 2 ≤ body-number b → StructMatches b (ctor-layouts-by (ctors-of n b) (keeps-of b ls))
 unfolding body-number ctor-layouts-by ctors-of keeps-of
 by-matches n TAbstract ls h = tt
@@ -185,7 +143,7 @@ verdict-matches h v kept b cls n m e =
     three p = let q : k ≡ 3 = eqb-true k 3 p in m (omega (arith, n (omega arith)))
 
     one : (one-ctor h && eqb kept 1) ≡ true → StructMatches b cls
-    one p = ⊎-elim two (λ q. three (both (eqb k 3) (eqb (number h 4) 1) q .0)) (or-true (eqb k 2) (eqb k 3 && eqb (number h 4) 1) (both (one-ctor h) (eqb kept 1) p .0))
+    one p = ⊎-elim two (λ q. three (both (eqb k 3) (eqb (number h 4) 1) q .0)) (one-of (eqb k 2) (eqb k 3 && eqb (number h 4) 1) (both (one-ctor h) (eqb kept 1) p .0))
 
     go : (x0 x1 x2 x3 x4 : Bool) →
         (x0 ⇒ eqb (number v 0) 1 ∥
@@ -194,7 +152,7 @@ verdict-matches h v kept b cls n m e =
         Matches b (x0 ⇒ L-erased ∥ x1 ⇒ or-struct (newtype-of cls) cls ∥ x2 ⇒ L-struct cls ∥ x3 ⇒ abbreviated b ∥ L-opaque)
     go true x1 x2 x3 x4 p = tt
     go false true x2 x3 x4 p = newtype-matches b cls (one (both (eqb (number v 0) 0) (one-ctor h && eqb kept 1) p .1))
-    go false false true x3 x4 p = ⊎-elim two three (or-true (eqb k 2) (eqb k 3) (both (eqb (number v 0) 0) (eqb k 2 || eqb k 3) p .1))
+    go false false true x3 x4 p = ⊎-elim two three (one-of (eqb k 2) (eqb k 3) (both (eqb (number v 0) 0) (eqb k 2 || eqb k 3) p .1))
     go false false false true x4 p =
         let q : k ≡ 1 = eqb-true k 1 (both (eqb (number v 0) 0) (eqb k 1) p .1) in
         abbreviated-matches b (omega (arith, n (omega arith)))
@@ -234,16 +192,6 @@ before-at p (x ∷ xs) k h = go (p x) refl k h (before-at p xs)
     go true e j l ih = absurd (omega arith)
     go false e zero l ih = ((e, tt), refl, omega arith)
     go false e (suc j) l ih = let r = ih j (omega arith) in ((e, r .0), r .1, omega (arith, r .2))
-
-last-head-append : (h : Line) (a b : List Line) → last-head h (a ++ b) ≡ last-head (last-head h a) b
-unfolding last-head
-last-head-append h [] b = refl
-last-head-append h (l ∷ a) b = last-head-append (pick (is-head l) l h) a b
-
-last-head-none : (h : Line) (ls : List Line) → None is-head ls → last-head h ls ≡ h
-unfolding last-head
-last-head-none h [] n = refl
-last-head-none h (l ∷ ls) n = rw (n .0) (last-head-none h ls (n .1))
 
 head-of-self : (ls : List Line) (i : ℕ) → i < length ls → is-head (line-at ls i) ≡ true → last-head bad (take (suc i) ls) ≡ line-at ls i
 unfolding last-head
@@ -411,11 +359,9 @@ module _ (f : Format) (ls : List Line) (pass : Clear (length ls) (row4 f ls)) wh
       go false e = ltb-false (f .fields) (count-of field-line ls) e
 
 pub lines-limit : (f : Format) (b : List ℕ) → row1 f b ≡ false → length (lines (f .columns) b) ≤ f .lines
-unfolding row1
 lines-limit f b e =
     let w : ℕ = f .columns in
-    let h : length b ≤ lineBytes w * f .lines = ltb-false (lineBytes w * f .lines) (length b) (or-false (ltb (lineBytes w * f .lines) (length b)) _ e .0) in
-    go w h (ltb (f .lines) (count w b)) refl
+    go w (row1-small f b e) (ltb (f .lines) (count w b)) refl
   where
     go : (w : ℕ) → length b ≤ lineBytes w * f .lines → (c : Bool) → ltb (f .lines) (count w b) ≡ c → length (lines w b) ≤ f .lines
     go w h true q =
@@ -498,18 +444,13 @@ module _ (f : Format) (b : List ℕ) (v l : ℕ) (ample : Ample f) (pass : Passe
   -- ---- the verdict sheet
   pub verdict-sheet-lines : lines (f .columns) (verdict-sheet f sheet-lines) ≡ verdict-lines sheet-lines (run sheet-program .infos)
   unfolding verdict-sheet
-  verdict-sheet-lines = verdict-round (f .columns) sheet-lines (run sheet-program .infos) (columns (f .columns) (ample .kinds)) pass-fit
-    where
-      columns : (w : ℕ) → 12 < 10 ^ w → 0 < w
-      columns zero h = absurd (omega arith)
-      columns (suc w) h = omega arith
+  verdict-sheet-lines = verdict-round (f .columns) sheet-lines (run sheet-program .infos) (columns-positive (f .columns) (ample .kinds)) pass-fit
 
   -- It is as long as the sheet.
   pub verdict-sheet-length : length (verdict-sheet f sheet-lines) ≡ length b
-  unfolding verdict-sheet row1
+  unfolding verdict-sheet
   verdict-sheet-length =
       let w : ℕ = f .columns in
       let e : length (groups is-head sheet-lines) ≡ length (run sheet-program .infos) = length-groups sheet-lines ∙ sym (length-infos sheet-program ∙ length-program sheet-lines) in
-      let z : length b % lineBytes w ≡ 0 = eqb-true (length b % lineBytes w) 0 (not-false (eqb (length b % lineBytes w) 0) (or-false (ltb (lineBytes w * f .lines) (length b)) (not (eqb (length b % lineBytes w) 0)) (pass .pass1) .1)) in
       verdict-bytes w sheet-lines (run sheet-program .infos) (omega (arith, ample .kinds)) pass-fit e
-      ∙ (ap (λ (n : ℕ). lineBytes w * n) (length-lines w b) ∙ omega (arith, div-add-mod (length b) (lineBytes w), z))
+      ∙ (ap (λ (n : ℕ). lineBytes w * n) (length-lines w b) ∙ sym (whole-length w b (pass-whole f b v l pass)))

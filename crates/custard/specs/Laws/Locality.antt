@@ -1,17 +1,16 @@
 -- Locality: two programs that agree on a set of names closed under what their declarations name give
 -- these names the same verdicts, left declarations and faults. Over any declarations and any limit.
 -- Assumes nothing.
-use mathlib.Core.Logic.{_↔_}
 use mathlib.Core.Path.{_≡_, refl, sym, _∙_, ap, ap₂, subst}
-use mathlib.Core.List.{List, [], _∷_, _++_, List·Memᴰ, List·Memᴰ·not-nil, Memᴰ·append-left, Memᴰ·append-right}
+use mathlib.Core.List.{List, [], _∷_, List·Memᴰ, List·Memᴰ·not-nil, Memᴰ·append-left, Memᴰ·append-right}
 use mathlib.Core.Bool.{Bool, true, false, _||_}
-use mathlib.Core.Option.{Option, none, some}
-use Prim.Native.Nat.{ℕ, zero, suc, _≤_, _<_}
+use mathlib.Core.Option.{Option, none}
+use mathlib.Core.Logic.{⊎-elim}
+use Prim.Native.Nat.{ℕ, _≤_, _<_}
 use native.Mathlib.Omega.{arith}
-use lib.Dec.{ltb}
 use lib.ListN.{length, getD}
-use borrow.Author.Tests.{ltb-true, ltb-false}
 use Rattle.columns.specs.Column.{pick}
+use Rattle.sheet.specs.ListLaws.{Every}
 use Rattle.custard.specs.Cty.{Cty, names-of-cty}
 use Rattle.custard.specs.Decl.{
   Field,
@@ -41,14 +40,10 @@ use Rattle.custard.specs.Decl.{
   position,
 }
 use Rattle.custard.specs.Erasure.{marked, erasure-fixpoint}
-use Rattle.custard.specs.Layout.{ctor-layouts, candidate, dropped, names-in, layout-of, compute-layouts}
-use Rattle.custard.specs.Reach.{Reach, cyclic}
-use Rattle.custard.specs.Resolve.{Unfold, gone, newtype, abbreviation, stays, unfold-body, unfold-dtype, unfold-of, unfolds, unfold-name, resolve, resolve-checked}
+use Rattle.custard.specs.Layout.{ctor-layouts, candidate, dropped, names-in, layout-of}
+use Rattle.custard.specs.Resolve.{Unfold, gone, newtype, abbreviation, stays, unfold-body, unfold-dtype, unfold-of, unfolds, unfold-name, resolve}
 use Rattle.custard.specs.Run.{
   fuel,
-  resolved-field,
-  resolved-ctor,
-  struct-body,
   rw-decl,
   record-of,
   info,
@@ -56,19 +51,15 @@ use Rattle.custard.specs.Run.{
   unfold-names,
   unfold-next,
   returns,
-  field-types,
   resolves,
-  fault-code,
   decl-fault,
 }
 use Rattle.custard.specs.Names.{fields-names, dtype-names, body-names, Declared, Agree}
-use Rattle.custard.specs.Laws.Names.{position-le, agree-sym}
+use Rattle.custard.specs.Laws.Names.{agree-sym, Among, declared-cases, agree-foreign}
 use Rattle.custard.specs.Laws.Erasure.{erasure-local, ctor-layouts-local}
 use Rattle.custard.specs.Laws.Reach.{cyclic-iff, reach-loop}
 use Rattle.custard.specs.Laws.Layout.{
   candidates-of,
-  getD-table,
-  getD-table-past,
   getD-layouts,
   getD-candidates,
   layout-same,
@@ -79,10 +70,11 @@ use Rattle.custard.specs.Laws.Layout.{
   names-in-iff,
   unfold-below,
 }
-use Rattle.custard.specs.Laws.Cty.{Every, All, names-all, all-names}
+use Rattle.custard.specs.Laws.Cty.{All, names-all, all-names}
 use Rattle.custard.specs.Laws.Resolve.{BodyAll, Fields, Kept, kept-field-types, rw-decl-local, decl-fault-local}
-use Rattle.custard.specs.Laws.Own.{cls-names, layout-names, Among, layout-own}
+use Rattle.custard.specs.Laws.Own.{cls-names, layout-names, layout-own}
 use Rattle.custard.specs.Laws.Run.{lay, layout-of-decl, left-at, info-at}
+use Rattle.custard.specs.Laws.Lists.{getD-table, getD-table-past}
 
 -- ---- layouts name what their declarations name
 -- an import's layout is made of its own declaration's types
@@ -183,30 +175,18 @@ module _ (S : ℕ → Bool) (ds ds' : List Decl) (agree : Agree S ds ds') (own :
   names-inside n h d m k = agree .closed n h d m (layouts-own ds own (position ds n) d m k)
 
   pub lay-local : (n : ℕ) → S n ≡ true → lay ds n ≡ lay ds' n
-  lay-local n h = go (ltb (position ds n) (length ds)) refl
-    where
-      go : (b : Bool) → ltb (position ds n) (length ds) ≡ b → lay ds n ≡ lay ds' n
-      go true e =
-          let d : Declared ds n = ltb-true (position ds n) (length ds) e in
-          lay-declared ds n d
-          ∙ (ap₂ unfold-of (agree .same-dtype n h d) (layouts-local n h) ∙ sym (lay-declared ds' n (agree .declared n h .0 d)))
-      go false e =
-          let d : length ds ≤ position ds n = ltb-false (position ds n) (length ds) e in
-          lay-foreign ds n d ∙ sym (lay-foreign ds' n (other (ltb (position ds' n) (length ds')) refl d))
-        where
-          other : (b : Bool) → ltb (position ds' n) (length ds') ≡ b → length ds ≤ position ds n → length ds' ≤ position ds' n
-          other true q d = absurd (omega (arith, agree .declared n h .1 (ltb-true (position ds' n) (length ds') q)))
-          other false q d = ltb-false (position ds' n) (length ds') q
+  lay-local n h =
+      ⊎-elim
+      (λ d. lay-declared ds n d ∙ (ap₂ unfold-of (agree .same-dtype n h d) (layouts-local n h) ∙ sym (lay-declared ds' n (agree .declared n h .0 d))))
+      (λ e. lay-foreign ds n (omega arith) ∙ sym (lay-foreign ds' n (omega (arith, agree-foreign S ds ds' agree n h e))))
+      (declared-cases ds n)
 
   pub lay-closed : (n : ℕ) → S n ≡ true → BodyAll In (lay ds n)
-  lay-closed n h = go (ltb (position ds n) (length ds)) refl
-    where
-      go : (b : Bool) → ltb (position ds n) (length ds) ≡ b → BodyAll In (lay ds n)
-      go true e =
-          let d : Declared ds n = ltb-true (position ds n) (length ds) e in
-          rw (lay-declared ds n d)
-          (unfold-all In (dtype-at ds (position ds n)) (layout-of-decl ds (position ds n)) (agree .closed n h d) (names-inside n h d))
-      go false e = rw (lay-foreign ds n (ltb-false (position ds n) (length ds) e)) tt
+  lay-closed n h =
+      ⊎-elim
+      (λ d. rw (lay-declared ds n d) (unfold-all In (dtype-at ds (position ds n)) (layout-of-decl ds (position ds n)) (agree .closed n h d) (names-inside n h d)))
+      (λ e. let f : length ds ≤ position ds n = omega arith in rw (lay-foreign ds n f) tt)
+      (declared-cases ds n)
 
   pub left-local : (n : ℕ) → S n ≡ true → Declared ds n → left-at ds (position ds n) ≡ left-at ds' (position ds' n)
   unfolding left-at

@@ -1,16 +1,19 @@
--- Laws of a name's position, and of programs that agree on a set of names. Assumes nothing.
-use mathlib.Core.Logic.{_≢_}
+-- Laws of a name's position, of programs that agree on a set of names, and of the names of a declaration's parts. Assumes nothing.
+use mathlib.Core.Logic.{_≢_, _⊎_, inl, inr, ⊎-elim}
 use mathlib.Core.Path.{_≡_, refl, ap, sym}
-use mathlib.Core.List.{List, [], _∷_, _++_, List·Memᴰ}
-use mathlib.Core.Bool.{Bool, true, false, not}
+use mathlib.Core.List.{List, [], _∷_, _++_, List·Memᴰ, List·Memᴰ·not-nil, List·Memᴰ·append-cases, Memᴰ·append-left, Memᴰ·append-right}
+use mathlib.Core.Bool.{Bool, true, false}
 use Prim.Native.Nat.{ℕ, zero, suc, _+_, _≤_, _<_}
 use native.Mathlib.Omega.{arith}
 use native.Mathlib.Decide.{decLt}
-use lib.Dec.{T, eqb, eqb→eq, eqb-refl, ltb, ltb→lt, nltb→le}
+use lib.Dec.{T, eqb, eqb→eq, eqb-refl, nltb→le}
 use lib.ListN.{length, length-append, List·getD-append}
+use borrow.Author.Tests.{le-ltb}
 use Rattle.columns.specs.Column.{pick}
-use Rattle.custard.specs.Decl.{TypeInfo, Decl, no-decl, dtype-at, position}
-use Rattle.custard.specs.Names.{dtype-names, Declared, undeclared, Distinct, Agree, Pinned}
+use Rattle.custard.specs.Cty.{names-of-cty}
+use Rattle.custard.specs.Decl.{Field, Body, TAbstract, TAbbrev, TRecord, TVariant, ctors-of, Decl, no-decl, dtype-at, position}
+use Rattle.custard.specs.Layout.{kept}
+use Rattle.custard.specs.Names.{fields-names, ctors-names, body-names, dtype-names, Declared, undeclared, Distinct, Agree}
 
 -- ---- position
 pub position-le : (ds : List Decl) (n : ℕ) → position ds n ≤ length ds
@@ -50,6 +53,17 @@ position-first (d ∷ ds) n (suc i) h e = go (position-first ds n i (omega arith
     go ih false = omega arith
 
 -- the name of a declaration is declared
+-- a name is declared, or its place is past the last
+pub declared-cases : (ds : List Decl) (n : ℕ) → Declared ds n ⊎ (position ds n ≡ length ds)
+declared-cases ds n = go (decLt (position ds n) (length ds))
+  where
+    go : Dec (Declared ds n) → Declared ds n ⊎ (position ds n ≡ length ds)
+    go (yes d) = inl d
+    go (no d) = inr (omega (arith, position-le ds n))
+
+pub not-declared : (ds : List Decl) (n : ℕ) → (Declared ds n → ⊥) → position ds n ≡ length ds
+not-declared ds n h = omega (arith, position-le ds n)
+
 pub position-declared : (ds : List Decl) (i : ℕ) → i < length ds → Declared ds (dtype-at ds i .dt-name)
 position-declared ds i h = omega (arith, position-first ds (dtype-at ds i .dt-name) i h refl)
 
@@ -101,9 +115,6 @@ position-same (d ∷ ds) [] n e f = absurd (omega arith)
 position-same (d ∷ ds) (d' ∷ ds') n e f =
     rw (f 0 (omega arith), position-same ds ds' n (omega arith) (λ i h. f (suc i) (omega arith)))
 
-pub position-pinned : {P : ℕ → TypeInfo → Type 0} (ds ds' : List Decl) (n : ℕ) → Pinned P ds ds' → position ds n ≡ position ds' n
-position-pinned ds ds' n h = position-same ds ds' n (h .same-length) (h .same-dtypes)
-
 -- ---- programs that agree
 pub agree-sym : (S : ℕ → Bool) (ds ds' : List Decl) → Agree S ds ds' → Agree S ds' ds
 agree-sym S ds ds' g = record {
@@ -113,6 +124,9 @@ agree-sym S ds ds' g = record {
   closed = λ n s h m k. g .closed n s (g .declared n s .1 h) m (rw (g .same-dtype n s (g .declared n s .1 h)) k);
 }
 
+pub agree-foreign : (S : ℕ → Bool) (ds ds' : List Decl) → Agree S ds ds' → (n : ℕ) → S n ≡ true → position ds n ≡ length ds → position ds' n ≡ length ds'
+agree-foreign S ds ds' g n s e = not-declared ds' n (λ d. omega (arith, g .declared n s .1 d))
+
 -- what `undeclared` says
 pub undeclared-past : (ds : List Decl) (n : ℕ) → undeclared ds n ≡ true → position ds n ≡ length ds
 unfolding undeclared
@@ -120,25 +134,39 @@ undeclared-past ds n e = omega (arith, position-le ds n, nltb→le (position ds 
 
 pub undeclared-of : (ds : List Decl) (n : ℕ) → position ds n ≡ length ds → undeclared ds n ≡ true
 unfolding undeclared
-undeclared-of ds n e = go (ltb (position ds n) (length ds)) refl
-  where
-    go : (b : Bool) → ltb (position ds n) (length ds) ≡ b → not b ≡ true
-    go true q = absurd (omega (arith, ltb→lt (position ds n) (length ds) (rw q tt)))
-    go false q = refl
+undeclared-of ds n e = rw (le-ltb (position ds n) (length ds) (omega arith))
 
 -- Declarations that name nothing which others declare agree with themselves and those others behind them, on all names that the others do not declare.
 pub agree-prefix : (ds es : List Decl)
     → ((i : ℕ) → i < length ds → (m : ℕ) → List·Memᴰ m (dtype-names (dtype-at ds i)) → undeclared es m ≡ true)
     → Agree (undeclared es) ds (ds ++ es)
 agree-prefix ds es f = record {
-  declared = λ n s. (λ h. rw (position-append-left ds es n h) (omega (arith, length-append ds es)), λ h. back n s h (decLt (position ds n) (length ds)));
+  declared = λ n s. (λ h. rw (position-append-left ds es n h) (omega (arith, length-append ds es)), λ h. ⊎-elim (λ q. q) (λ e. absurd (omega (arith, h, position-append-right ds es n e, undeclared-past es n s, length-append ds es))) (declared-cases ds n));
   same-dtype = λ n s h. rw (position-append-left ds es n h) (ap (λ (d : Decl). d .dtype) (sym (List·getD-append ds es no-decl (position ds n) h)));
   same-origin = λ n s h. rw (position-append-left ds es n h) (ap (λ (d : Decl). d .origin) (sym (List·getD-append ds es no-decl (position ds n) h)));
   closed = λ n s h m k. f (position ds n) h m k;
 }
-  where
-    back : (n : ℕ) → undeclared es n ≡ true → Declared (ds ++ es) n → Dec (Declared ds n) → Declared ds n
-    back n s h (yes q) = q
-    back n s h (no q) =
-        let e : position ds n ≡ length ds = omega (arith, position-le ds n) in
-        absurd (omega (arith, position-append-right ds es n e, undeclared-past es n s, length-append ds es))
+
+-- ---- names among others
+-- all of ms are among ns
+abbrev pub Among : List ℕ → List ℕ → Type 0
+Among ms ns = (n : ℕ) → List·Memᴰ n ms → List·Memᴰ n ns
+
+pub among-append : (a b c d : List ℕ) → Among a c → Among b d → Among (a ++ b) (c ++ d)
+among-append a b c d f g n m = ⊎-elim (λ x. Memᴰ·append-left d (f n x)) (λ x. Memᴰ·append-right c (g n x)) (List·Memᴰ·append-cases a m)
+
+-- the kept fields name nothing that the fields do not
+pub kept-names : (bs : List Bool) (fs : List Field) → Among (fields-names (kept bs fs)) (fields-names fs)
+unfolding kept fields-names
+kept-names [] fs n m = absurd (List·Memᴰ·not-nil m)
+kept-names (b ∷ bs) [] n m = absurd (List·Memᴰ·not-nil m)
+kept-names (true ∷ bs) (f ∷ fs) n m = among-append (names-of-cty (f .fd-type)) _ _ (fields-names fs) (λ k u. u) (kept-names bs fs) n m
+kept-names (false ∷ bs) (f ∷ fs) n m = Memᴰ·append-right (names-of-cty (f .fd-type)) (kept-names bs fs n m)
+
+-- nor do the constructors anything that their declaration does not
+pub ctors-own : (n : ℕ) (b : Body) → Among (ctors-names (ctors-of n b)) (body-names b)
+unfolding ctors-of ctors-names body-names
+ctors-own n TAbstract k m = m
+ctors-own n (TAbbrev c) k m = absurd (List·Memᴰ·not-nil m)
+ctors-own n (TRecord fs) k m = ⊎-elim (λ x. x) (λ x. absurd (List·Memᴰ·not-nil x)) (List·Memᴰ·append-cases (fields-names fs) m)
+ctors-own n (TVariant cs) k m = m

@@ -1,5 +1,6 @@
 -- What holds of every number of a sheet's lines holds of every number of the program that is left, and how many types that has: so
 -- the lines of the left sheet of an accepted sheet fit their columns. Assumes nothing.
+use mathlib.Core.Logic.{⊎-elim}
 use mathlib.Core.Path.{_≡_, refl, ap}
 use mathlib.Core.List.{List, [], _∷_, _++_, map, List·Memᴰ}
 use mathlib.Core.Bool.{Bool, true, false, _&&_, _||_, not}
@@ -15,6 +16,7 @@ use Rattle.sheet.specs.Line.{Line, letter, number}
 use Rattle.sheet.specs.LineLaws.{Fits}
 use Rattle.sheet.specs.Sheet.{lines, encodes}
 use Rattle.sheet.specs.SheetLaws.{AllFit, lines-encodes}
+use Rattle.sheet.specs.ListLaws.{Every, every-map, every-over, every-append}
 use Rattle.custard.specs.Cty.{
   Cty,
   Ctys,
@@ -123,11 +125,13 @@ use Rattle.custard.specs.Program.{
 use Rattle.custard.specs.Rows.{count-of}
 use Rattle.custard.specs.Laws.Program.{select-append, flat, before-flat, heads, length-groups}
 use Rattle.custard.specs.Output.{left-lines}
-use Rattle.custard.specs.Laws.Cty.{Every, every-map, all-names}
-use Rattle.custard.specs.Laws.Resolve.{Stays, Normal, Fields, Ctors, BodyTypes, LeftTypes}
-use Rattle.custard.specs.Laws.Layout.{getD-table, getD-table-past, candidates-of, getD-candidates, getD-layouts, getD-layouts-past}
+use Rattle.custard.specs.Laws.Cty.{all-names}
+use Rattle.custard.specs.Laws.Resolve.{Stays, Normal, Fields, Ctors, BodyTypes, LeftTypes, Left}
+use Rattle.custard.specs.Laws.Layout.{candidates-of, getD-candidates, getD-layouts, getD-layouts-past}
 use Rattle.custard.specs.Laws.Run.{lay, left-at, run-program}
-use Rattle.custard.specs.Laws.Output.{every-append, every-over, types-of-fields, types-of-ctors, types-of-body, types-of, TypeNumbers, TypesNumbers, FieldNumbers, CtorNumbers, BodyNumbers, DtypeNumbers, total, total-bound, ProgramFits, every-select, number-fits, allFit-every, left-fits, NamesIn, left-names}
+use Rattle.custard.specs.Laws.Output.{types-of-fields, types-of-ctors, types-of-body, types-of, TypeNumbers, TypesNumbers, FieldNumbers, CtorNumbers, BodyNumbers, DtypeNumbers, total, total-bound, ProgramFits, every-select, number-fits, left-fits, NamesIn, left-names, columns-positive}
+use Rattle.custard.specs.Laws.Lists.{getD-table, getD-table-past}
+use Rattle.custard.specs.Laws.Names.{declared-cases}
 
 -- ---- the numbers of types
 module _ (Q : ℕ → Type 0) where
@@ -256,10 +260,6 @@ module _ (Q : ℕ → Type 0) where
       (λ n us p q. applied-numbers (resolve lay k) (resolve-numbers lay u k) n us (lay n) (u n) p q) c h
 
 -- ---- the declarations that are left
-abbrev pub Left : (Dtype → Type 0) → Option Dtype → Type 0
-Left P none = Unit {0}
-Left P (some d) = P d
-
 pub somes-every : (P : Dtype → Type 0) (g : ℕ → Option Dtype) (n : ℕ) → ((i : ℕ) → i < n → Left P (g i)) → Every P (somes (table g n))
 unfolding somes table
 somes-every P g zero h = tt
@@ -476,17 +476,21 @@ module _ (Q : ℕ → Type 0) (kind : (n : ℕ) → n ≤ 12 → Q n) (down : (m
 
     lay-full : (n : ℕ) → UnfoldNumbers Q (lay ds n)
     unfolding unfold-name unfolds layouts-of
-    lay-full n = go (ltb (position ds n) (length ds)) refl
+    lay-full n =
+        ⊎-elim
+        (λ d. rw (getD-table u (length ds) i stays d)
+        (unfold-full (body-fields (dtype-at ds i .dt-body)) (dtype-at ds i) (getD ls i L-opaque) (decl-full i .dtype-full) (layout-at-full (erasure-fixpoint ds .marks) i)))
+        (λ e. let f : length ds ≤ i = omega arith in rw (getD-table-past u (length ds) i stays f) tt)
+        (declared-cases ds n)
       where
+        i : ℕ
+        i = position ds n
+
         ls : List Layout
         ls = layouts-of ds
 
-        go : (c : Bool) → ltb (position ds n) (length ds) ≡ c → UnfoldNumbers Q (getD (table (λ i. unfold-of (dtype-at ds i) (getD ls i L-opaque)) (length ds)) (position ds n) stays)
-        go true e =
-            let i : ℕ = position ds n in
-            rw (getD-table (λ i. unfold-of (dtype-at ds i) (getD ls i L-opaque)) (length ds) i stays (ltb-true i (length ds) e))
-            (unfold-full (body-fields (dtype-at ds i .dt-body)) (dtype-at ds i) (getD ls i L-opaque) (decl-full i .dtype-full) (layout-at-full (erasure-fixpoint ds .marks) i))
-        go false e = rw (getD-table-past (λ i. unfold-of (dtype-at ds i) (getD ls i L-opaque)) (length ds) (position ds n) stays (ltb-false (position ds n) (length ds) e)) tt
+        u : ℕ → Unfold
+        u j = unfold-of (dtype-at ds j) (getD ls j L-opaque)
 
   -- ---- the left declaration
   module _ (res : Cty → Cty) (rn : (c : Cty) → TypeNumbers Q c → TypeNumbers Q (res c)) where
@@ -678,16 +682,12 @@ module _ (P : Cty → Type 0) where
   types-every [] h = tt
   types-every (d ∷ ds) h = every-append P (types-of-body (d .dt-body)) (types-of ds) (body-types (d .dt-body) (h .0)) (types-every ds (h .1))
 
-  left-bodies : (o : Option Dtype) → LeftTypes P o → Left (λ d. BodyTypes P (d .dt-body)) o
-  left-bodies none h = tt
-  left-bodies (some d) h = h
-
   -- what holds of the types of each left declaration holds of the types that are written
   pub run-types : (ds : List Decl) → ((i : ℕ) → i < length ds → LeftTypes P (left-at ds i)) → Every P (types-of (run ds .program))
   run-types ds h =
       rw (run-program ds)
       (types-every (somes (table (left-at ds) (length ds)))
-      (somes-every (λ d. BodyTypes P (d .dt-body)) (left-at ds) (length ds) (λ i l. left-bodies (left-at ds i) (h i l))))
+      (somes-every (λ d. BodyTypes P (d .dt-body)) (left-at ds) (length ds) h))
 
 -- No name that is unfolded, and none that is erased, is named in the left sheet.
 pub left-sheet-normal : (ls : List Line) (ds : List Decl) → ((i : ℕ) → i < length ds → LeftTypes (Normal (lay ds)) (left-at ds i)) →
@@ -1014,15 +1014,11 @@ pub sheet-fits : (w limit : ℕ) (ls : List Line) → 12 < 10 ^ w → AllFit w l
     ((i : ℕ) → i < length (program ls) → LeftTypes (λ t. size t ≤ limit) (left-at (program ls) i)) → AllFit w (left-lines ls (run (program ls) .program))
 sheet-fits w limit ls k h n b t =
     let Q : ℕ → Type 0 = λ m. m < 10 ^ w in
-    let f : Every (Numbered Q) ls = every-map (Fits w) (Numbered Q) (λ l p i. number-fits w (omega arith) l i p) ls (allFit-every w ls h) in
+    let f : Every (Numbered Q) ls = every-map (Fits w) (Numbered Q) (λ l p i. number-fits w (omega arith) l i p) ls h in
     left-fits w ls (run (program ls) .program) h
     (run-fits w limit (program ls) k (program-full Q (λ m j. omega arith) (below-down (10 ^ w)) ls f n) t (omega (arith, b, mul-le-mul-left limit (weights-program ls))))
 
 pub sheet-round : (w limit : ℕ) (ls : List Line) → 12 < 10 ^ w → AllFit w ls → length ls < 10 ^ w → limit * (heads ls + count-of field-line ls) < 10 ^ w →
     ((i : ℕ) → i < length (program ls) → LeftTypes (λ t. size t ≤ limit) (left-at (program ls) i)) →
     lines w (encodes w (left-lines ls (run (program ls) .program))) ≡ left-lines ls (run (program ls) .program)
-sheet-round w limit ls k h n b t = lines-encodes w (left-lines ls (run (program ls) .program)) (columns w k) (sheet-fits w limit ls k h n b t)
-  where
-    columns : (v : ℕ) → 12 < 10 ^ v → 0 < v
-    columns zero j = absurd (omega arith)
-    columns (suc v) j = omega arith
+sheet-round w limit ls k h n b t = lines-encodes w (left-lines ls (run (program ls) .program)) (columns-positive w k) (sheet-fits w limit ls k h n b t)

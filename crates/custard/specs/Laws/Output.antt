@@ -5,41 +5,26 @@ use mathlib.Core.List.{List, [], _∷_, _++_, map, append-assoc, append-nil, Lis
 use mathlib.Core.Bool.{Bool, true, false}
 use Prim.Native.Nat.{ℕ, zero, suc, _+_, _*_, _^_, _≤_, _<_}
 use native.Mathlib.Omega.{arith}
-use lib.Dec.{eqb}
-use borrow.Author.Tests.{eqb-true}
 use native.Mathlib.Nat.{mul-suc, mul-le-mul-left}
+use lib.Dec.{eqb}
 use lib.ListN.{length, getD, length-append, length-map}
+use borrow.Author.Tests.{eqb-true}
 use Rattle.columns.specs.Column.{pick}
+use Rattle.columns.specs.ColumnLaws.{ten-pos}
 use Rattle.sheet.specs.Format.{lineBytes, textBytes}
 use Rattle.sheet.specs.Line.{Line, named, row, bad, lettered, encode, letter, number}
 use Rattle.sheet.specs.LineLaws.{AllBelow, Fits, named-length, row-length}
 use Rattle.sheet.specs.Sheet.{lines, encodes}
 use Rattle.sheet.specs.SheetLaws.{AllFit, length-encodes, lines-encodes}
+use Rattle.sheet.specs.ListLaws.{Every, every-mem, mem-every, every-map, every-over, every-append, every-left, every-right}
 use Rattle.custard.specs.Program.{name-line, arg-line, type-line, local-line, param-line, ctor-line, field-line, verdict-line, import-line, is, is-head, select, before, Group, groups}
 use Rattle.custard.specs.Cty.{Cty, Ctys, TUnit, TAny, TExn, TVar, TInt, TFloat, TConst, TArrow, TApp, TTuple, TBuf, TRef, TInline, nil, cons, gather, gathers, names-of-cty, lengths, size, sizes}
-use Rattle.custard.specs.Laws.Cty.{Every, every-mem, mem-every, every-map, size-positive}
+use Rattle.custard.specs.Laws.Cty.{size-positive}
 use Rattle.custard.specs.Decl.{Field, Ctor, Body, TAbstract, TAbbrev, TRecord, TVariant, Dtype, Layout, L-erased, L-newtype, L-struct, L-abbrev, L-opaque, layout-number, TypeInfo}
 use Rattle.custard.specs.Output.{bit, fill-keeps, fill-verdict, all-slots, fill, fill-all, verdict-lines, Written, put, last, Members, listed, first-arg, emit, emits, Lines, field-lines, ctor-lines, decl-frame, decl-lines, program-lines, left-lines}
-use Rattle.custard.specs.Names.{fields-names, ctors-names, body-names, dtype-names}
 use Rattle.custard.specs.Laws.Program.{flat, before-flat, length-verdict-lines}
 
 -- ---- lists
-pub every-append : {A : Type 0} (P : A → Type 0) (xs ys : List A) → Every P xs → Every P ys → Every P (xs ++ ys)
-every-append P [] ys h k = k
-every-append P (x ∷ xs) ys h k = (h .0, every-append P xs ys (h .1) k)
-
-pub every-over : {A B : Type 0} (P : B → Type 0) (f : A → B) (xs : List A) → Every (λ x. P (f x)) xs → Every P (map f xs)
-every-over P f [] h = tt
-every-over P f (x ∷ xs) h = (h .0, every-over P f xs (h .1))
-
-pub every-left : {A : Type 0} (P : A → Type 0) (xs ys : List A) → Every P (xs ++ ys) → Every P xs
-every-left P [] ys h = tt
-every-left P (x ∷ xs) ys h = (h .0, every-left P xs ys (h .1))
-
-pub every-right : {A : Type 0} (P : A → Type 0) (xs ys : List A) → Every P (xs ++ ys) → Every P ys
-every-right P [] ys h = h
-every-right P (x ∷ xs) ys h = every-right P xs ys (h .1)
-
 -- ---- what is written is added at the ends
 pub record Grows (w v : Written) : Type 0 where
   pub new-args : List ℕ
@@ -223,9 +208,6 @@ field-adds fs w = rw (field-written fs w) (emit-all-adds (types-of-fields fs) w)
 
 pub ctor-adds : (cs : List Ctor) (w : Written) → Adds (length (types-of-ctors cs)) (total (types-of-ctors cs)) w (ctor-lines cs w .written)
 ctor-adds cs w = rw (ctor-written cs w) (emit-all-adds (types-of-ctors cs) w)
-
-pub decl-adds : (d : Dtype) (b : Body) (w : Written) → Adds (length (types-of-body b)) (total (types-of-body b)) w (decl-lines d b w .written)
-decl-adds d b w = rw (decl-written d b w) (emit-all-adds (types-of-body b) w)
 
 pub program-adds : (ds : List Dtype) (w : Written) → Adds (length (types-of ds)) (total (types-of ds)) w (program-lines ds w .written)
 program-adds ds w = rw (program-written ds w) (emit-all-adds (types-of ds) w)
@@ -586,22 +568,10 @@ left-bytes-prefix w ls ms ds es h k e =
     rw (left-bytes w ls ds h, left-bytes w ms (ds ++ es) k) (mul-le-mul-left (lineBytes w) (left-length-prefix ls ms ds es e))
 
 -- ---- every line of the left sheet fits
-below-every : (m : ℕ) (ns : List ℕ) → Every (λ n. n < m) ns → AllBelow m ns
-below-every m [] h = tt
-below-every m (n ∷ ns) h = (h .0, below-every m ns (h .1))
-
 row-fits : (w : ℕ) (l : Line) → RowOf (λ x. lettered x ≡ true) (λ n. n < 10 ^ w) l → Fits w l
 row-fits w (named n t) h = absurd h
-row-fits w (row x ns) h = (h .0, h .1, below-every (10 ^ w) ns (h .2))
+row-fits w (row x ns) h = (h .0, h .1, h .2)
 row-fits w bad h = absurd h
-
-pub allFit-every : (w : ℕ) (ls : List Line) → AllFit w ls → Every (Fits w) ls
-allFit-every w [] h = tt
-allFit-every w (l ∷ ls) h = (h .0, allFit-every w ls (h .1))
-
-pub every-allFit : (w : ℕ) (ls : List Line) → Every (Fits w) ls → AllFit w ls
-every-allFit w [] h = tt
-every-allFit w (l ∷ ls) h = (h .0, every-allFit w ls (h .1))
 
 -- every number of the program fits w columns, and so does the number of nodes of its types
 pub record ProgramFits (w : ℕ) (ds : List Dtype) : Type 0 where
@@ -615,8 +585,7 @@ unfolding lettered
 left-fits w ls ds h p =
     let Q : ℕ → Type 0 = λ n. n < 10 ^ w in
     let L : ℕ → Type 0 = λ x. lettered x ≡ true in
-    every-allFit w (left-lines ls ds)
-    (left-rows Q (total (types-of ds)) (λ n k. omega (arith, p .kinds)) (λ n k. omega (arith, p .nodes)) L refl refl refl refl refl ls ds (Fits w) refl refl (row-fits w) (every-select (Fits w) name-line ls (allFit-every w ls h)) (p .types) (p .decls) (omega arith))
+    (left-rows Q (total (types-of ds)) (λ n k. omega (arith, p .kinds)) (λ n k. omega (arith, p .nodes)) L refl refl refl refl refl ls ds (Fits w) refl refl (row-fits w) (every-select (Fits w) name-line ls h) (p .types) (p .decls) (omega arith))
 
 -- the lines of the left sheet's bytes
 pub left-round : (w : ℕ) (ls : List Line) (ds : List Dtype) → 0 < w → AllFit w ls → ProgramFits w ds → lines w (encodes w (left-lines ls ds)) ≡ left-lines ls ds
@@ -718,43 +687,16 @@ left-names-occur ls ds l m =
     let P : ℕ → Type 0 = λ n. (c : Cty) × List·Memᴰ c (types-of ds) × List·Memᴰ n (names-of-cty c) in
     left-names P ls ds (mem-every (NamesIn P) (types-of ds) (λ c j n k. (c, j, k))) l m
 
--- the same, by the names of each declaration
-fields-in : (P : ℕ → Type 0) (fs : List Field) → ((n : ℕ) → List·Memᴰ n (fields-names fs) → P n) → Every (NamesIn P) (types-of-fields fs)
-unfolding fields-names types-of-fields
-fields-in P [] h = tt
-fields-in P (f ∷ fs) h =
-    (λ n m. h n (Memᴰ·append-left (fields-names fs) m), fields-in P fs (λ n m. h n (Memᴰ·append-right (names-of-cty (f .fd-type)) m)))
-
-ctors-in : (P : ℕ → Type 0) (cs : List Ctor) → ((n : ℕ) → List·Memᴰ n (ctors-names cs) → P n) → Every (NamesIn P) (types-of-ctors cs)
-unfolding ctors-names types-of-ctors
-ctors-in P [] h = tt
-ctors-in P (c ∷ cs) h =
-    every-append (NamesIn P) (types-of-fields (c .ct-fields)) (types-of-ctors cs)
-    (fields-in P (c .ct-fields) (λ n m. h n (Memᴰ·append-left (ctors-names cs) m)))
-    (ctors-in P cs (λ n m. h n (Memᴰ·append-right (fields-names (c .ct-fields)) m)))
-
-body-in : (P : ℕ → Type 0) (b : Body) → ((n : ℕ) → List·Memᴰ n (body-names b) → P n) → Every (NamesIn P) (types-of-body b)
-unfolding body-names types-of-body
-body-in P TAbstract h = tt
-body-in P (TAbbrev c) h = (h, tt)
-body-in P (TRecord fs) h = fields-in P fs h
-body-in P (TVariant cs) h = ctors-in P cs h
-
-pub names-in-types : (P : ℕ → Type 0) (ds : List Dtype) → Every (λ d. (n : ℕ) → List·Memᴰ n (dtype-names d) → P n) ds → Every (NamesIn P) (types-of ds)
-unfolding types-of dtype-names
-names-in-types P [] h = tt
-names-in-types P (d ∷ ds) h =
-    every-append (NamesIn P) (types-of-body (d .dt-body)) (types-of ds) (body-in P (d .dt-body) (h .0)) (names-in-types P ds (h .1))
-
 -- ---- the verdict sheet
-pow-pos : (w : ℕ) → 0 < 10 ^ w
-pow-pos zero = omega arith
-pow-pos (suc w) = omega (arith, pow-pos w)
+-- where numbers of two digits fit, there are columns
+pub columns-positive : (w : ℕ) → 12 < 10 ^ w → 0 < w
+columns-positive zero h = absurd (omega arith)
+columns-positive (suc w) h = omega arith
 
 -- any column holds a digit
 pub ten : (w : ℕ) → 0 < w → 4 < 10 ^ w
 ten zero h = absurd (omega arith)
-ten (suc w) h = omega (arith, pow-pos w)
+ten (suc w) h = omega (arith, ten-pos w)
 
 -- every line that is filled in fits where the lines do
 module _ (w : ℕ) (four : 4 < 10 ^ w) where
@@ -832,9 +774,8 @@ module _ (w : ℕ) (four : 4 < 10 ^ w) where
   verdict-fits ls tis h =
       let p = before is-head ls in
       let q = flat (groups is-head ls) in
-      let k : Every (Fits w) (p ++ q) = rw (before-flat is-head ls) (allFit-every w ls h) in
-      every-allFit w (p ++ fill-all (groups is-head ls) tis)
-      (every-append (Fits w) p (fill-all (groups is-head ls) tis) (every-left (Fits w) p q k) (fill-all-fits (groups is-head ls) tis (every-right (Fits w) p q k)))
+      let k : Every (Fits w) (p ++ q) = rw (before-flat is-head ls) h in
+      every-append (Fits w) p (fill-all (groups is-head ls) tis) (every-left (Fits w) p q k) (fill-all-fits (groups is-head ls) tis (every-right (Fits w) p q k))
 
 -- as many bytes as the lines of the input have, and they read as its lines
 pub verdict-bytes : (w : ℕ) (ls : List Line) (tis : List TypeInfo) → 4 < 10 ^ w → AllFit w ls → length (groups is-head ls) ≡ length tis →

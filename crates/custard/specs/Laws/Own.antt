@@ -1,47 +1,14 @@
 -- The types of a declaration's layout name only what the declaration's own types name.
 -- Assumes nothing.
-use mathlib.Core.Logic.{_⊎_, inl, inr, ⊎-elim}
-use mathlib.Core.Path.{_≡_, refl, sym, _∙_, ap, subst}
-use mathlib.Core.List.{
-  List,
-  [],
-  _∷_,
-  _++_,
-  map,
-  List·Memᴰ,
-  List·Memᴰ·head,
-  List·Memᴰ·tail,
-  List·Memᴰ·not-nil,
-  List·Memᴰ·cases-cons,
-  List·Memᴰ·append-cases,
-  Memᴰ·append-left,
-  Memᴰ·append-right,
-}
+use mathlib.Core.Path.{_≡_, refl, sym, subst}
+use mathlib.Core.List.{List, [], _∷_, _++_, map, List·Memᴰ, List·Memᴰ·not-nil, Memᴰ·append-left}
 use mathlib.Core.Bool.{Bool, true, false, _||_}
 use mathlib.Core.Option.{Option, none, some}
-use Prim.Native.Nat.{ℕ, zero, suc}
+use Prim.Native.Nat.{ℕ}
 use lib.Dec.{eqb}
 use Rattle.columns.specs.Column.{pick, _⇒_∥_}
 use Rattle.sheet.specs.Line.{Line}
-use Rattle.custard.specs.Cty.{
-  Cty,
-  TUnit,
-  TAny,
-  TExn,
-  TVar,
-  TInt,
-  TFloat,
-  TConst,
-  TArrow,
-  TApp,
-  TTuple,
-  TBuf,
-  TRef,
-  TInline,
-  gather,
-  names-of-cty,
-  uninline,
-}
+use Rattle.custard.specs.Cty.{names-of-cty}
 use Rattle.custard.specs.Decl.{
   Field,
   Ctor,
@@ -51,7 +18,6 @@ use Rattle.custard.specs.Decl.{
   TRecord,
   TVariant,
   Dtype,
-  ctors-of,
   ctors-of-tydef,
   has-flag,
   NoNewtype,
@@ -62,15 +28,15 @@ use Rattle.custard.specs.Decl.{
   L-struct,
   L-abbrev,
   L-opaque,
-  TypeInfo,
   Origin,
   here,
   imported,
 }
-use Rattle.custard.specs.Layout.{kept, ctor-layout, ctor-layouts, newtype-of-ctor, newtype-of, candidate, collapse, layout-of-body, layout-of}
-use Rattle.custard.specs.Run.{field-types, resolves}
+use Rattle.custard.specs.Layout.{ctor-layout, ctor-layouts, newtype-of-ctor, newtype-of, candidate, collapse, layout-of-body, layout-of}
 use Rattle.custard.specs.Program.{keeps-of, ctor-layouts-by, abbreviated, or-struct, layout-by, info-of}
 use Rattle.custard.specs.Names.{fields-names, ctors-names, body-names, dtype-names}
+use Rattle.custard.specs.Laws.Cty.{uninline-names}
+use Rattle.custard.specs.Laws.Names.{Among, among-append, kept-names, ctors-own}
 
 -- ---- what a layout names
 unfoldable pub cls-names : List CtorLayout → List ℕ
@@ -85,44 +51,6 @@ layout-names (L-struct cls) = cls-names cls
 layout-names (L-abbrev c) = names-of-cty c
 layout-names L-opaque = []
 
--- all of ms are among ns
-abbrev pub Among : List ℕ → List ℕ → Type 0
-Among ms ns = (n : ℕ) → List·Memᴰ n ms → List·Memᴰ n ns
-
-pub among-append : (a b c d : List ℕ) → Among a c → Among b d → Among (a ++ b) (c ++ d)
-among-append a b c d f g n m = ⊎-elim (λ x. Memᴰ·append-left d (f n x)) (λ x. Memᴰ·append-right c (g n x)) (List·Memᴰ·append-cases a m)
-
-pub among-right : (a b c : List ℕ) → Among a c → Among a (b ++ c)
-among-right a b c f n m = Memᴰ·append-right b (f n m)
-
-pub uninline-names : (c : Cty) → names-of-cty (uninline c) ≡ names-of-cty c
-unfolding uninline names-of-cty gather
-uninline-names TUnit = refl
-uninline-names TAny = refl
-uninline-names TExn = refl
-uninline-names (TVar v) = refl
-uninline-names (TInt s w) = refl
-uninline-names (TFloat f) = refl
-uninline-names (TConst c) = refl
-uninline-names (TArrow a e b) = refl
-uninline-names (TApp n ts) = refl
-uninline-names (TTuple ts) = refl
-uninline-names (TBuf t) = refl
-uninline-names (TRef k t) = refl
-uninline-names (TInline t) = refl
-
-pub kept-names : (bs : List Bool) (fs : List Field) → Among (fields-names (kept bs fs)) (fields-names fs)
-unfolding kept fields-names
-kept-names [] fs n m = absurd (List·Memᴰ·not-nil m)
-kept-names (b ∷ bs) [] n m = absurd (List·Memᴰ·not-nil m)
-kept-names (b ∷ bs) (f ∷ fs) n m = go b (kept-names bs fs n) m
-  where
-    go : (b : Bool) → (List·Memᴰ n (fields-names (kept bs fs)) → List·Memᴰ n (fields-names fs))
-        → List·Memᴰ n (fields-names (pick b (f ∷ kept bs fs) (kept bs fs))) → List·Memᴰ n (names-of-cty (f .fd-type) ++ fields-names fs)
-    go true ih k =
-        ⊎-elim (λ x. Memᴰ·append-left (fields-names fs) x) (λ x. Memᴰ·append-right (names-of-cty (f .fd-type)) (ih x)) (List·Memᴰ·append-cases (names-of-cty (f .fd-type)) k)
-    go false ih k = Memᴰ·append-right (names-of-cty (f .fd-type)) (ih k)
-
 cls-by-map : (er : Ctor → List Bool) (cs : List Ctor) → Among (cls-names (map (λ c. ctor-layout c (er c)) cs)) (ctors-names cs)
 unfolding cls-names ctors-names ctor-layout
 cls-by-map er [] n m = m
@@ -133,13 +61,6 @@ unfolding cls-names ctors-names ctor-layout ctor-layouts-by
 cls-by [] bss n m = m
 cls-by (c ∷ cs) [] n m = absurd (List·Memᴰ·not-nil m)
 cls-by (c ∷ cs) (bs ∷ bss) n m = among-append _ _ _ _ (kept-names bs (c .ct-fields)) (cls-by cs bss) n m
-
-ctors-own : (n : ℕ) (b : Body) → Among (ctors-names (ctors-of n b)) (body-names b)
-unfolding ctors-of ctors-names body-names
-ctors-own n TAbstract k m = m
-ctors-own n (TAbbrev c) k m = absurd (List·Memᴰ·not-nil m)
-ctors-own n (TRecord fs) k m = ⊎-elim (λ x. x) (λ x. absurd (List·Memᴰ·not-nil x)) (List·Memᴰ·append-cases (fields-names fs) m)
-ctors-own n (TVariant cs) k m = m
 
 -- the constructors' layouts of a declaration, however the slots were found
 abbrev pub Own : Dtype → List CtorLayout → Type 0

@@ -1,29 +1,25 @@
 -- What passing rows says of a sheet's program. Assumes nothing.
-use mathlib.Core.Logic.{_↔_}
 use mathlib.Core.Path.{_≡_, refl, sym, _∙_, ap, subst}
-use mathlib.Core.List.{List, [], _∷_, _++_, map, List·Memᴰ}
-use mathlib.Core.Bool.{Bool, true, false, _&&_, _||_, not}
+use mathlib.Core.List.{List, [], _∷_, map}
+use mathlib.Core.Bool.{Bool, true, false, _&&_, or-true}
 use Prim.Native.Nat.{ℕ, zero, suc, _≤_, _<_}
 use native.Mathlib.Omega.{arith}
-use lib.Dec.{eqb, ltb}
-use lib.ListN.{length, getD, length-map}
-use borrow.Author.Tests.{ltb-true, ltb-false, lt-ltb, le-ltb, eq-eqb}
+use lib.Dec.{ltb}
+use lib.ListN.{length}
+use borrow.Author.Tests.{ltb-true, ltb-false, lt-ltb, eq-eqb}
 use Rattle.columns.specs.Column.{pick}
-use Rattle.sheet.specs.Line.{Line, bad, letter, number, text}
+use Rattle.sheet.specs.Line.{Line, number, text}
 use Rattle.sheet.specs.Sheet.{first}
 use Rattle.sheet.specs.FirstLaws.{first-le-at}
 use Rattle.custard.specs.Cty.{Cty}
-use Rattle.custard.specs.Decl.{Dtype, TypeInfo, Origin, here, imported, Decl, no-decl, dtype-at, origin-at, close-fields}
+use Rattle.custard.specs.Decl.{Dtype, TypeInfo, here, imported, Decl, no-decl, dtype-at, origin-at, close-fields}
 use Rattle.custard.specs.Program.{
   name-line,
-  param-line,
-  field-line,
   import-line,
   is,
   is-head,
   Group,
   groups,
-  before,
   trees,
   dtype-of,
   info-of,
@@ -31,13 +27,14 @@ use Rattle.custard.specs.Program.{
   decl-of,
   program,
 }
-use Rattle.custard.specs.Rows.{line-at, heads-before, equal, is-ctor, same-decl, same-ctor, repeats, row6}
+use Rattle.custard.specs.Rows.{line-at, heads-before, equal, repeats, row6}
 use Rattle.custard.specs.Names.{dtype-names, Distinct}
-use Rattle.custard.specs.Laws.Program.{getD-map, length-program, heads-before-program, program-at, HeadAt, head-at}
-use Rattle.custard.specs.Laws.Own.{Among, layout-names, info-own}
+use Rattle.custard.specs.Laws.Program.{length-program, heads-before-program, program-at, HeadAt, head-at}
+use Rattle.custard.specs.Laws.Own.{layout-names, info-own}
 use Rattle.custard.specs.Laws.Locality.{OwnImports}
 use Rattle.custard.specs.Answer.{at-head}
 use Rattle.custard.specs.Laws.Answer.{Clear}
+use Rattle.custard.specs.Laws.Names.{Among}
 
 -- ---- rows at declarations
 -- A row that is tested at the lines where declarations begin passes exactly if each declaration does.
@@ -65,10 +62,6 @@ name-at ls i h e = ap (λ (d : Decl). d .dtype .dt-name) (program-at ls i no-dec
 repeated : (ls : List Line) (i j : ℕ) → is-head (line-at ls i) ≡ true → is-head (line-at ls j) ≡ true → number (line-at ls i) 0 ≡ number (line-at ls j) 0 → repeats ls i j ≡ true
 unfolding repeats
 repeated ls i j a b e = rw (a, b, eq-eqb (number (line-at ls j) 0) (number (line-at ls i) 0) (sym e)) (or-true (is name-line (line-at ls j) && is name-line (line-at ls i) && equal (text (line-at ls j)) (text (line-at ls i))))
-  where
-    or-true : (c : Bool) → (c || true) ≡ true
-    or-true true = refl
-    or-true false = refl
 
 earlier : (ls : List Line) → Clear (length ls) (row6 ls) → (i j : ℕ) → i < length ls → j < i → is-head (line-at ls i) ≡ true → is-head (line-at ls j) ≡ true → number (line-at ls i) 0 ≡ number (line-at ls j) 0 → ⊥
 unfolding row6

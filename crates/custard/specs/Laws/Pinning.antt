@@ -1,6 +1,6 @@
 -- Pinning: a program whose first declarations are imported with the verdicts that they get on their own
 -- gives every declaration the same verdict, left declaration and faults. Assumes nothing.
-use mathlib.Core.Logic.{_⊎_, inl, inr, ⊎-elim}
+use mathlib.Core.Logic.{_⊎_, inl, inr}
 use mathlib.Core.Path.{_≡_, refl, sym, _∙_, ap, ap₂, subst, fun-ext}
 use mathlib.Core.List.{List, [], _∷_, _++_, List·Memᴰ}
 use mathlib.Core.Bool.{Bool, true, false}
@@ -10,12 +10,9 @@ use native.Mathlib.Omega.{arith}
 use lib.Dec.{ltb}
 use lib.ListN.{length, getD, take, drop, take-append-drop, length-append, List·getD-append}
 use lib.Seq.{getD-append-add, getD-take, length-take-le, ext-getD}
-use borrow.Author.Tests.{ltb-true, ltb-false, lt-ltb, le-ltb}
-use Rattle.columns.specs.Column.{pick}
+use borrow.Author.Tests.{ltb-true, ltb-false, lt-ltb}
 use Rattle.custard.specs.Decl.{
   Dtype,
-  CtorLayout,
-  Layout,
   L-opaque,
   TypeInfo,
   Origin,
@@ -31,13 +28,14 @@ use Rattle.custard.specs.Decl.{
 use Rattle.custard.specs.Erasure.{marked, rule, rule-of, erasure-fixpoint}
 use Rattle.custard.specs.Layout.{ctor-layouts, dropped, layout-of, compute-layouts}
 use Rattle.custard.specs.Run.{info, layouts-of, somes, run, returns, decl-fault}
-use Rattle.custard.specs.Names.{dtype-names, Declared, undeclared, Distinct, Agree, Pin, Pinned}
-use Rattle.custard.specs.Laws.Names.{position-le, position-name, position-distinct, position-declared, position-append-left, position-append-right, agree-prefix, undeclared-of}
+use Rattle.custard.specs.Names.{dtype-names, Declared, undeclared, Distinct, Agree, Pin}
+use Rattle.custard.specs.Laws.Names.{position-name, position-distinct, position-declared, position-append-left, agree-prefix, undeclared-of, position-same, not-declared}
 use Rattle.custard.specs.Laws.Erasure.{erasure-solves, erasure-pinned}
-use Rattle.custard.specs.Laws.Layout.{length-table, getD-table, Placed, candidates-of, layout-at, PinnedLayouts, pinned-layouts, getD-layouts, table-cong}
-use Rattle.custard.specs.Laws.Run.{lay, layout-of-decl, left-at, info-at, run-program, run-infos, getD-infos, length-infos, places-same, left-same, program-same, fault-same, returns-same}
+use Rattle.custard.specs.Laws.Layout.{Placed, candidates-of, layout-at, pinned-layouts, getD-layouts}
+use Rattle.custard.specs.Laws.Run.{layout-of-decl, left-at, info-at, run-program, run-infos, getD-infos, length-infos, left-same, program-same, fault-same, returns-same}
 use Rattle.custard.specs.Laws.Program.{pins}
 use Rattle.custard.specs.Laws.Locality.{OwnImports, info-local, left-local, fault-local, returns-local}
+use Rattle.custard.specs.Laws.Lists.{length-table, getD-table, table-cong}
 
 -- ---- pinned programs
 pub pin-length : (ds : List Decl) (tis : List TypeInfo) → length tis ≡ length ds → length (pins ds tis) ≡ length ds
@@ -92,22 +90,19 @@ distinct-left ds es d i j h k e =
 
 -- a name that the first part declares is not declared again
 pub distinct-undeclared : (ds es : List Decl) → Distinct (ds ++ es) → (i : ℕ) → i < length ds → undeclared es (dtype-at ds i .dt-name) ≡ true
-distinct-undeclared ds es d i h = undeclared-of es n (go (ltb (position es n) (length es)) refl)
+distinct-undeclared ds es d i h = undeclared-of es n (not-declared es n again)
   where
     n : ℕ
     n = dtype-at ds i .dt-name
 
-    go : (b : Bool) → ltb (position es n) (length es) ≡ b → position es n ≡ length es
-    go true q =
-        let k : position es n < length es = ltb-true (position es n) (length es) q in
-        let j : ℕ = length ds + position es n in
+    again : Declared es n → ⊥
+    again k =
         let name : dtype-at (ds ++ es) (length ds + position es n) .dt-name ≡ n =
         ap (λ (x : Decl). x .dtype .dt-name) (getD-append-add ds es (position es n) no-decl) ∙ position-name es n k in
         let same : i ≡ length ds + position es n =
         d i (length ds + position es n) (rw length-append (omega arith)) (rw length-append (omega arith))
         (ap (λ (x : Decl). x .dtype .dt-name) (at-left ds es i h) ∙ sym name) in
-        absurd (omega arith)
-    go false q = omega (arith, ltb-false (position es n) (length es) q, position-le es n)
+        omega arith
 
 -- ---- the first part on its own
 module _ (ds es : List Decl) (distinct : Distinct (ds ++ es)) (apart : Apart ds es) where
@@ -293,7 +288,7 @@ module _ (ds es : List Decl) (distinct : Distinct (ds ++ es)) (apart : Apart ds 
 
     marked-first : marked (ds ++ es) (erasure-fixpoint (ds ++ es) .marks) ≡ marked imported-first (erasure-fixpoint imported-first .marks)
     unfolding marked
-    marked-first = fun-ext (λ n. ap₂ (λ (s : List Bool) (i : ℕ). getD s i false) (sym imported-marks) (places-same (ds ++ es) imported-first first-length first-dtype n))
+    marked-first = fun-ext (λ n. ap₂ (λ (s : List Bool) (i : ℕ). getD s i false) (sym imported-marks) (position-same (ds ++ es) imported-first n first-length first-dtype))
 
     -- and so is every verdict
     pub imported-info : (i : ℕ) → i < length (ds ++ es) → info-at (ds ++ es) i ≡ info-at imported-first i

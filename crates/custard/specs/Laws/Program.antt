@@ -3,16 +3,17 @@
 use mathlib.Core.Logic.{_⊎_, inl, inr, ⊎-elim}
 use mathlib.Core.Path.{_≡_, refl, ap, ap₂, sym, _∙_}
 use mathlib.Core.List.{List, [], _∷_, _++_, map, append-assoc, append-nil, map-append, map-map, map-id}
-use mathlib.Core.Bool.{Bool, true, false, _&&_, _||_, not}
+use mathlib.Core.Bool.{Bool, true, false, _||_, not}
 use mathlib.Core.Option.{Option, none, some}
 use Prim.Native.Nat.{ℕ, zero, suc, _+_, _≤_, _<_}
 use native.Mathlib.Omega.{arith}
-use lib.Dec.{eqb, ltb}
-use lib.ListN.{length, getD, take, drop, length-append, length-map, List·getD-map}
+use lib.Dec.{eqb}
+use lib.ListN.{length, getD, take, drop, length-append, length-map}
 use borrow.Author.Tests.{eqb-true, eqb-false}
 use Rattle.columns.specs.Column.{pick, _⇒_∥_}
 use Rattle.sheet.specs.Line.{Line, row, bad, letter, number}
-use Rattle.custard.specs.Cty.{Cty, TUnit, uninline}
+use Rattle.sheet.specs.ListLaws.{contrary, neither, Every, every-append, every-left, every-right}
+use Rattle.custard.specs.Cty.{Cty, TUnit}
 use Rattle.custard.specs.Decl.{
   Field,
   Ctor,
@@ -33,7 +34,6 @@ use Rattle.custard.specs.Decl.{
   L-struct,
   L-abbrev,
   L-opaque,
-  NewtypeLayout,
   layout-number,
   TypeInfo,
   Origin,
@@ -48,9 +48,9 @@ use Rattle.custard.specs.Decl.{
   close-body,
   close-fields,
 }
-use Rattle.custard.specs.Erasure.{cty-erased, Settled, marked, erasure-fixpoint}
-use Rattle.custard.specs.Layout.{first-kept, slots, ctor-layout, ctor-layouts, newtype-of-ctor, newtype-of, candidate, candidates, dropped, collapse, layout-of-body, layout-of, compute-layouts}
-use Rattle.custard.specs.Run.{info, Ran, run}
+use Rattle.custard.specs.Erasure.{cty-erased, marked, erasure-fixpoint}
+use Rattle.custard.specs.Layout.{slots, ctor-layout, ctor-layouts, newtype-of-ctor, newtype-of, candidate, candidates, dropped, collapse, layout-of-body, layout-of}
+use Rattle.custard.specs.Run.{info, run}
 use Rattle.custard.specs.Program.{
   name-line,
   arg-line,
@@ -67,7 +67,6 @@ use Rattle.custard.specs.Program.{
   before,
   Group,
   groups,
-  trees-after,
   trees,
   field-of,
   ctor-of,
@@ -84,26 +83,15 @@ use Rattle.custard.specs.Program.{
 }
 use Rattle.custard.specs.Output.{bit, fill-keeps, fill-verdict, all-slots, fill, fill-all, verdict-lines, left-lines}
 use Rattle.custard.specs.Rows.{line-at, count-of, heads-before}
+use Rattle.custard.specs.Laws.Lists.{getD-map}
+use Rattle.custard.specs.Laws.Layout.{getD-candidates, getD-layouts}
 
 -- ---- tests
-pub false-true : {A : Type 0} → false ≡ true → A
-false-true e = let z : _≡_ {A = ℕ} 0 1 = cc in absurd (omega arith)
-
-pub contrary : {A : Type 0} (b : Bool) → b ≡ true → b ≡ false → A
-contrary b t f = let z : _≡_ {A = ℕ} 0 1 = cc in absurd (omega arith)
-
 -- ---- lists
--- an element of a map, whatever stands for one past the last
-pub getD-map : {A B : Type 0} (f : A → B) (l : List A) (i : ℕ) (d : B) (a : A) → i < length l → getD (map f l) i d ≡ f (getD l i a)
-getD-map f [] i d a h = absurd (omega arith)
-getD-map f (x ∷ l) zero d a h = refl
-getD-map f (x ∷ l) (suc i) d a h = getD-map f l i d a (omega arith)
-
 -- ---- parts of a list of lines
 -- no line of which the test holds
 abbrev pub None : (Line → Bool) → List Line → Type 0
-None p [] = Unit {0}
-None p (l ∷ ls) = (p l ≡ false) × None p ls
+None p = Every (λ l. p l ≡ false)
 
 -- empty, or a first line of which the test holds
 abbrev pub Starts : (Line → Bool) → List Line → Type 0
@@ -111,16 +99,13 @@ Starts p [] = Unit {0}
 Starts p (l ∷ ls) = p l ≡ true
 
 pub none-append : (p : Line → Bool) (a b : List Line) → None p a → None p b → None p (a ++ b)
-none-append p [] b h k = k
-none-append p (l ∷ a) b h k = (h .0, none-append p a b (h .1) k)
+none-append p = every-append (λ l. p l ≡ false)
 
 pub none-left : (p : Line → Bool) (a b : List Line) → None p (a ++ b) → None p a
-none-left p [] b h = tt
-none-left p (l ∷ a) b h = (h .0, none-left p a b (h .1))
+none-left p = every-left (λ l. p l ≡ false)
 
 pub none-right : (p : Line → Bool) (a b : List Line) → None p (a ++ b) → None p b
-none-right p [] b h = h
-none-right p (l ∷ a) b h = none-right p a b (h .1)
+none-right p = every-right (λ l. p l ≡ false)
 
 pub select-append : (x : ℕ) (a b : List Line) → select x (a ++ b) ≡ select x a ++ select x b
 unfolding select
@@ -166,6 +151,12 @@ unfolding before
 before-none p [] h = refl
 before-none p (l ∷ ls) h = rw (h .0) (ap (λ (r : List Line). l ∷ r) (before-none p ls (h .1)))
 
+-- lines in front of which none begins a group
+pub before-after : (p : Line → Bool) (a b : List Line) → None p a → before p (a ++ b) ≡ a ++ before p b
+unfolding before
+before-after p [] b h = refl
+before-after p (l ∷ a) b h = rw (h .0) (ap (λ (r : List Line). l ∷ r) (before-after p a b (h .1)))
+
 -- the header of a sheet
 pub before-header : (p : Line → Bool) (hs b : List Line) → None p hs → Starts p b → before p (hs ++ b) ≡ hs
 before-header p hs b h s = before-append p hs b s ∙ before-none p hs h
@@ -190,6 +181,11 @@ groups-append p (l ∷ a) b s = rw (before-append p a b s) (go (p l) (groups-app
         ≡ pick c (record { head = l; rest = before p a } ∷ groups p a) (groups p a) ++ groups p b
     go true e = ap (λ (s : List Group). record { head = l; rest = before p a } ∷ s) e
     go false e = e
+
+pub groups-after : (p : Line → Bool) (a b : List Line) → None p a → groups p (a ++ b) ≡ groups p b
+unfolding groups
+groups-after p [] b h = refl
+groups-after p (l ∷ a) b h = rw (h .0) (groups-after p a b (h .1))
 
 pub groups-none : (p : Line → Bool) (ls : List Line) → None p ls → groups p ls ≡ []
 unfolding groups
@@ -218,8 +214,7 @@ pub record Grouped (p : Line → Bool) (g : Group) : Type 0 where
   pub alone : None p (g .rest)
 
 abbrev pub AllGrouped : (Line → Bool) → List Group → Type 0
-AllGrouped p [] = Unit {0}
-AllGrouped p (g ∷ gs) = Grouped p g × AllGrouped p gs
+AllGrouped p = Every (Grouped p)
 
 pub grouped : (p : Line → Bool) (ls : List Line) → AllGrouped p (groups p ls)
 unfolding groups
@@ -284,12 +279,8 @@ head-cases l e = go (is local-line l) refl e
     go true q h = inl (eqb-true (letter l) 68 q)
     go false q h = inr (eqb-true (letter l) 73 h)
 
-pub or-false : (a b : Bool) → (a || b) ≡ false → (a ≡ false) × (b ≡ false)
-or-false true b e = false-true (sym e)
-or-false false b e = (refl, e)
-
 pub head-not : (l : Line) → is-head l ≡ false → (is local-line l ≡ false) × (is import-line l ≡ false)
-head-not l e = or-false (is local-line l) (is import-line l) e
+head-not l e = neither (is local-line l) (is import-line l) e
 
 heads-head : (l : Line) (ls : List Line) → is-head l ≡ true → heads (l ∷ ls) ≡ suc (heads ls)
 unfolding select
@@ -298,9 +289,6 @@ heads-head l ls e = ⊎-elim (λ h. rw h (omega arith)) (λ h. rw h (omega arith
 heads-other : (l : Line) (ls : List Line) → is-head l ≡ false → heads (l ∷ ls) ≡ heads ls
 unfolding select
 heads-other l ls e = let k = head-not l e in rw (k .0, k .1)
-
-pub heads-append : (a b : List Line) → heads (a ++ b) ≡ heads a + heads b
-heads-append a b = rw (select-append, select-append, length-append, length-append) (omega arith)
 
 heads-nil : heads [] ≡ 0
 unfolding select
@@ -840,20 +828,7 @@ abbrev pub Ended : Line → Type 0
 Ended l = (is field-line l || is verdict-line l) ≡ true → (number l 3 ≡ 0) × (number l 4 ≡ 0)
 
 abbrev pub AllEnded : List Line → Type 0
-AllEnded [] = Unit {0}
-AllEnded (l ∷ ls) = Ended l × AllEnded ls
-
-pub ended-append : (a b : List Line) → AllEnded a → AllEnded b → AllEnded (a ++ b)
-ended-append [] b h k = k
-ended-append (l ∷ a) b h k = (h .0, ended-append a b (h .1) k)
-
-pub ended-left : (a b : List Line) → AllEnded (a ++ b) → AllEnded a
-ended-left [] b h = tt
-ended-left (l ∷ a) b h = (h .0, ended-left a b (h .1))
-
-pub ended-right : (a b : List Line) → AllEnded (a ++ b) → AllEnded b
-ended-right [] b h = h
-ended-right (l ∷ a) b h = ended-right a b (h .1)
+AllEnded = Every Ended
 
 ended-filling : {bs : List Bool} {ls r : List Line} → Filling bs ls r → AllEnded ls → AllEnded r
 ended-filling done h = tt
@@ -936,8 +911,8 @@ plain-fills [] tis n k h = refl
 plain-fills (g ∷ gs) [] n k h = absurd (omega arith)
 plain-fills (g ∷ gs) (ti ∷ tis) n k h =
     ap₂ (λ (x : Group) (s : List Group). x ∷ s)
-    (plain-filled g ti (k .0 .begins) (ended-left (g .rest) (flat gs) (h .1)))
-    (plain-fills gs tis (omega arith) (k .1) (ended-right (g .rest) (flat gs) (h .1)))
+    (plain-filled g ti (k .0 .begins) (every-left Ended (g .rest) (flat gs) (h .1)))
+    (plain-fills gs tis (omega arith) (k .1) (every-right Ended (g .rest) (flat gs) (h .1)))
 
 -- A verdict sheet differs from its sheet only in what `plain` leaves out.
 pub plain-verdict-lines : (ls : List Line) (tis : List TypeInfo) → length tis ≡ length (groups is-head ls) → AllEnded ls
@@ -949,7 +924,7 @@ plain-verdict-lines ls tis n h =
     ∙ map-append plain (before is-head ls) (flat (fills gs tis))
     ∙ ap (λ (r : List Line). map plain (before is-head ls) ++ r)
     (plain-flat (fills gs tis)
-    ∙ ap flat (plain-fills gs tis n (grouped is-head ls) (ended-right (before is-head ls) (flat gs) (rw e h)))
+    ∙ ap flat (plain-fills gs tis n (grouped is-head ls) (every-right Ended (before is-head ls) (flat gs) (rw e h)))
     ∙ sym (plain-flat gs))
     ∙ sym (map-append plain (before is-head ls) (flat gs))
     ∙ ap (map plain) e
@@ -957,8 +932,7 @@ plain-verdict-lines ls tis n h =
 -- ---- whole declarations
 -- Each constructor has as many F lines as its C line says.
 abbrev pub AllCounted : List Group → Type 0
-AllCounted [] = Unit {0}
-AllCounted (g ∷ gs) = (count-of field-line (g .rest) ≡ number (g .head) 1) × AllCounted gs
+AllCounted = Every (λ g. count-of field-line (g .rest) ≡ number (g .head) 1)
 
 -- The lines of a declaration that passes row 3: the body is as its counts say, and the V line is the last.
 pub record Whole (g : Group) : Type 0 where
@@ -976,12 +950,40 @@ pub record Whole (g : Group) : Type 0 where
   pub counted : number (g .head) 2 ≡ 3 → AllCounted (groups (is ctor-line) (g .rest))
 
 abbrev pub AllWhole : List Group → Type 0
-AllWhole [] = Unit {0}
-AllWhole (g ∷ gs) = Whole g × AllWhole gs
+AllWhole = Every Whole
 
 pub whole-verdict : (g : Group) → Whole g → 0 < count-of verdict-line (g .rest)
 whole-verdict g w =
     rw (w .ends, select-append, length-append, select-yes verdict-line (w .last) [] (w .is-last)) (omega arith)
+
+-- document 01's number of a body
+unfoldable pub body-number : Body → ℕ
+body-number TAbstract = 0
+body-number (TAbbrev c) = 1
+body-number (TRecord fs) = 2
+body-number (TVariant cs) = 3
+
+-- a body's number is its D or I line's
+pub body-of-number : (ts : List Cty) (k last : ℕ) (ls : List Line) → k ≤ 3 → body-number (body-of ts k last ls) ≡ k
+unfolding body-of body-number
+body-of-number ts k last ls h = go (eqb k 1) (eqb k 2) (eqb k 3) refl refl refl
+  where
+    go : (x y z : Bool) → eqb k 1 ≡ x → eqb k 2 ≡ y → eqb k 3 ≡ z → body-number (
+        x ⇒ TAbbrev (getD ts last TUnit) ∥
+        y ⇒ TRecord (map (field-of ts) (select field-line ls)) ∥
+        z ⇒ TVariant (map (ctor-of ts) (groups (is ctor-line) ls)) ∥
+        TAbstract) ≡ k
+    go true y z a b c = sym (eqb-true k 1 a)
+    go false true z a b c = sym (eqb-true k 2 b)
+    go false false true a b c = sym (eqb-true k 3 c)
+    go false false false a b c = let p = eqb-false k 1 a in let q = eqb-false k 2 b in let r = eqb-false k 3 c in omega arith
+
+pub close-number : (ps : List ℕ) (b : Body) → body-number (close-body ps b) ≡ body-number b
+unfolding body-number close-body
+close-number ps TAbstract = refl
+close-number ps (TAbbrev c) = refl
+close-number ps (TRecord fs) = refl
+close-number ps (TVariant cs) = refl
 
 -- ---- coherent verdicts
 -- a layout that a verdict of a declaration with this body and these constructors can have
@@ -1091,11 +1093,14 @@ keeps-groups-verdict ti ls =
     (map-groups (is ctor-line) (λ (g : Group). keeps (map (tell ti) (g .rest))) (λ (g : Group). keeps (g .rest))
     (λ g k. ap keeps (sym (fill-verdict-map ti (g .rest))) ∙ keeps-fill-verdict ti (g .rest)) (groups (is ctor-line) ls) (grouped (is ctor-line) ls))
 
+pub length-slot : (er : ℕ → Bool) (fs : List Field) → length (slots er fs) ≡ length fs
+unfolding slots
+length-slot er fs = length-map fs (λ f. not (cty-erased er (f .fd-type)))
+
 pub length-slots : (er : ℕ → Bool) (ps : List ℕ) (ts : List Cty) (ls : List Line)
     → length (slots er (map (close-field ps) (map (field-of ts) (select field-line ls)))) ≡ count-of field-line ls
-unfolding slots
 length-slots er ps ts ls =
-    length-map (map (close-field ps) (map (field-of ts) (select field-line ls))) (λ f. not (cty-erased er (f .fd-type)))
+    length-slot er (map (close-field ps) (map (field-of ts) (select field-line ls)))
     ∙ length-map (map (field-of ts) (select field-line ls)) (close-field ps)
     ∙ length-map (select field-line ls) (field-of ts)
 
@@ -1208,8 +1213,8 @@ decls-filled ts [] (ti ∷ tis) k h w t = absurd t
 decls-filled ts (g ∷ gs) [] k h w t = absurd t
 decls-filled ts (g ∷ gs) (ti ∷ tis) k h w t =
     ap₂ (λ (d : Decl) (ds : List Decl). d ∷ ds)
-    (decl-filled ts g ti (k .0) (ended-left (g .rest) (flat gs) (h .1)) (w .0) (t .0))
-    (decls-filled ts gs tis (k .1) (ended-right (g .rest) (flat gs) (h .1)) (w .1) (t .1))
+    (decl-filled ts g ti (k .0) (every-left Ended (g .rest) (flat gs) (h .1)) (w .0) (t .0))
+    (decls-filled ts gs tis (k .1) (every-right Ended (g .rest) (flat gs) (h .1)) (w .1) (t .1))
 
 pub told-length : (ds : List Decl) (tis : List TypeInfo) → AllTold ds tis → length tis ≡ length ds
 told-length [] [] t = refl
@@ -1225,7 +1230,7 @@ pub trees-verdict-lines : (ls : List Line) (tis : List TypeInfo) → length tis 
 trees-verdict-lines ls tis n h = sym (trees-plain (verdict-lines ls tis)) ∙ ap trees (plain-verdict-lines ls tis n h) ∙ trees-plain ls
 
 pub ended-groups : (ls : List Line) → AllEnded ls → AllEnded (flat (groups is-head ls))
-ended-groups ls h = ended-right (before is-head ls) (flat (groups is-head ls)) (rw (before-flat is-head ls) h)
+ended-groups ls h = every-right Ended (before is-head ls) (flat (groups is-head ls)) (rw (before-flat is-head ls) h)
 
 -- The program of a verdict sheet is the sheet's program, every declaration an import with its verdict.
 pub program-verdict : (ls : List Line) (tis : List TypeInfo) → AllTold (program ls) tis → AllWhole (groups is-head ls) → AllEnded ls
@@ -1237,17 +1242,6 @@ program-verdict ls tis t w h =
     ∙ ap (λ (ds : List Decl). pins ds tis) (sym (program-by ls (trees ls) (groups is-head ls) refl refl))
 
 -- ---- the verdicts of a run are coherent
-pub length-table : {A : Type 0} (f : ℕ → A) (n : ℕ) → length (table f n) ≡ n
-unfolding table
-length-table f zero = refl
-length-table f (suc n) = ap suc (length-table (λ i. f (suc i)) n)
-
-pub getD-table : {A : Type 0} (f : ℕ → A) (n i : ℕ) (d : A) → i < n → getD (table f n) i d ≡ f i
-unfolding table
-getD-table f zero i d h = absurd (omega arith)
-getD-table f (suc n) zero d h = refl
-getD-table f (suc n) (suc i) d h = getD-table (λ j. f (suc j)) n i d (omega arith)
-
 -- a candidate's layout is a newtype
 number-of : Option Layout → ℕ
 number-of none = 1
@@ -1316,29 +1310,12 @@ unfolding table
 told-table [] f h = tt
 told-table (d ∷ ds) f h = (h 0 (omega arith), told-table ds (λ i. f (suc i)) (λ i k. h (suc i) (omega arith)))
 
-pub candidate-at : (ds : List Decl) (er : ℕ → Bool) (s : List Bool) (i : ℕ) → i < length ds
-    → getD (candidates ds er s) i none ≡ candidate (dtype-at ds i) (origin-at ds i) (getD s i false) (ctor-layouts er (dtype-at ds i))
-unfolding candidates
-candidate-at ds er s i h = getD-table _ (length ds) i none h
-
--- the layout of declaration i
-pub layout-at : (ds : List Decl) (s : List Bool) (i : ℕ) → i < length ds
-    → getD (compute-layouts ds s) i L-opaque
-    ≡ layout-of (dtype-at ds i) (origin-at ds i) (getD s i false) (dropped ds (candidates ds (marked ds s) s) i)
-    (candidate (dtype-at ds i) (origin-at ds i) (getD s i false) (ctor-layouts (marked ds s) (dtype-at ds i)))
-    (ctor-layouts (marked ds s) (dtype-at ds i))
-unfolding compute-layouts
-layout-at ds s i h = getD-table _ (length ds) i L-opaque h ∙ rw (candidate-at ds (marked ds s) s i h)
-
 -- Every verdict of a run is an import's own or a coherent one.
 pub run-told : (ds : List Decl) → AllTold ds (run ds .infos)
 unfolding run
 run-told ds =
     let s : List Bool = erasure-fixpoint ds .marks in
-    told-table ds _ (λ i h. rw (layout-at ds s i h) (info-tells (marked ds s) (dtype-at ds i) (origin-at ds i) (getD s i false) (dropped ds (candidates ds (marked ds s) s) i) _))
-
-pub length-infos : (ds : List Decl) → length (run ds .infos) ≡ length ds
-length-infos ds = told-length ds (run ds .infos) (run-told ds)
+    told-table ds _ (λ i h. rw (getD-layouts ds s i L-opaque h, getD-candidates ds (marked ds s) s i none h) (info-tells (marked ds s) (dtype-at ds i) (origin-at ds i) (getD s i false) (dropped ds (candidates ds (marked ds s) s) i) _))
 
 -- The program of the verdict sheet that a run gives.
 pub program-verdict-run : (ls : List Line) → AllWhole (groups is-head ls) → AllEnded ls

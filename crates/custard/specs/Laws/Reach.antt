@@ -1,33 +1,25 @@
 -- Laws of reachability: the search decides it, a simulation carries it over, and where nothing
 -- reaches itself each step lowers the number of nodes that can still be reached. Assumes nothing.
-use mathlib.Core.Logic.{_≢_, _⊎_, inl, inr, ⊎-elim, _↔_}
+use mathlib.Core.Logic.{_⊎_, inl, inr, ⊎-elim, _↔_}
 use mathlib.Core.Path.{_≡_, refl, sym, _∙_}
 use mathlib.Core.List.{List, [], _∷_, _++_, List·Memᴰ, List·Memᴰ·head, List·Memᴰ·tail, List·Memᴰ·not-nil, List·Memᴰ·cases-cons, List·Memᴰ·append-cases, Memᴰ·append-left, Memᴰ·append-right}
 use mathlib.Core.Bool.{Bool, true, false}
 use Prim.Native.Nat.{ℕ, zero, suc, _+_, _<_}
 use native.Mathlib.Omega.{arith}
-use lib.Dec.{T, eqb, eqb→eq, eqb-refl}
+use lib.Dec.{eqb}
 use lib.ListN.{length, getD, set, replicate, length-set, length-replicate}
 use lib.Seq.{getD-set-same, getD-set-other}
-use Rattle.custard.specs.Laws.Rounds.{At, Le, At-lt, cases-eq, bit, trues, trues-le, trues-mono}
+use borrow.Author.Tests.{eqb-true, eqb-false}
+use Rattle.sheet.specs.ListLaws.{false-true}
+use Rattle.custard.specs.Laws.Rounds.{At, Le, At-lt, cases-eq, trues-le, trues-mono}
 use Rattle.custard.specs.Reach.{Reach, one, more, go, cyclic}
+use Rattle.custard.specs.Laws.Lists.{trues}
 
 -- ---- tests
--- `true` is not `false`
-pub true-false : {P : Type 0} → _≡_ {A = Bool} true false → P
-true-false e = let z : _≡_ {A = ℕ} 0 1 = cc in absurd (omega arith)
-
--- a test that holds, and one that does not, of two numbers
-pub eqb-true : (m n : ℕ) → eqb m n ≡ true → m ≡ n
-eqb-true m n e = eqb→eq m n (rw e tt)
-
-pub eqb-false : (m n : ℕ) → eqb m n ≡ false → m ≢ n
-eqb-false m n e p = let t : T (eqb m n) = rw p (eqb-refl n) in rw e at t
-
 -- ---- marks
 -- a place that is not marked
 pub trues-out : (s : List Bool) (i : ℕ) → i < length s → (At s i → ⊥) → trues s < length s
-unfolding trues bit
+unfolding trues
 trues-out [] i h n = absurd (omega arith)
 trues-out (true ∷ s) zero h n = absurd (n tt)
 trues-out (false ∷ s) zero h n = omega (arith, trues-le s)
@@ -36,7 +28,7 @@ trues-out (false ∷ s) (suc i) h n = omega (arith, trues-out s i (omega arith) 
 
 -- more is marked where a mark is new
 pub trues-more : (s t : List Bool) → length s ≡ length t → Le s t → (i : ℕ) → At t i → (At s i → ⊥) → trues s < trues t
-unfolding trues bit
+unfolding trues
 trues-more [] [] e h i a n = absurd a
 trues-more [] (y ∷ t) e h i a n = absurd (omega arith)
 trues-more (x ∷ s) [] e h i a n = absurd a
@@ -55,9 +47,9 @@ none-at (suc n) (suc i) a = none-at n i a
 
 -- one mark more
 pub trues-set : (s : List Bool) (m : ℕ) → m < length s → getD s m false ≡ false → trues (set s m true) ≡ suc (trues s)
-unfolding trues bit
+unfolding trues
 trues-set [] m h e = absurd (omega arith)
-trues-set (true ∷ s) zero h e = true-false e
+trues-set (true ∷ s) zero h e = false-true (sym e)
 trues-set (false ∷ s) zero h e = omega arith
 trues-set (x ∷ s) (suc m) h e = omega (arith, trues-set s m (omega arith) e)
 
@@ -87,11 +79,6 @@ module _ (next : ℕ → List ℕ) where
   reach-stays S f (one {a} {b} m) s = f a b s m
   reach-stays S f (more {a} {b} m r) s = reach-stays S f r (f a b s m)
 
-  -- what is reached is below n where each step ends below n
-  pub reach-below : (n : ℕ) → ((a b : ℕ) → List·Memᴰ b (next a) → b < n) → {a b : ℕ} → Reach next a b → b < n
-  reach-below n w (one {a} {b} m) = w a b m
-  reach-below n w (more m r) = reach-below n w r
-
 -- A walk in one graph is matched in another, where R relates nodes whose steps match.
 pub reach-map : (next next′ : ℕ → List ℕ) (R : ℕ → ℕ → Type 0)
     → ((a a′ b : ℕ) → R a a′ → List·Memᴰ b (next a) → (b′ : ℕ) × List·Memᴰ b′ (next′ a′) × R b b′)
@@ -108,18 +95,13 @@ pub reach-loop : (next next′ : ℕ → List ℕ) (R : ℕ → ℕ → Type 0)
     → (a a′ : ℕ) → R a a′ → ((b′ : ℕ) → R a b′ → b′ ≡ a′) → Reach next a a → Reach next′ a′ a′
 reach-loop next next′ R f a a′ r only w = let t = reach-map next next′ R f w a′ r in rw (only (t .0) (t .2)) at (t .1)
 
--- the same steps, the same walks
-pub reach-cong : (next next′ : ℕ → List ℕ) → ((a : ℕ) → next a ≡ next′ a) → {a b : ℕ} → Reach next a b → Reach next′ a b
-reach-cong next next′ e (one {a} m) = one (rw (e a) at m)
-reach-cong next next′ e (more {a} m r) = more (rw (e a) at m) (reach-cong next next′ e r)
-
 -- ---- the search
 module _ (next : ℕ → List ℕ) where
   -- it answers true only at a node that is reached
   go-sound : (f k : ℕ) (work : List ℕ) (seen : List Bool) → ((m : ℕ) → List·Memᴰ m work → Reach next k m) → go next f k work seen ≡ true → Reach next k k
   unfolding go
-  go-sound zero k work seen h e = true-false (sym e)
-  go-sound (suc f) k [] seen h e = true-false (sym e)
+  go-sound zero k work seen h e = false-true e
+  go-sound (suc f) k [] seen h e = false-true e
   go-sound (suc f) k (m ∷ rest) seen h e =
       by
       (go-sound (suc f) k rest seen (λ b z. h b (List·Memᴰ·tail z)))
@@ -187,7 +169,7 @@ module _ (next : ℕ → List ℕ) where
             → getD seen m false ≡ o
             → elim p [ true ↦ true | false ↦ elim o [ true ↦ go next (suc f) k rest seen | false ↦ go next f k (next m ++ rest) (set seen m true) ] ] ≡ false
             → Missed k (m ∷ rest) seen
-        by ih₁ ih₂ true o x z y = true-false y
+        by ih₁ ih₂ true o x z y = false-true (sym y)
         by ih₁ ih₂ false true x z y =
             let at-m : At seen m = rw z tt in
             let v : Missed k rest seen =

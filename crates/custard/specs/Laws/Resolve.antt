@@ -2,7 +2,7 @@
 -- depends on the names that are met alone; the checked resolution, where it answers, answers with
 -- what `resolve` gives, and nothing is left to unfold in it; fuel past the rank of the names met
 -- changes nothing; and what follows for `rw-decl` and `decl-fault`. Assumes nothing.
-use mathlib.Core.Logic.{_⊎_, inl, inr, ⊎-elim, _≢_}
+use mathlib.Core.Logic.{_⊎_, inl, inr, ⊎-elim}
 use mathlib.Core.Path.{_≡_, refl, ap, ap₂, sym, _∙_, subst}
 use mathlib.Core.List.{List, [], _∷_, map}
 use mathlib.Core.Bool.{Bool, true, false, _&&_, _||_, not}
@@ -12,6 +12,7 @@ use native.Mathlib.Omega.{arith}
 use lib.Dec.{T, eqb, leb, ltb, leb→le, le→leb}
 use lib.ListN.{length, getD}
 use Rattle.columns.specs.Column.{pick}
+use Rattle.sheet.specs.ListLaws.{Every, every-map}
 use Rattle.custard.specs.Cty.{
   Cty,
   Ctys,
@@ -41,8 +42,6 @@ use Rattle.custard.specs.Cty.{
   cty-vars,
 }
 use Rattle.custard.specs.Laws.Cty.{
-  Every,
-  every-map,
   Any,
   All,
   Alls,
@@ -133,12 +132,9 @@ use Rattle.custard.specs.Run.{
   fault-code,
   decl-fault,
 }
+use Rattle.custard.specs.Laws.Lists.{true-of}
 
 -- ---- results
-true-of : (b : Bool) → T b → b ≡ true
-true-of true t = refl
-true-of false t = absurd t
-
 -- Q of an answer, F of a fault's code, and S where the fuel has run out
 abbrev pub On : {A : Type 0} → (A → Type 0) → (ℕ → Type 0) → Type 0 → Result A → Type 0
 On Q F S (ok a) = Q a
@@ -168,9 +164,6 @@ pub unspent-on : {A : Type 0} (Q : A → Type 0) (F : ℕ → Type 0) (S : Type 
 unspent-on Q F S (ok a) u h = h
 unspent-on Q F S (fault e) u h = h
 unspent-on Q F S spent u h = u
-
-pub unspent-not : {A : Type 0} (r : Result A) → Unspent r → r ≢ spent
-unspent-not r u e = subst Unspent e u
 
 pub bind-on : {A B : Type 0} (Q : A → Type 0) (R : B → Type 0) (F : ℕ → Type 0) (S : Type 0) (r : Result A) (f : A → Result B) → On Q F S r → ((a : A) → Q a → On R F S (f a)) → On R F S (bind r f)
 unfolding bind
@@ -697,12 +690,10 @@ module _ (lay : ℕ → Unfold) where
 -- ---- what `rw-decl` resolves
 -- Q of each type that the constructors' kept fields have
 abbrev pub Fields : (Cty → Type 0) → List Field → Type 0
-Fields Q [] = Unit {0}
-Fields Q (f ∷ fs) = Q (f .fd-type) × Fields Q fs
+Fields Q = Every (λ f. Q (f .fd-type))
 
 abbrev pub Kept : (Cty → Type 0) → List CtorLayout → Type 0
-Kept Q [] = Unit {0}
-Kept Q (cl ∷ cls) = Fields Q (cl .cl-fields) × Kept Q cls
+Kept Q = Every (λ cl. Fields Q (cl .cl-fields))
 
 module _ (Q : Cty → Type 0) where
   -- the list is the kept fields' types, in order
@@ -805,17 +796,6 @@ module _ (limit : ℕ) (lay : ℕ → Unfold) (k : ℕ) where
   resolved-fault cs h =
       fault-code-ok (resolve-checked limit lay k) cs (every-map (Resolved limit lay k) (λ c. Answered (resolve-checked limit lay k c)) resolved-answered cs h)
 
--- fuel past the ranks of the names that are met does not run out
-pub types-unspent : (limit : ℕ) (lay : ℕ → Unfold) (rank : ℕ → ℕ) → Ranked lay rank → (k : ℕ) (cs : List Cty) → Every (All (Under lay rank k)) cs → Every (λ c. Unspent (resolve-checked limit lay (suc k) c)) cs
-types-unspent limit lay rank ranked k cs h =
-    every-map (All (Under lay rank k)) (λ c. Unspent (resolve-checked limit lay (suc k) c)) (λ c u. checked-unspent lay rank ranked limit k c u) cs h
-
--- and more of it gives the same code
-pub fault-code-more : (limit : ℕ) (lay : ℕ → Unfold) (rank : ℕ → ℕ) → Ranked lay rank → (k m : ℕ) → k ≤ m → (cs : List Cty) → Every (All (Under lay rank k)) cs → fault-code (resolve-checked limit lay (suc k)) cs ≡ fault-code (resolve-checked limit lay (suc m)) cs
-fault-code-more limit lay rank ranked k m q cs h =
-    fault-code-cong (resolve-checked limit lay (suc k)) (resolve-checked limit lay (suc m)) cs
-    (every-map (All (Under lay rank k)) (λ c. resolve-checked limit lay (suc k) c ≡ resolve-checked limit lay (suc m) c) (λ c u. checked-more lay rank ranked limit k m q c u) cs h)
-
 -- ---- one declaration
 -- rows 9 and 10 depend on the names that are met alone
 pub decl-fault-local : (limit : ℕ) (ds ds′ : List Decl) (ls ls′ : List Layout) (i j : ℕ) (P : ℕ → Type 0)
@@ -885,8 +865,7 @@ rw-decl-local lay lay′ P closed agree k d l h =
 
 -- Q of each type in a declaration
 abbrev pub Ctors : (Cty → Type 0) → List Ctor → Type 0
-Ctors Q [] = Unit {0}
-Ctors Q (c ∷ cs) = Fields Q (c .ct-fields) × Ctors Q cs
+Ctors Q = Every (λ c. Fields Q (c .ct-fields))
 
 abbrev pub BodyTypes : (Cty → Type 0) → Body → Type 0
 BodyTypes Q TAbstract = Unit {0}
@@ -894,9 +873,12 @@ BodyTypes Q (TAbbrev c) = Q c
 BodyTypes Q (TRecord fs) = Fields Q fs
 BodyTypes Q (TVariant cs) = Ctors Q cs
 
+abbrev pub Left : (Dtype → Type 0) → Option Dtype → Type 0
+Left P none = Unit {0}
+Left P (some d) = P d
+
 abbrev pub LeftTypes : (Cty → Type 0) → Option Dtype → Type 0
-LeftTypes Q none = Unit {0}
-LeftTypes Q (some d) = BodyTypes Q (d .dt-body)
+LeftTypes Q = Left (λ d. BodyTypes Q (d .dt-body))
 
 -- A layout that goes with a body: `rw-decl` then resolves all that it leaves.
 abbrev pub StructMatches : Body → List CtorLayout → Type 0
@@ -962,27 +944,6 @@ module _ (Q : Cty → Type 0) (res : Cty → Cty) where
   left-types d (L-struct cls) m h = struct-left (d .dt-body) cls m (field-types-kept Then cls h)
   left-types d (L-abbrev c) m h = h .0
   left-types d L-opaque m h = opaque-left (d .dt-body) m
-
--- the names of the left declaration all stay, and its types are small
-pub left-normal : (limit : ℕ) (lay : ℕ → Unfold) (k : ℕ) (d : Dtype) (l : Layout) → Matches (d .dt-body) l → Every (Resolved limit lay k) (resolves l)
-    → LeftTypes (λ t. Normal lay t × (size t ≤ limit)) (rw-decl (resolve lay k) d l)
-left-normal limit lay k d l m h =
-    left-types (λ t. Normal lay t × (size t ≤ limit)) (resolve lay k) d l m
-    (every-map (Resolved limit lay k) (λ c. Normal lay (resolve lay k c) × (size (resolve lay k c) ≤ limit)) (λ c r. (r .normal, r .small)) (resolves l) h)
-
--- the same from the ranks, whether or not there is a fault
-pub left-done : (lay : ℕ → Unfold) (rank : ℕ → ℕ) → Ranked lay rank → (k : ℕ) (d : Dtype) (l : Layout) → Matches (d .dt-body) l → Every (All (Under lay rank k)) (resolves l)
-    → LeftTypes (Normal lay) (rw-decl (resolve lay (suc k)) d l)
-left-done lay rank ranked k d l m h =
-    left-types (Normal lay) (resolve lay (suc k)) d l m
-    (every-map (All (Under lay rank k)) (λ c. Normal lay (resolve lay (suc k) c)) (λ c u. resolve-done lay rank ranked k c u) (resolves l) h)
-
--- the names of the left declaration are among those that are met
-pub left-all : (lay : ℕ → Unfold) (P : ℕ → Type 0) → Closed lay P → (k : ℕ) (d : Dtype) (l : Layout) → Matches (d .dt-body) l → Every (All P) (resolves l)
-    → LeftTypes (All P) (rw-decl (resolve lay k) d l)
-left-all lay P closed k d l m h =
-    left-types (All P) (resolve lay k) d l m
-    (every-map (All P) (λ c. All P (resolve lay k c)) (λ c a. resolve-all lay P closed k c a) (resolves l) h)
 
 -- ---- the layout of a local declaration goes with its body
 abbrev pub Newtype : Option Layout → Type 0

@@ -8,18 +8,12 @@ use Prim.Native.Nat.{ℕ, zero, suc, _+_, _≤_, _<_}
 use native.Mathlib.Omega.{arith}
 use native.Mathlib.Decide.{ℕ-discrete}
 use lib.Dec.{T}
-use lib.ListN.{length, getD, set, length-set}
+use lib.ListN.{length, getD, length-set}
 use lib.Seq.{getD-set-same, getD-set-other, ext-getD}
 use Rattle.custard.specs.Erasure.{update, sweep, same, Settled, settle}
+use Rattle.custard.specs.Laws.Lists.{T-ext, trues}
 
 -- ---- tests and lists of marks
--- two tests that imply each other are equal
-pub T-ext : (a b : Bool) → (T a → T b) → (T b → T a) → a ≡ b
-T-ext true true f g = refl
-T-ext true false f g = absurd (f tt)
-T-ext false true f g = absurd (g tt)
-T-ext false false f g = refl
-
 -- mark i is set
 abbrev pub At : List Bool → ℕ → Type 0
 At s i = T (getD s i false)
@@ -45,23 +39,14 @@ cases-eq {P} j i f g = go (ℕ-discrete j i)
     go (yes e) = f e
     go (no n) = g n
 
-unfoldable pub bit : Bool → ℕ
-bit true = 1
-bit false = 0
-
--- the number of marks set
-unfoldable pub trues : List Bool → ℕ
-trues [] = 0
-trues (x ∷ s) = bit x + trues s
-
 pub trues-le : (s : List Bool) → trues s ≤ length s
-unfolding trues bit
+unfolding trues
 trues-le [] = omega arith
 trues-le (true ∷ s) = omega (arith, trues-le s)
 trues-le (false ∷ s) = omega (arith, trues-le s)
 
 pub trues-mono : (s t : List Bool) → length s ≡ length t → Le s t → trues s ≤ trues t
-unfolding trues bit
+unfolding trues
 trues-mono [] [] e h = omega arith
 trues-mono [] (y ∷ t) e h = omega arith
 trues-mono (x ∷ s) [] e h = absurd (omega arith)
@@ -92,7 +77,7 @@ same-ne s t e z = let q : same s s ≡ false = rw (← z) at e in let k : _≡_ 
 
 -- marks that are above others and not the same are more
 trues-lt : (s t : List Bool) → length s ≡ length t → Le s t → same t s ≡ false → trues s < trues t
-unfolding trues bit same
+unfolding trues same
 trues-lt [] [] e h d = let z : _≡_ {A = ℕ} 0 1 = cc in absurd (omega arith)
 trues-lt [] (y ∷ t) e h d = absurd (omega arith)
 trues-lt (x ∷ s) [] e h d = absurd (omega arith)

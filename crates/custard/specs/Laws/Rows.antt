@@ -1,23 +1,24 @@
 -- Rows 3 to 7 of a sheet cut between declarations: what they say of a prefix, of a verdict sheet in its place, and of
 -- the lines of bytes. Assumes nothing.
-use mathlib.Core.Logic.{_⊎_, inl, inr, ⊎-elim}
+use mathlib.Core.Logic.{_⊎_, ⊎-elim}
 use mathlib.Core.Path.{_≡_, refl, ap, ap₂, sym, _∙_}
-use mathlib.Core.List.{List, [], _∷_, _++_, map, append-assoc, append-nil, map-append}
-use mathlib.Core.Bool.{Bool, true, false, _&&_, _||_, not}
+use mathlib.Core.List.{List, [], _∷_, _++_, map, append-nil, map-append}
+use mathlib.Core.Bool.{Bool, true, false, _&&_, _||_, not, and-false}
 use mathlib.Core.Option.{Option, none, some}
-use Prim.Native.Nat.{ℕ, zero, suc, _+_, _*_, _-_, _≤_, _<_}
+use Prim.Native.Nat.{ℕ, zero, suc, _+_, _-_, _≤_, _<_}
 use native.Mathlib.Omega.{arith}
 use lib.Dec.{eqb, leb, ltb}
 use lib.ListN.{length, getD, take, drop, length-append, length-map, List·getD-map, List·getD-append, take-append-drop}
-use lib.Seq.{take-all, take-append-le, take-append-add, getD-append-add, take-length, ext-getD}
-use borrow.Author.Tests.{eqb-true, eqb-false, eq-eqb, ltb-true, ltb-false, lt-ltb, le-ltb, leb-true, leb-false, lt-leb, le-leb, not-true, not-false}
+use lib.Seq.{take-all, take-append-le, take-append-add, getD-append-add, take-length}
+use borrow.Author.Tests.{eqb-true, eq-eqb, ltb-true, ltb-false, lt-ltb, le-ltb, leb-true, leb-false, lt-leb, le-leb, not-true, not-false}
 use Rattle.columns.specs.Column.{pick, _⇒_∥_}
-use Rattle.sheet.specs.Format.{Format, lineBytes, textBytes}
+use Rattle.sheet.specs.Format.{Format}
 use Rattle.sheet.specs.FirstLaws.{first-le, first-congr, none-first}
-use Rattle.sheet.specs.LineLaws.{both}
-use Rattle.sheet.specs.Line.{Line, named, row, bad, spelling, proper, lettered, cell, isValue, value, decodeNamed, decodeRow, decode, letter, number, text, isBad}
+use Rattle.sheet.specs.Line.{Line, named, row, bad, cell, value, decode, letter, number, text, isBad}
 use Rattle.sheet.specs.Sheet.{first, lineAt, count, line, lines}
-use Rattle.sheet.specs.SheetLaws.{lineAt-left, lineAt-right, lines-append, length-lines, within-count, getD-lines}
+use Rattle.sheet.specs.SheetLaws.{length-lines, getD-lines}
+use Rattle.sheet.specs.ListLaws.{false-true, contrary, both, neither, length-nil, at-every}
+use Rattle.sheet.specs.LineLaws.{Decoded, as-named, as-row, as-bad, decoded, five-numbers}
 use Rattle.custard.specs.Cty.{Cty, TUnit}
 use Rattle.custard.specs.Decl.{
   Field,
@@ -31,7 +32,6 @@ use Rattle.custard.specs.Decl.{
   ctors-of,
   ctors-of-tydef,
   CtorLayout,
-  NewtypeLayout,
   Layout,
   L-erased,
   L-newtype,
@@ -40,16 +40,13 @@ use Rattle.custard.specs.Decl.{
   L-opaque,
   layout-number,
   TypeInfo,
-  Origin,
   here,
   imported,
-  Decl,
   table,
   close-field,
   close-body,
   close-fields,
 }
-use Rattle.custard.specs.Erasure.{cty-erased}
 use Rattle.custard.specs.Layout.{slots, kept, ctor-layout, ctor-layouts, newtype-of-ctor, newtype-of}
 use Rattle.custard.specs.declared.Due.{Due}
 use Rattle.custard.specs.declared.Due.the-variants.{Header, Within, Broken}
@@ -57,7 +54,6 @@ use Rattle.custard.specs.Program.{
   name-line,
   arg-line,
   type-line,
-  local-line,
   import-line,
   param-line,
   ctor-line,
@@ -81,7 +77,6 @@ use Rattle.custard.specs.Program.{
 }
 use Rattle.custard.specs.Output.{bit, fill-keeps, fill-verdict, all-slots, verdict-lines}
 use Rattle.custard.specs.Rows.{
-  some-below,
   line-at,
   count-of,
   count-before,
@@ -117,8 +112,6 @@ use Rattle.custard.specs.Rows.{
   row7,
 }
 use Rattle.custard.specs.Laws.Program.{
-  false-true,
-  contrary,
   None,
   none-left,
   Starts,
@@ -127,17 +120,10 @@ use Rattle.custard.specs.Laws.Program.{
   select-yes,
   select-no,
   none-select,
-  before-append,
   before-none,
-  groups-append,
-  groups-none,
   head-cases,
-  head-not,
-  or-false,
   heads,
   length-groups,
-  length-table,
-  getD-table,
   five,
   plain,
   Kind,
@@ -148,11 +134,9 @@ use Rattle.custard.specs.Laws.Program.{
   kind,
   plain-head,
   plain-is,
-  plain-same,
   map-group,
   select-map,
   groups-map,
-  map-select,
   select-plain,
   Ended,
   AllEnded,
@@ -198,18 +182,17 @@ use Rattle.custard.specs.Laws.Program.{
   AllCounted,
   Whole,
   AllWhole,
+  body-number,
+  body-of-number,
+  close-number,
+  length-slot,
+  before-after,
+  before-header,
 }
+use Rattle.custard.specs.Laws.Lists.{trues, length-table, getD-table}
 
 none-some : {A B : Type 0} (a : A) → _≡_ {A = Option A} none (some a) → B
 none-some a e = let z : _≡_ {A = ℕ} 0 1 = cc in absurd (omega arith)
-
-length-slot : (er : ℕ → Bool) (fs : List Field) → length (slots er fs) ≡ length fs
-unfolding slots
-length-slot er fs = length-map fs (λ f. not (cty-erased er (f .fd-type)))
-
-length-nil : (ls : List Line) → length ls ≡ 0 → ls ≡ []
-length-nil [] h = refl
-length-nil (l ∷ ls) h = absurd (omega arith)
 
 take-map : {A B : Type 0} (f : A → B) (n : ℕ) (l : List A) → take n (map f l) ≡ map f (take n l)
 take-map f zero l = refl
@@ -380,10 +363,6 @@ announced-late k p n = go (leb k 1) (eqb k 2) (eqb k 3)
 head-not-header : (l : Line) → is-head l ≡ true → is-header-line l ≡ false
 head-not-header l e = ⊎-elim (λ h. rw h) (λ h. rw h) (head-cases l e)
 
-and-false : (b : Bool) → (b && false) ≡ false
-and-false true = refl
-and-false false = refl
-
 late-header : (place : ℕ) (l : Line) → 3 ≤ place → due-header place l ≡ pick (is-head l) (announced (number l 2) (number l 3) (number l 4)) Broken
 unfolding due-header
 late-header place l k =
@@ -455,9 +434,9 @@ pub no-header : (a qs : List Line) → Starts is-head qs → Ends (a ++ qs) → 
 no-header a qs s h =
     let k = declarations-none a qs s h in
     record {
-      names = header-none name-line qs (λ l e. or-false (is name-line l) (is arg-line l || is type-line l) e .0) k;
-      args = header-none arg-line qs (λ l e. or-false (is arg-line l) (is type-line l) (or-false (is name-line l) (is arg-line l || is type-line l) e .1) .0) k;
-      types = header-none type-line qs (λ l e. or-false (is arg-line l) (is type-line l) (or-false (is name-line l) (is arg-line l || is type-line l) e .1) .1) k;
+      names = header-none name-line qs (λ l e. neither (is name-line l) (is arg-line l || is type-line l) e .0) k;
+      args = header-none arg-line qs (λ l e. neither (is arg-line l) (is type-line l) (neither (is name-line l) (is arg-line l || is type-line l) e .1) .0) k;
+      types = header-none type-line qs (λ l e. neither (is arg-line l) (is type-line l) (neither (is name-line l) (is arg-line l || is type-line l) e .1) .1) k;
     }
 
 -- ---- the body of a declaration
@@ -539,15 +518,6 @@ header-starts place (l ∷ ls) k h = go (is-head l) refl (rw (late-header place 
     go true e q = e
     go false e q = false-true (sym q)
 
-before-starts : (p : Line → Bool) (ls : List Line) → Starts p ls → before p ls ≡ []
-unfolding before
-before-starts p [] s = refl
-before-starts p (l ∷ ls) s = rw s
-
-before-no : (p : Line → Bool) (l : Line) (ls : List Line) → p l ≡ false → before p (l ∷ ls) ≡ l ∷ before p ls
-unfolding before
-before-no p l ls e = rw e
-
 -- the lines up to the next declaration, where a declaration is open
 pub body-lines : (p f c : ℕ) (ls : List Line) → is-header (due-after (Within p f c) ls) ≡ true → BodyLines p f c (before is-head ls)
 unfolding due-after due
@@ -558,7 +528,7 @@ body-lines (suc p) f c (l ∷ ls) h = go (is param-line l) refl h (body-lines p 
         → (is-header (due-after (Within p f c) ls) ≡ true → BodyLines p f c (before is-head ls)) → BodyLines (suc p) f c (before is-head (l ∷ ls))
     go true e k ih =
         let q : letter l ≡ 80 = eqb-true (letter l) 80 e in
-        rw (before-no is-head l ls (rw q)) (body-param p f c l (before is-head ls) q (ih k))
+        rw (before-after is-head (l ∷ []) ls (rw q, tt)) (body-param p f c l (before is-head ls) q (ih k))
     go false e k ih = false-true (sym (unbroken Broken ls k))
 body-lines zero (suc f) c (l ∷ ls) h = go (is field-line l) refl h (body-lines zero f c ls)
   where
@@ -566,7 +536,7 @@ body-lines zero (suc f) c (l ∷ ls) h = go (is field-line l) refl h (body-lines
         → (is-header (due-after (Within zero f c) ls) ≡ true → BodyLines zero f c (before is-head ls)) → BodyLines zero (suc f) c (before is-head (l ∷ ls))
     go true e k ih =
         let q : letter l ≡ 70 = eqb-true (letter l) 70 e in
-        rw (before-no is-head l ls (rw q)) (body-field zero f c l (before is-head ls) q (ih k))
+        rw (before-after is-head (l ∷ []) ls (rw q, tt)) (body-field zero f c l (before is-head ls) q (ih k))
     go false e k ih = false-true (sym (unbroken Broken ls k))
 body-lines zero zero (suc c) (l ∷ ls) h = go (is ctor-line l) refl h (body-lines zero (number l 1) c ls)
   where
@@ -575,14 +545,14 @@ body-lines zero zero (suc c) (l ∷ ls) h = go (is ctor-line l) refl h (body-lin
         → BodyLines zero zero (suc c) (before is-head (l ∷ ls))
     go true e k ih =
         let q : letter l ≡ 67 = eqb-true (letter l) 67 e in
-        rw (before-no is-head l ls (rw q)) (body-ctor zero c l (before is-head ls) q (ih k))
+        rw (before-after is-head (l ∷ []) ls (rw q, tt)) (body-ctor zero c l (before is-head ls) q (ih k))
     go false e k ih = false-true (sym (unbroken Broken ls k))
 body-lines zero zero zero (l ∷ ls) h = go (is verdict-line l) refl h
   where
     go : (t : Bool) → is verdict-line l ≡ t → is-header (due-after (pick t (Header 3) Broken) ls) ≡ true → BodyLines zero zero zero (before is-head (l ∷ ls))
     go true e k =
         let q : letter l ≡ 86 = eqb-true (letter l) 86 e in
-        rw (before-no is-head l ls (rw q), before-starts is-head ls (header-starts 3 ls (omega arith) k)) (body-verdict l q)
+        rw (before-after is-head (l ∷ []) ls (rw q, tt), before-header is-head [] ls tt (header-starts 3 ls (omega arith) k)) (body-verdict l q)
     go false e k = false-true (sym (unbroken Broken ls k))
 
 -- no C line: all are before the first
@@ -960,17 +930,6 @@ module _ (ls qs : List Line) (tis : List TypeInfo) (n : length tis ≡ length (g
   pub row6-verdict : (i : ℕ) → row6 (verdict-lines ls tis ++ qs) i ≡ row6 (ls ++ qs) i
   row6-verdict i = sym (row6-plain (verdict-lines ls tis ++ qs) i) ∙ ap (λ (r : List Line). row6 r i) plain-cut ∙ row6-plain (ls ++ qs) i
 
-  -- and the declarations begin at the same lines
-  pub head-verdict : (i : ℕ) → is-head (line-at (verdict-lines ls tis ++ qs) i) ≡ is-head (line-at (ls ++ qs) i)
-  head-verdict i =
-      sym (plain-head (line-at (verdict-lines ls tis ++ qs) i))
-      ∙ ap is-head (sym (line-plain (verdict-lines ls tis ++ qs) i) ∙ ap (λ (r : List Line). line-at r i) plain-cut ∙ line-plain (ls ++ qs) i)
-      ∙ plain-head (line-at (ls ++ qs) i)
-
-  pub heads-before-verdict : (i : ℕ) → heads-before (verdict-lines ls tis ++ qs) i ≡ heads-before (ls ++ qs) i
-  heads-before-verdict i =
-      sym (heads-before-plain (verdict-lines ls tis ++ qs) i) ∙ ap (λ (r : List Line). heads-before r i) plain-cut ∙ heads-before-plain (ls ++ qs) i
-
 -- row 5 gives the zeros at the end of F and V lines
 ended-line : (names types : ℕ) (xs : List ℕ) (n y : ℕ) (l : Line) → good-line names types xs n y l ≡ true → Ended l
 unfolding good-line
@@ -980,14 +939,10 @@ ended-line names types xs n y l e q = zeros-ended l (go (is field-line l) refl q
     go true k t = both (ltb (number l 0) names && ltb (number l 1) types) (zeros-from 3 l) (rw (eqb-true (letter l) 70 k) at e) .1
     go false k t = rw (eqb-true (letter l) 86 t) at e
 
-ended-all : (ls : List Line) → ((i : ℕ) → i < length ls → Ended (line-at ls i)) → AllEnded ls
-ended-all [] h = tt
-ended-all (l ∷ ls) h = (h 0 (omega arith), ended-all ls (λ i k. h (suc i) (omega arith)))
-
 pub ended-row5 : (ls : List Line) → ((i : ℕ) → i < length ls → row5 ls i ≡ false) → AllEnded ls
 unfolding row5
 ended-row5 ls h =
-    ended-all ls (λ i k. ended-line (count-of name-line ls) (count-of type-line ls) (map (λ a. number a 0) (select arg-line ls)) (count-before name-line ls i) (count-before type-line ls i) (line-at ls i)
+    at-every Ended bad ls (λ i k. ended-line (count-of name-line ls) (count-of type-line ls) (map (λ a. number a 0) (select arg-line ls)) (count-before name-line ls i) (count-before type-line ls i) (line-at ls i)
     (sym (good-numbers-line ls i) ∙ not-false (good-numbers ls i) (h i k)))
 
 -- ---- row 7, line by line
@@ -1087,12 +1042,6 @@ goods-filling h k m n p q (pass {l = l} e f) a b g =
 goods-filling h k m n p q (past {l = l} f) a b g =
     rw (a .0) (good-widen h k m n l p q (b .0) (rw (a .0) at (g .0)), goods-filling h k (more m l) (more n l) p q f (a .1) (b .1) (rw (a .0) at (g .1)))
 
--- how many there are of true
-unfoldable pub trues : List Bool → ℕ
-trues [] = 0
-trues (true ∷ bs) = suc (trues bs)
-trues (false ∷ bs) = trues bs
-
 -- the kept fields, counted
 kept-filling : (n : ℕ) {bs : List Bool} {ls r : List Line} → Filling bs ls r → None is-head ls → length bs ≡ count-of field-line ls → kept-after n r ≡ n + trues bs
 unfolding kept-after trues
@@ -1100,7 +1049,8 @@ kept-filling n {bs = []} done a c = omega arith
 kept-filling n {bs = b ∷ bs} done a c = absurd (omega (arith, ap length (select-none field-line [] tt)))
 kept-filling n (keep {b = true} {bs = bs} {l = l} {ls = ls} e f) a c =
     omega (arith, kept-filling (suc n) f (a .1) (omega (arith, ap length (select-yes field-line l ls e))))
-kept-filling n (keep {b = false} {bs = bs} {l = l} {ls = ls} e f) a c = kept-filling n f (a .1) (omega (arith, ap length (select-yes field-line l ls e)))
+kept-filling n (keep {b = false} {bs = bs} {l = l} {ls = ls} e f) a c =
+    omega (arith, kept-filling n f (a .1) (omega (arith, ap length (select-yes field-line l ls e))))
 kept-filling n (pass {l = l} {ls = ls} e f) a c = rw (a .0, e) (kept-filling n f (a .1) (c ∙ ap length (select-no field-line l ls e)))
 kept-filling n (past {l = l} {ls = ls} {r = r} f) a c = go (is field-line l) refl (λ k. kept-filling n f (a .1) k)
   where
@@ -1145,8 +1095,8 @@ unfolding kept trues
 length-kept [] [] e = refl
 length-kept [] (f ∷ fs) e = refl
 length-kept (b ∷ bs) [] e = absurd (omega arith)
-length-kept (true ∷ bs) (f ∷ fs) e = ap suc (length-kept bs fs (omega arith))
-length-kept (false ∷ bs) (f ∷ fs) e = length-kept bs fs (omega arith)
+length-kept (true ∷ bs) (f ∷ fs) e = omega (arith, length-kept bs fs (omega arith))
+length-kept (false ∷ bs) (f ∷ fs) e = omega (arith, length-kept bs fs (omega arith))
 
 one-field : (n : ℕ) (bs : List Bool) (fs : List Field) (l : Layout) → newtype-of-ctor n bs fs ≡ some l → length fs ≡ 1
 unfolding newtype-of-ctor
@@ -1166,24 +1116,6 @@ newtype-one er (c ∷ []) l e = (
       ∙ one-field (c .ct-name) (slots er (c .ct-fields)) (kept (slots er (c .ct-fields)) (c .ct-fields)) l e,
 )
 newtype-one er (c ∷ d ∷ cs) l e = none-some l e
-
-abbrev tag : Body → ℕ
-tag TAbstract = 0
-tag (TAbbrev c) = 1
-tag (TRecord fs) = 2
-tag (TVariant cs) = 3
-
--- the kind of a declaration's body is its D or I line's
-body-tag : (ps : List ℕ) (ts : List Cty) (k last : ℕ) (ls : List Line) → k ≤ 3 → tag (close-body ps (body-of ts k last ls)) ≡ k
-unfolding close-body body-of
-body-tag ps ts k last ls h = go (eqb k 1) (eqb k 2) (eqb k 3) refl refl refl
-  where
-    go : (a b c : Bool) → eqb k 1 ≡ a → eqb k 2 ≡ b → eqb k 3 ≡ c
-        → tag (close-body ps (a ⇒ TAbbrev (getD ts last TUnit) ∥ b ⇒ TRecord (map (field-of ts) (select field-line ls)) ∥ c ⇒ TVariant (map (ctor-of ts) (groups (is ctor-line) ls)) ∥ TAbstract)) ≡ k
-    go true b c x y z = sym (eqb-true k 1 x)
-    go false true c x y z = sym (eqb-true k 2 y)
-    go false false true x y z = sym (eqb-true k 3 z)
-    go false false false x y z = let p = eqb-false k 1 x in let q = eqb-false k 2 y in let r = eqb-false k 3 z in omega arith
 
 length-concat : (bss : List (List Bool)) (gs : List Group) → AllGrouped (is ctor-line) gs → Counts bss gs → length (concat bss) ≡ count-of field-line (flat gs)
 unfolding concat flat
@@ -1249,18 +1181,18 @@ bit-le true = refl
 bit-le false = refl
 
 -- the V line of a coherent verdict passes row 7
-good-told : (h : Line) (n : ℕ) (b : Body) (cls : List CtorLayout) (ti : TypeInfo) → tag b ≡ number h 2 → ti .ti-erased ≡ eqb (layout-number (ti .ti-layout)) 0
+good-told : (h : Line) (n : ℕ) (b : Body) (cls : List CtorLayout) (ti : TypeInfo) → body-number b ≡ number h 2 → ti .ti-erased ≡ eqb (layout-number (ti .ti-layout)) 0
     → Suits b cls (ti .ti-layout) → ((l : Layout) → newtype-of cls ≡ some l → (one-ctor h ≡ true) × (n ≡ 1)) → good-verdict h n (told-line ti) ≡ true
-unfolding good-verdict layout-number
+unfolding good-verdict layout-number body-number
 good-told h n b cls ti t e s k = rw (bit-le (ti .ti-record), e) (go b (ti .ti-layout) t s)
   where
-    struct : (c : Body) → tag c ≡ number h 2 → has-ctors c ≡ true → (eqb (number h 2) 2 || eqb (number h 2) 3) ≡ true
+    struct : (c : Body) → body-number c ≡ number h 2 → has-ctors c ≡ true → (eqb (number h 2) 2 || eqb (number h 2) 3) ≡ true
     struct TAbstract t c = false-true c
     struct (TAbbrev d) t c = false-true c
     struct (TRecord fs) t c = rw (← t)
     struct (TVariant cs) t c = rw (← t)
 
-    go : (c : Body) (l : Layout) → tag c ≡ number h 2 → Suits c cls l
+    go : (c : Body) (l : Layout) → body-number c ≡ number h 2 → Suits c cls l
         → (eqb (layout-number l) 0 ⇒ eqb (bit (eqb (layout-number l) 0)) 1 ∥
         eqb (bit (eqb (layout-number l) 0)) 0
         && (eqb (layout-number l) 1 ⇒ one-ctor h && eqb n 1 ∥
@@ -1271,10 +1203,10 @@ good-told h n b cls ti t e s k = rw (bit-le (ti .ti-record), e) (go b (ti .ti-la
     go c L-erased t s = refl
     go c (L-newtype nt) t s = let q = k (L-newtype nt) s in rw (q .0, q .1)
     go c (L-struct ms) t s = struct c t (s .1)
-    go c (L-abbrev d) t s = eq-eqb (number h 2) 1 (sym t ∙ ap tag s)
-    go c L-opaque t s = eq-eqb (number h 2) 0 (sym t ∙ ap tag s)
+    go c (L-abbrev d) t s = eq-eqb (number h 2) 1 (sym t ∙ ap body-number s)
+    go c L-opaque t s = eq-eqb (number h 2) 0 (sym t ∙ ap body-number s)
 
-last-head-none : (h : Line) (ls : List Line) → None is-head ls → last-head h ls ≡ h
+pub last-head-none : (h : Line) (ls : List Line) → None is-head ls → last-head h ls ≡ h
 unfolding last-head
 last-head-none h [] n = refl
 last-head-none h (l ∷ ls) n = rw (n .0) (last-head-none h ls (n .1))
@@ -1317,7 +1249,7 @@ unfolding good-at close-fields dtype-of
 good-told-line ts g ti w c a =
     let d : Dtype = close-fields (dtype-of ts g) in
     good-told (row import-line (five (g .head))) (kept-after 0 (fill-keeps (all-slots (ti .ti-ctors)) (w .body))) (d .dt-body) (ti .ti-ctors) ti
-    (body-tag (d .dt-params) ts (number (g .head) 2) (number (g .head) 4) (g .rest) (w .kinds)) (c .erased) (c .suits) (newtype-lines ts g ti w c a)
+    (close-number (d .dt-params) (dtype-of ts g .dt-body) ∙ body-of-number ts (number (g .head) 2) (number (g .head) 4) (g .rest) (w .kinds)) (c .erased) (c .suits) (newtype-lines ts g ti w c a)
 
 -- a local declaration's filled lines pass row 7
 goods-local : (ts : List Cty) (g : Group) (ti : TypeInfo) → Grouped is-head g → Whole g → Coherent (close-fields (dtype-of ts g)) ti → is import-line (g .head) ≡ false
@@ -1374,7 +1306,7 @@ pub row7-verdict : (ls : List Line) (tis : List TypeInfo) → AllWhole (groups i
 row7-verdict ls tis w t h i k =
     goods-row7 (verdict-lines ls tis) (goods-verdict ls tis w t (row7-goods ls h)) i (rw (length-verdict-lines ls tis (told-groups ls tis t)) k)
 
-last-head-append : (h : Line) (a b : List Line) → last-head h (a ++ b) ≡ last-head (last-head h a) b
+pub last-head-append : (h : Line) (a b : List Line) → last-head h (a ++ b) ≡ last-head (last-head h a) b
 unfolding last-head
 last-head-append h [] b = refl
 last-head-append h (l ∷ a) b = last-head-append (next-head h l) a b
@@ -1445,37 +1377,18 @@ pub record Rawly (k l : Line) : Type 0 where
   pub first-number : number k 0 ≡ number l 0
   pub lines : is name-line l ≡ false → k ≡ l
 
-raw-named : (w : ℕ) (b : List ℕ) → getD b 0 0 ≡ 78 → isBad (decodeNamed w b) ≡ false → Rawly (raw-line w b) (decodeNamed w b)
-unfolding raw-line table decodeNamed
-raw-named w b e n = go (isValue (cell w b 0) && proper (take (textBytes w) (drop (1 + w) b))) n
-  where
-    go : (c : Bool) → isBad (pick c (named (value (cell w b 0)) (spelling (take (textBytes w) (drop (1 + w) b)))) bad) ≡ false
-        → Rawly (raw-line w b) (pick c (named (value (cell w b 0)) (spelling (take (textBytes w) (drop (1 + w) b)))) bad)
-    go true k = record { letters = e; first-number = refl; lines = λ q. false-true (sym q) }
-    go false k = false-true (sym k)
-
-raw-row : (w : ℕ) (b : List ℕ) → isBad (decodeRow w b) ≡ false → Rawly (raw-line w b) (decodeRow w b)
-unfolding raw-line table decodeRow
-raw-row w b n = go (isValue (cell w b 0) && isValue (cell w b 1) && isValue (cell w b 2) && isValue (cell w b 3) && isValue (cell w b 4)) n
-  where
-    r : Line
-    r = row (getD b 0 0) (value (cell w b 0) ∷ value (cell w b 1) ∷ value (cell w b 2) ∷ value (cell w b 3) ∷ value (cell w b 4) ∷ [])
-
-    go : (c : Bool) → isBad (pick c r bad) ≡ false → Rawly (raw-line w b) (pick c r bad)
-    go true k = record { letters = refl; first-number = refl; lines = λ q. refl }
-    go false k = false-true (sym k)
-
 raw-decode : (w : ℕ) (b : List ℕ) → isBad (decode w b) ≡ false → Rawly (raw-line w b) (decode w b)
-unfolding decode
-raw-decode w b n = go (eqb (getD b (5 * w + 1) 0) 10) (eqb (getD b 0 0) 78) (lettered (getD b 0 0)) refl n
+unfolding raw-line table
+raw-decode w b = go (decoded w b)
   where
-    go : (x y z : Bool) → eqb (getD b 0 0) 78 ≡ y
-        → isBad (pick x (pick y (decodeNamed w b) (pick z (decodeRow w b) bad)) bad) ≡ false
-        → Rawly (raw-line w b) (pick x (pick y (decodeNamed w b) (pick z (decodeRow w b) bad)) bad)
-    go true true z e k = raw-named w b (eqb-true (getD b 0 0) 78 e) k
-    go true false true e k = raw-row w b k
-    go true false false e k = false-true (sym k)
-    go false y z e k = false-true (sym k)
+    go : {l : Line} → Decoded w b l → isBad l ≡ false → Rawly (raw-line w b) l
+    go (as-named n z e p) h = record { letters = z; first-number = rw e; lines = λ q. false-true (sym q) }
+    go (as-row ns z l k e) h =
+        let v : (i : ℕ) → i < 5 → value (cell w b i) ≡ getD ns i 0 = λ i j. ap value (e i j) in
+        let r : raw-line w b ≡ row (getD b 0 0) ns =
+        rw (v 0 (omega arith), v 1 (omega arith), v 2 (omega arith), v 3 (omega arith), v 4 (omega arith)) (ap (row (getD b 0 0)) (five-numbers ns k)) in
+        record { letters = refl; first-number = v 0 (omega arith); lines = λ q. r }
+    go as-bad h = false-true (sym h)
 
 -- of a line that is not bad, letter and first number are the raw ones, and all of it unless it is an N line
 pub raw-rawly : (w : ℕ) (b : List ℕ) (i : ℕ) → isBad (line w b i) ≡ false → Rawly (raw w b i) (line w b i)
@@ -1533,47 +1446,3 @@ row3-raws w b h i =
     s m = due-take-same m (raws w b) (lines w b) n (λ j k q.
         let c : j < count w b = omega (arith, length-raws w b) in
         ap (due q) (line-raws w b j c) ∙ due-rawly q (raw w b j) (line w b j) (raw-rawly w b j (h j c)) ∙ ap (due q) (sym (getD-lines w b j)))
-
--- ---- raw lines of an append
--- a run of whole lines
-pub count-append : (w : ℕ) (b c : List ℕ) → length b ≡ lineBytes w * count w b → count w (b ++ c) ≡ count w b + count w c
-count-append w b c h =
-    sym (length-lines w (b ++ c))
-    ∙ ap length (lines-append w (count w b) b c h)
-    ∙ length-append (lines w b) (lines w c)
-    ∙ ap₂ (λ (m n : ℕ). m + n) (length-lines w b) (length-lines w c)
-
-raw-left : (w : ℕ) (b c : List ℕ) (i : ℕ) → i < count w b → raw w (b ++ c) i ≡ raw w b i
-raw-left w b c i h = raw-is w (b ++ c) i ∙ ap (raw-line w) (lineAt-left w b c i (within-count w b i h)) ∙ sym (raw-is w b i)
-
-raw-right : (w : ℕ) (b c : List ℕ) (i : ℕ) → length b ≡ lineBytes w * count w b → raw w (b ++ c) (count w b + i) ≡ raw w c i
-raw-right w b c i h = raw-is w (b ++ c) (count w b + i) ∙ ap (raw-line w) (lineAt-right w b c (count w b) i h) ∙ sym (raw-is w c i)
-
-pub raws-append : (w : ℕ) (b c : List ℕ) → length b ≡ lineBytes w * count w b → raws w (b ++ c) ≡ raws w b ++ raws w c
-raws-append w b c h =
-    ext-getD bad (raws w (b ++ c)) (raws w b ++ raws w c)
-    (length-raws w (b ++ c) ∙ n ∙ sym (length-append (raws w b) (raws w c) ∙ ap₂ (λ (x y : ℕ). x + y) (length-raws w b) (length-raws w c)))
-    (λ i k. go i (ltb i (count w b)) refl (omega (arith, length-raws w (b ++ c))))
-  where
-    n : count w (b ++ c) ≡ count w b + count w c
-    n = count-append w b c h
-
-    right : (j : ℕ) → j < count w c → line-at (raws w (b ++ c)) (count w b + j) ≡ line-at (raws w b ++ raws w c) (count w b + j)
-    right j k =
-        line-raws w (b ++ c) (count w b + j) (omega (arith, n))
-        ∙ raw-right w b c j h
-        ∙ sym (line-raws w c j k)
-        ∙ sym (getD-append-add (raws w b) (raws w c) j bad)
-        ∙ ap (λ (x : ℕ). line-at (raws w b ++ raws w c) (x + j)) (length-raws w b)
-
-    go : (i : ℕ) (t : Bool) → ltb i (count w b) ≡ t → i < count w (b ++ c) → line-at (raws w (b ++ c)) i ≡ line-at (raws w b ++ raws w c) i
-    go i true e k =
-        let l : i < count w b = ltb-true i (count w b) e in
-        line-raws w (b ++ c) i k
-        ∙ raw-left w b c i l
-        ∙ sym (line-raws w b i l)
-        ∙ sym (List·getD-append (raws w b) (raws w c) bad i (omega (arith, length-raws w b)))
-    go i false e k =
-        let l : count w b ≤ i = ltb-false i (count w b) e in
-        let q : i ≡ count w b + (i - count w b) = omega arith in
-        rw q (right (i - count w b) (omega (arith, n)))

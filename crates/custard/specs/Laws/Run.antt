@@ -1,22 +1,18 @@
 -- What `run` gives, declaration by declaration, and what it depends on. Assumes nothing.
-use mathlib.Core.Path.{_≡_, refl, sym, _∙_, ap, ap₂, subst, fun-ext}
-use mathlib.Core.List.{List, [], _∷_, _++_}
-use mathlib.Core.Bool.{Bool, true, false}
-use mathlib.Core.Option.{Option, none, some}
-use Prim.Native.Nat.{ℕ, zero, suc, _≤_, _<_}
-use native.Mathlib.Omega.{arith}
-use lib.Dec.{eqb, ltb}
+use mathlib.Core.Path.{_≡_, refl, sym, _∙_, ap, ap₂, fun-ext}
+use mathlib.Core.List.{List}
+use mathlib.Core.Bool.{false}
+use mathlib.Core.Option.{Option, none}
+use Prim.Native.Nat.{ℕ, _<_}
 use lib.ListN.{length, getD}
-use Rattle.columns.specs.Column.{pick}
-use Rattle.custard.specs.Cty.{Cty}
-use Rattle.custard.specs.Decl.{Dtype, Layout, L-opaque, TypeInfo, Origin, Decl, dtype-at, origin-at, table, position}
+use Rattle.custard.specs.Decl.{Dtype, Layout, L-opaque, TypeInfo, Decl, dtype-at, origin-at, table}
 use Rattle.custard.specs.Erasure.{marked, erasure-fixpoint}
-use Rattle.custard.specs.Layout.{positions, names-in, compute-layouts}
 use Rattle.custard.specs.Reach.{cyclic}
 use Rattle.custard.specs.Resolve.{Unfold, gone, newtype, abbreviation, stays, unfold-of, unfolds, unfold-name, resolve, resolve-checked}
 use Rattle.custard.specs.Run.{fuel, rw-decl, info, layouts-of, somes, run, unfold-names, unfold-next, returns, resolves, fault-code, decl-fault}
 use Rattle.custard.specs.Laws.Names.{position-same}
-use Rattle.custard.specs.Laws.Layout.{length-table, getD-table, table-cong, length-layouts}
+use Rattle.custard.specs.Laws.Layout.{positions-same}
+use Rattle.custard.specs.Laws.Lists.{length-table, getD-table, table-cong}
 
 -- ---- one declaration
 -- what the names of a program become
@@ -53,15 +49,6 @@ length-infos ds = rw run-infos (length-table (info-at ds) (length ds))
 -- ---- the same types and layouts
 -- Origins apart, all but the verdicts follows from the declarations' types and the layouts.
 module _ (ds ds' : List Decl) (e : length ds ≡ length ds') (t : (i : ℕ) → i < length ds → dtype-at ds i ≡ dtype-at ds' i) where
-  pub places-same : (n : ℕ) → position ds n ≡ position ds' n
-  places-same n = position-same ds ds' n e t
-
-  pub positions-same : (ns : List ℕ) → positions ds ns ≡ positions ds' ns
-  unfolding positions
-  positions-same [] = refl
-  positions-same (n ∷ ns) = ap₂ (λ (i : ℕ) (is : List ℕ). pick (ltb i (length ds)) (i ∷ is) is) (places-same n) (positions-same ns)
-      ∙ ap (λ (k : ℕ). pick (ltb (position ds' n) k) (position ds' n ∷ positions ds' ns) (positions ds' ns)) e
-
   module _ (q : layouts-of ds ≡ layouts-of ds') where
     unfolds-same : unfolds ds (layouts-of ds) ≡ unfolds ds' (layouts-of ds')
     unfolding unfolds
@@ -71,7 +58,7 @@ module _ (ds ds' : List Decl) (e : length ds ≡ length ds') (t : (i : ℕ) → 
 
     pub lay-same : lay ds ≡ lay ds'
     unfolding unfold-name
-    lay-same = fun-ext (λ n. ap₂ (λ (us : List Unfold) (i : ℕ). getD us i stays) unfolds-same (places-same n))
+    lay-same = fun-ext (λ n. ap₂ (λ (us : List Unfold) (i : ℕ). getD us i stays) unfolds-same (position-same ds ds' n e t))
 
     pub left-same : (i : ℕ) → i < length ds → left-at ds i ≡ left-at ds' i
     unfolding left-at
@@ -93,8 +80,8 @@ module _ (ds ds' : List Decl) (e : length ds ≡ length ds') (t : (i : ℕ) → 
     unfold-names-same : (u : Unfold) → unfold-names ds u ≡ unfold-names ds' u
     unfolding unfold-names
     unfold-names-same gone = refl
-    unfold-names-same (newtype ps c) = positions-same _
-    unfold-names-same (abbreviation ps c) = positions-same _
+    unfold-names-same (newtype ps c) = positions-same ds ds' e t _
+    unfold-names-same (abbreviation ps c) = positions-same ds ds' e t _
     unfold-names-same stays = refl
 
     pub returns-same : (i : ℕ) → returns ds (layouts-of ds) i ≡ returns ds' (layouts-of ds') i

@@ -1,6 +1,6 @@
 -- A cut's units, each of which is a second part of the sheet before it. Assumes nothing.
-use mathlib.Core.Logic.{_↔_, _⊎_, inl, inr, ⊎-elim}
-use mathlib.Core.Path.{_≡_, refl, sym, _∙_, ap, ap₂, subst}
+use mathlib.Core.Logic.{_⊎_, inl, inr, ⊎-elim}
+use mathlib.Core.Path.{_≡_, refl, sym, _∙_, ap, subst}
 use mathlib.Core.List.{
   List,
   [],
@@ -8,7 +8,6 @@ use mathlib.Core.List.{
   _++_,
   map,
   append-assoc,
-  append-nil,
   List·Memᴰ,
   List·Memᴰ·head,
   List·Memᴰ·tail,
@@ -17,33 +16,34 @@ use mathlib.Core.List.{
   List·Memᴰ·append-cases,
   Memᴰ·append-left,
   Memᴰ·append-right,
+  map-append,
 }
-use mathlib.Core.Bool.{Bool, true, false, _||_}
-use Prim.Native.Nat.{ℕ, zero, suc, _+_, _*_, _%_, _≤_, _<_}
+use mathlib.Core.Bool.{true, false, _||_}
+use Prim.Native.Nat.{ℕ, zero, suc, _+_, _≤_, _<_}
 use native.Mathlib.Omega.{arith}
 use native.Mathlib.Nat.{zero-div, zero-mod}
-use lib.Dec.{eqb, ltb}
-use lib.ListN.{length, getD, length-append, length-map, List·getD-append}
-use borrow.Author.Tests.{ltb-true, ltb-false}
+use lib.Dec.{eqb}
+use lib.ListN.{length, getD, length-append, List·getD-append}
 use Rattle.sheet.specs.Format.{Format, lineBytes}
 use Rattle.sheet.specs.Line.{Line, bad, isBad, letter, number}
 use Rattle.sheet.specs.Sheet.{first, count, line, linesFrom, lines, row2}
 use Rattle.sheet.specs.FirstLaws.{first-none}
 use Rattle.sheet.specs.SheetLaws.{within-count, length-lines, getD-lines, lines-append}
+use Rattle.sheet.specs.ListLaws.{Every, at-every, every-left, every-right}
 use Rattle.custard.specs.Cty.{Cty}
 use Rattle.custard.specs.Decl.{Decl, no-decl, dtype-at, position}
-use Rattle.custard.specs.Program.{arg-line, type-line, is-head, select, Group, groups, trees, decl-of, program}
+use Rattle.custard.specs.Program.{arg-line, type-line, is-head, select, groups, trees, decl-of, program}
 use Rattle.custard.specs.Rows.{line-at, raw, heads-before, row5, row6}
 use Rattle.custard.specs.Names.{dtype-names, Declared, undeclared, Distinct}
-use Rattle.custard.specs.Laws.Names.{position-le, position-name, position-first, position-append-left, position-append-right, undeclared-of}
+use Rattle.custard.specs.Laws.Names.{position-name, position-first, position-append-left, position-append-right, undeclared-of, declared-cases, not-declared}
 use Rattle.custard.specs.Cut.{build, builds, join, Whole, Declarations, program-names, Cut}
-use Rattle.custard.specs.Laws.Program.{Starts, None, select-append, program-append, groups-append, groups-none, length-program, program-at, HeadAt, head-at, heads-before-program}
+use Rattle.custard.specs.Laws.Program.{Starts, None, select-append, program-append, groups-append, groups-none, length-program, HeadAt, head-at, heads-before-program, none-left, none-right}
 use Rattle.custard.specs.Laws.Rows.{Ends, raw-rawly, ends-prefix, NoHeader, no-header, row5-prefix}
 use Rattle.custard.specs.Laws.Answer.{Clear}
 use Rattle.custard.specs.Laws.Pass.{name-at, distinct-program}
 use Rattle.custard.specs.Laws.Pinning.{Apart, distinct-undeclared}
 use Rattle.custard.specs.Laws.Step.{later, program-parts}
-use Rattle.custard.specs.Laws.Build.{whole-length, whole-append, NoBad, no-bad-left, no-bad-right, no-bad-pass, Split, split-steps}
+use Rattle.custard.specs.Laws.Build.{whole-length, whole-append, NoBad, no-bad-pass, Split, split-steps}
 use Rattle.custard.specs.Laws.Cut.{Splits, chain}
 
 -- ---- declared names, by the lines where declarations begin
@@ -88,20 +88,11 @@ declared-left a b n d = head-declared (a ++ b) n (head-left a b n (declared-head
 -- ---- units
 -- all units from their first lines on
 abbrev pub Units : ℕ → List (List ℕ) → Type 0
-Units w [] = Unit {0}
-Units w (u ∷ us) = Declarations w u × Units w us
+Units w = Every (Declarations w)
 
 units-of : (w : ℕ) (us : List (List ℕ)) → ((xs ys : List (List ℕ)) (u : List ℕ) → us ≡ xs ++ (u ∷ ys) → Declarations w u) → Units w us
 units-of w [] h = tt
 units-of w (u ∷ us) h = (h [] us u refl, units-of w us (λ xs ys v e. h (u ∷ xs) ys v (ap (λ (t : List (List ℕ)). u ∷ t) e)))
-
-units-left : (w : ℕ) (xs ys : List (List ℕ)) → Units w (xs ++ ys) → Units w xs
-units-left w [] ys h = tt
-units-left w (x ∷ xs) ys h = (h .0, units-left w xs ys (h .1))
-
-units-right : (w : ℕ) (xs ys : List (List ℕ)) → Units w (xs ++ ys) → Units w ys
-units-right w [] ys h = h
-units-right w (x ∷ xs) ys h = units-right w xs ys (h .1)
 
 join-whole : (w : ℕ) (us : List (List ℕ)) → Units w us → Whole w (join us)
 unfolding join
@@ -120,9 +111,6 @@ lines-nil w = rw (zero-div (lineBytes w))
 lines-cut : (w : ℕ) (p q : List ℕ) → Whole w p → lines w (p ++ q) ≡ lines w p ++ lines w q
 lines-cut w p q h = lines-append w (count w p) p q (whole-length w p h)
 
-raw-letter : (w : ℕ) (b : List ℕ) (i : ℕ) → isBad (line w b i) ≡ false → letter (raw w b i) ≡ letter (line w b i)
-raw-letter w b i h = raw-rawly w b i h .letters
-
 -- a unit's lines begin with a D line
 unit-starts : (w : ℕ) (u : List ℕ) → Declarations w u → NoBad (lines w u) → Starts is-head (lines w u)
 unit-starts w u h nb = go (lines w u) refl
@@ -134,7 +122,7 @@ unit-starts w u h nb = go (lines w u) refl
         let c : 0 < count w u = omega (arith, length-lines w u) in
         let p : 0 < length u = omega (arith, within-count w u 0 c) in
         let a : getD (lines w u) 0 bad ≡ l = ap (λ (x : List Line). getD x 0 bad) e in
-        let f : letter l ≡ letter (raw w u 0) = ap letter (sym a) ∙ (ap letter (getD-lines w u 0) ∙ sym (raw-letter w u 0 (ap isBad (sym (getD-lines w u 0)) ∙ nb 0 n))) in
+        let f : letter l ≡ letter (raw w u 0) = ap letter (sym a) ∙ (ap letter (getD-lines w u 0) ∙ sym (raw-rawly w u 0 (no-bad-pass w u nb 0 c) .letters)) in
         ap (λ (x : ℕ). eqb x 68 || eqb x 73) f ∙ h .1 p
 
 starts-append : (a b : List Line) → Starts is-head a → Starts is-head b → Starts is-head (a ++ b)
@@ -148,7 +136,7 @@ join-starts w (u ∷ us) h nb =
     let e : lines w (u ++ join us) ≡ lines w u ++ lines w (join us) = lines-cut w u (join us) (h .0 .0) in
     let nb' : NoBad (lines w u ++ lines w (join us)) = subst NoBad e nb in
     subst (Starts is-head) (sym e)
-    (starts-append (lines w u) (lines w (join us)) (unit-starts w u (h .0) (no-bad-left (lines w u) (lines w (join us)) nb')) (join-starts w us (h .1) (no-bad-right (lines w u) (lines w (join us)) nb')))
+    (starts-append (lines w u) (lines w (join us)) (unit-starts w u (h .0) (none-left isBad (lines w u) (lines w (join us)) nb')) (join-starts w us (h .1) (none-right isBad (lines w u) (lines w (join us)) nb')))
 
 -- ---- the declarations of the units
 -- the declarations of units, over the types ts
@@ -173,19 +161,15 @@ of-unit w ts (u ∷ us) d m =
     (λ x. let r = of-unit w ts us d x in record { before-it = u ∷ r .before-it; unit = r .unit; after-it = r .after-it; split = ap (λ (t : List (List ℕ)). u ∷ t) (r .split); declares = r .declares })
     (List·Memᴰ·append-cases (map (decl-of ts) (groups is-head (lines w u))) m)
 
-map-append' : (ts : List Cty) (a b : List Group) → map (decl-of ts) (a ++ b) ≡ map (decl-of ts) a ++ map (decl-of ts) b
-map-append' ts [] b = refl
-map-append' ts (g ∷ a) b = ap (λ (r : List Decl). decl-of ts g ∷ r) (map-append' ts a b)
-
 groups-join : (w : ℕ) (ts : List Cty) (us : List (List ℕ)) → Units w us → NoBad (lines w (join us)) → map (decl-of ts) (groups is-head (lines w (join us))) ≡ units-decls w ts us
 unfolding units-decls join groups
 groups-join w ts [] h nb = rw (lines-nil w)
 groups-join w ts (u ∷ us) h nb =
     let e : lines w (u ++ join us) ≡ lines w u ++ lines w (join us) = lines-cut w u (join us) (h .0 .0) in
-    let nb' : NoBad (lines w (join us)) = no-bad-right (lines w u) (lines w (join us)) (subst NoBad e nb) in
+    let nb' : NoBad (lines w (join us)) = none-right isBad (lines w u) (lines w (join us)) (subst NoBad e nb) in
     ap (λ (ls : List Line). map (decl-of ts) (groups is-head ls)) e
     ∙ (ap (map (decl-of ts)) (groups-append is-head (lines w u) (lines w (join us)) (join-starts w us (h .1) nb'))
-    ∙ (map-append' ts (groups is-head (lines w u)) (groups is-head (lines w (join us)))
+    ∙ (map-append (decl-of ts) (groups is-head (lines w u)) (groups is-head (lines w (join us)))
     ∙ ap (λ (r : List Decl). map (decl-of ts) (groups is-head (lines w u)) ++ r) (groups-join w ts us (h .1) nb')))
 
 mem-names : (ds : List Decl) (d : Decl) (n : ℕ) → List·Memᴰ d ds → List·Memᴰ n (dtype-names (d .dtype)) → List·Memᴰ n (program-names ds)
@@ -211,27 +195,12 @@ nil-right : (a b : List Line) → a ++ b ≡ [] → b ≡ []
 nil-right [] b e = e
 nil-right (l ∷ a) b e = let z : _≡_ {A = ℕ} 0 1 = cc in absurd (omega arith)
 
-none-of : (p : Line → Bool) (ls : List Line) → ((i : ℕ) → i < length ls → p (getD ls i bad) ≡ false) → None p ls
-none-of p [] h = tt
-none-of p (l ∷ ls) h = (h 0 (omega arith), none-of p ls (λ i k. h (suc i) (omega arith)))
-
 declared-right : (ds es : List Decl) (n : ℕ) → Declared es n → Declared (ds ++ es) n
-declared-right ds es n d = go (ltb (position ds n) (length ds)) refl
-  where
-    go : (c : Bool) → ltb (position ds n) (length ds) ≡ c → Declared (ds ++ es) n
-    go true e =
-        let k : Declared ds n = ltb-true (position ds n) (length ds) e in
-        rw (position-append-left ds es n k, length-append) (omega arith)
-    go false e =
-        let k : position ds n ≡ length ds = omega (arith, ltb-false (position ds n) (length ds) e, position-le ds n) in
-        rw (position-append-right ds es n k, length-append) (omega arith)
-
-not-declared : (ds : List Decl) (n : ℕ) → (Declared ds n → ⊥) → undeclared ds n ≡ true
-not-declared ds n h = undeclared-of ds n (go (ltb (position ds n) (length ds)) refl)
-  where
-    go : (c : Bool) → ltb (position ds n) (length ds) ≡ c → position ds n ≡ length ds
-    go true e = absurd (h (ltb-true (position ds n) (length ds) e))
-    go false e = omega (arith, ltb-false (position ds n) (length ds) e, position-le ds n)
+declared-right ds es n d =
+    ⊎-elim
+    (λ k. rw (position-append-left ds es n k, length-append) (omega arith))
+    (λ k. rw (position-append-right ds es n k, length-append) (omega arith))
+    (declared-cases ds n)
 
 -- lines of a header, and of units behind it
 module _ (w : ℕ) (header : List ℕ) (whole : Whole w header) (none : NoBad (lines w header) → None is-head (lines w header)) (xs : List (List ℕ)) (us : Units w xs)
@@ -249,21 +218,21 @@ module _ (w : ℕ) (header : List ℕ) (whole : Whole w header) (none : NoBad (l
   nb-parts = subst NoBad lines-are nb
 
   units-start : Starts is-head X
-  units-start = join-starts w xs us (no-bad-right H X nb-parts)
+  units-start = join-starts w xs us (none-right isBad H X nb-parts)
 
   units-plain : NoHeader X
   units-plain = no-header H X units-start (subst Ends lines-are ends)
 
   header-program : program H ≡ []
   unfolding program
-  header-program = ap (map (decl-of (trees H))) (groups-none is-head H (none (no-bad-left H X nb-parts)))
+  header-program = ap (map (decl-of (trees H))) (groups-none is-head H (none (none-left isBad H X nb-parts)))
 
   -- the program is the units' declarations over the header's types
   program-units : program (lines w (header ++ join xs)) ≡ units-decls w (trees H) xs
   program-units =
       ap program lines-are
       ∙ (program-append H X units-start (units-plain .args) (units-plain .types)
-      ∙ (ap (λ (ds : List Decl). ds ++ later H X) header-program ∙ groups-join w (trees H) xs us (no-bad-right H X nb-parts)))
+      ∙ (ap (λ (ds : List Decl). ds ++ later H X) header-program ∙ groups-join w (trees H) xs us (none-right isBad H X nb-parts)))
 
   -- a unit's own sheet has its declarations over the same types
   unit-program : (as' bs : List (List ℕ)) (u : List ℕ) → xs ≡ as' ++ (u ∷ bs) → program (lines w (header ++ u)) ≡ map (decl-of (trees H)) (groups is-head (lines w u))
@@ -272,8 +241,8 @@ module _ (w : ℕ) (header : List ℕ) (whole : Whole w header) (none : NoBad (l
       let A : List Line = lines w (join as') in
       let U : List Line = lines w u in
       let B : List Line = lines w (join bs) in
-      let ua : Units w as' = units-left w as' (u ∷ bs) (subst (Units w) e us) in
-      let uu : Units w (u ∷ bs) = units-right w as' (u ∷ bs) (subst (Units w) e us) in
+      let ua : Units w as' = every-left (Declarations w) as' (u ∷ bs) (subst (Units w) e us) in
+      let uu : Units w (u ∷ bs) = every-right (Declarations w) as' (u ∷ bs) (subst (Units w) e us) in
       let x : X ≡ A ++ (U ++ B) =
       ap (λ (t : List (List ℕ)). lines w (join t)) e
       ∙ (ap (lines w) (join-append as' (u ∷ bs))
@@ -281,7 +250,7 @@ module _ (w : ℕ) (header : List ℕ) (whole : Whole w header) (none : NoBad (l
       let part : (k : ℕ) → select k X ≡ [] → select k U ≡ [] = λ k z.
       nil-left (select k U) (select k B)
       (sym (select-append k U B) ∙ nil-right (select k A) (select k (U ++ B)) (sym (select-append k A (U ++ B)) ∙ (ap (select k) (sym x) ∙ z))) in
-      let nu : NoBad U = no-bad-left U B (no-bad-right A (U ++ B) (subst NoBad x (no-bad-right H X nb-parts))) in
+      let nu : NoBad U = none-left isBad U B (none-right isBad A (U ++ B) (subst NoBad x (none-right isBad H X nb-parts))) in
       ap program (lines-cut w header u whole)
       ∙ (program-append H U (unit-starts w u (uu .0) nu) (part arg-line (units-plain .args)) (part type-line (units-plain .types))
       ∙ ap (λ (ds : List Decl). ds ++ later H U) header-program)
@@ -292,9 +261,9 @@ module _ (w : ℕ) (b header : List ℕ) (units : List (List ℕ)) (cut : Cut w 
 
   header-none : NoBad (lines w header) → None is-head (lines w header)
   header-none nb =
-      none-of is-head (lines w header) (λ i h.
+      at-every (λ l. is-head l ≡ false) bad (lines w header) (λ i h.
       let k : i < count w header = omega (arith, length-lines w header) in
-      let e : letter (raw w header i) ≡ letter (line w header i) = raw-letter w header i (ap isBad (sym (getD-lines w header i)) ∙ nb i h) in
+      let e : letter (raw w header i) ≡ letter (line w header i) = raw-rawly w header i (no-bad-pass w header nb i k) .letters in
       ap (λ (x : ℕ). eqb x 68 || eqb x 73) (ap letter (getD-lines w header i) ∙ sym e) ∙ cut .header-only i k)
 
   module _ (xs ys zs : List (List ℕ)) (e : units ≡ xs ++ (ys ++ zs)) where
@@ -302,10 +271,10 @@ module _ (w : ℕ) (b header : List ℕ) (units : List (List ℕ)) (cut : Cut w 
     pre = header ++ join xs
 
     xs-units : Units w xs
-    xs-units = units-left w xs (ys ++ zs) (subst (Units w) e all-units)
+    xs-units = every-left (Declarations w) xs (ys ++ zs) (subst (Units w) e all-units)
 
     ys-units : Units w ys
-    ys-units = units-left w ys zs (units-right w xs (ys ++ zs) (subst (Units w) e all-units))
+    ys-units = every-left (Declarations w) ys zs (every-right (Declarations w) xs (ys ++ zs) (subst (Units w) e all-units))
 
     pre-whole : Whole w pre
     pre-whole = whole-append w header (join xs) (cut .header-whole) (join-whole w xs xs-units)
@@ -334,13 +303,13 @@ module _ (w : ℕ) (b header : List ℕ) (units : List (List ℕ)) (cut : Cut w 
     split-apart :
         NoBad (P ++ Q) → Ends (P ++ Q) → Clear (length P) (row5 P) → Clear (length (P ++ Q)) (row6 (P ++ Q)) → Apart (program P) (later P Q)
     unfolding join
-    split-apart nb ends c5 c6 i h n m = ⊎-elim declared-apart (λ z. not-declared (later P Q) n (λ d. z (elsewhere d))) (told r)
+    split-apart nb ends c5 c6 i h n m = ⊎-elim declared-apart (λ z. undeclared-of (later P Q) n (not-declared (later P Q) n (λ d. z (elsewhere d)))) (told r)
       where
         st : Starts is-head Q
-        st = join-starts w ys ys-units (no-bad-right P Q nb)
+        st = join-starts w ys ys-units (none-right isBad P Q nb)
 
         np : NoBad P
-        np = no-bad-left P Q nb
+        np = none-left isBad P Q nb
 
         ep : Ends P
         ep = ends-prefix P Q st ends
@@ -370,8 +339,8 @@ module _ (w : ℕ) (b header : List ℕ) (units : List (List ℕ)) (cut : Cut w 
             let xs1 : List (List ℕ) = r .before-it in
             let u : List ℕ = r .unit in
             let xs2 : List (List ℕ) = r .after-it in
-            let u1 : Units w xs1 = units-left w xs1 (u ∷ xs2) (subst (Units w) (r .split) xs-units) in
-            let u2 : Units w (u ∷ xs2) = units-right w xs1 (u ∷ xs2) (subst (Units w) (r .split) xs-units) in
+            let u1 : Units w xs1 = every-left (Declarations w) xs1 (u ∷ xs2) (subst (Units w) (r .split) xs-units) in
+            let u2 : Units w (u ∷ xs2) = every-right (Declarations w) xs1 (u ∷ xs2) (subst (Units w) (r .split) xs-units) in
             let pre1 : List ℕ = header ++ join xs1 ++ u in
             let whole1 : Whole w (header ++ join xs1 ++ u) =
             whole-append w (header ++ join xs1) u (whole-append w header (join xs1) (cut .header-whole) (join-whole w xs1 u1)) (u2 .0 .0) in
@@ -382,12 +351,12 @@ module _ (w : ℕ) (b header : List ℕ) (units : List (List ℕ)) (cut : Cut w 
             ∙ (ap (λ (t : List ℕ). header ++ t) (join-append xs1 (u ∷ xs2)) ∙ (sym (append-assoc header (join xs1) (u ++ join xs2)) ∙ sym (append-assoc (header ++ join xs1) u (join xs2)))) in
             let parts1 : P ≡ P1 ++ P2 = ap (lines w) bytes ∙ lines-cut w (header ++ join xs1 ++ u) (join xs2) whole1 in
             let nb1 : NoBad (P1 ++ P2) = subst NoBad parts1 np in
-            let st2 : Starts is-head P2 = join-starts w xs2 (u2 .1) (no-bad-right P1 P2 nb1) in
+            let st2 : Starts is-head P2 = join-starts w xs2 (u2 .1) (none-right isBad P1 P2 nb1) in
             let nh : NoHeader P2 = no-header P1 P2 st2 (subst Ends parts1 ep) in
             let c : Clear (length (P1 ++ P2)) (row5 (P1 ++ P2)) = subst (λ (ls : List Line). Clear (length ls) (row5 ls)) parts1 c5 in
             let split1 : units ≡ xs1 ++ (u ∷ (xs2 ++ (ys ++ zs))) =
             e ∙ (ap (λ (t : List (List ℕ)). t ++ (ys ++ zs)) (r .split) ∙ append-assoc xs1 (u ∷ xs2) (ys ++ zs)) in
-            let two : row2 w (header ++ join xs1 ++ u) ≡ count w (header ++ join xs1 ++ u) = passed2 (header ++ join xs1 ++ u) (no-bad-left P1 P2 nb1) in
+            let two : row2 w (header ++ join xs1 ++ u) ≡ count w (header ++ join xs1 ++ u) = passed2 (header ++ join xs1 ++ u) (none-left isBad P1 P2 nb1) in
             let five : first (row5 P1) (count w (header ++ join xs1 ++ u)) ≡ count w (header ++ join xs1 ++ u) =
             first-none (row5 P1) (count w (header ++ join xs1 ++ u)) (λ k q.
             let t : k < length P1 = omega (arith, length-lines w (header ++ join xs1 ++ u)) in

@@ -1,17 +1,16 @@
 -- A sheet in two parts, by its lines: the first part passes with the whole, and its verdict sheet may
 -- stand for it. Assumes nothing.
 use mathlib.Core.Logic.{_↔_}
-use mathlib.Core.Path.{_≡_, refl, sym, _∙_, ap, ap₂, subst}
-use mathlib.Core.List.{List, [], _∷_, _++_, map}
-use mathlib.Core.Bool.{Bool, true, false, not}
-use mathlib.Core.Option.{Option, none, some}
-use Prim.Native.Nat.{ℕ, zero, suc, _+_, _≤_, _<_}
+use mathlib.Core.Path.{_≡_, sym, _∙_, ap, subst}
+use mathlib.Core.List.{List, _++_, map}
+use mathlib.Core.Bool.{Bool, not}
+use Prim.Native.Nat.{ℕ, _+_, _<_}
 use native.Mathlib.Omega.{arith}
 use lib.Dec.{eqb}
 use lib.ListN.{length, drop, length-append}
 use Rattle.sheet.specs.Format.{Format}
 use Rattle.sheet.specs.Line.{Line}
-use Rattle.custard.specs.Decl.{Decl, Dtype, TypeInfo}
+use Rattle.custard.specs.Decl.{Decl, TypeInfo}
 use Rattle.custard.specs.Program.{is-head, groups, trees, decl-of, program}
 use Rattle.custard.specs.Rows.{row3, row4, row5, row6, row7}
 use Rattle.custard.specs.Run.{run, layouts-of, returns, decl-fault}

@@ -5,13 +5,13 @@ use mathlib.Core.Bool.{Bool, false, _||_}
 use Prim.Native.Nat.{ℕ, suc, _+_}
 use native.Mathlib.Omega.{arith}
 use lib.Dec.{eqb}
-use borrow.Author.Tests.{eq-eqb, ne-eqb}
 use lib.ListN.{length, getD, length-append, length-map}
 use lib.Seq.{append-snoc, getD-at, getD-append-seam}
+use borrow.Author.Tests.{eq-eqb, ne-eqb}
 use Rattle.columns.specs.Column.{pick}
 use Rattle.sheet.specs.Line.{Line, row, letter, number}
+use Rattle.sheet.specs.ListLaws.{Every}
 use Rattle.custard.specs.Cty.{Cty, Ctys, TUnit, TAny, TExn, TVar, TInt, TFloat, TConst, TArrow, TApp, TTuple, TBuf, TRef, TInline, nil, cons}
-use Rattle.custard.specs.Laws.Cty.{Every}
 use Rattle.custard.specs.Decl.{Field, Ctor, Body, TAbstract, TAbbrev, TRecord, TVariant, Dtype, here, Decl, close-fields}
 use Rattle.custard.specs.Program.{
   name-line,
@@ -40,7 +40,7 @@ use Rattle.custard.specs.Program.{
   decl-of,
   program,
 }
-use Rattle.custard.specs.Laws.Program.{None, none-append, select-append, select-none, before-none, groups-none, flat, Grouped, AllGrouped, groups-header}
+use Rattle.custard.specs.Laws.Program.{None, none-append, select-append, select-none, before-none, groups-none, flat, Grouped, AllGrouped, groups-header, before-after, groups-after}
 use Rattle.custard.specs.Output.{Written, put, last, Members, listed, first-arg, emit, emits, Lines, field-lines, ctor-lines, decl-frame, decl-lines, program-lines, left-lines}
 use Rattle.custard.specs.Laws.Output.{Grows, grows-refl, grows-put, grows-listed, grows-trans, emit-adds, emits-adds, field-adds, ctor-adds, program-adds, select-letter, nothing}
 
@@ -204,16 +204,6 @@ module _ (xs : List ℕ) where
         record { later = later-trans (r .later) (s .later); found = λ us. members-cons t ts (last x) (emits ts x .numbers) (types-read (emits ts x .written) ++ us) (rw (s .later .is, append-assoc) (r .found (s .later .more ++ us))) (s .found us) }
 
 -- ---- parts of a declaration's lines
-before-after : (p : Line → Bool) (a b : List Line) → None p a → before p (a ++ b) ≡ a ++ before p b
-unfolding before
-before-after p [] b h = refl
-before-after p (l ∷ a) b h = rw (h .0) (ap (λ (r : List Line). l ∷ r) (before-after p a b (h .1)))
-
-groups-after : (p : Line → Bool) (a b : List Line) → None p a → groups p (a ++ b) ≡ groups p b
-unfolding groups
-groups-after p [] b h = refl
-groups-after p (l ∷ a) b h = rw (h .0) (groups-after p a b (h .1))
-
 abbrev param-row : ℕ → Line
 param-row n = row param-line (n ∷ 0 ∷ 0 ∷ 0 ∷ 0 ∷ [])
 

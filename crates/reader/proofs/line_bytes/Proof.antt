@@ -4,7 +4,7 @@ use Prim.Native.Nat.{_+_, _*_, _-_}
 use native.Mathlib.Nat.{add-sub-cancel-left, mul-comm}
 use lib.ListN.{length, take, drop}
 use Rattle.sheet.specs.Sheet.{lineAt}
-use Rattle.reader.specs.AccessLaws.{lineAt-length}
+use Rattle.sheet.specs.SheetLaws.{lineAt-length}
 use borrow.Author.Needs.{needs}
 use Rattle.reader.proofs.line_bytes.Statement.{statement}
 use Rattle.reader.proofs.line_bytes.Tie as tie

@@ -7,7 +7,8 @@ use Rattle.sheet.specs.Line.{decode}
 use Rattle.sheet.specs.Sheet.{nameText}
 use Rattle.lines.specs.Shape.{shapeOf}
 use Rattle.reader.specs.Access.{spelledIn}
-use Rattle.reader.specs.AccessLaws.{line-past, name-fits, name-part}
+use Rattle.sheet.specs.SheetLaws.{line-past}
+use Rattle.reader.specs.AccessLaws.{name-fits, name-part}
 use borrow.Author.Needs.{needs}
 use Rattle.reader.proofs.name.Statement.{statement}
 use Rattle.reader.proofs.name.Tie as tie

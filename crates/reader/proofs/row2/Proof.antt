@@ -7,7 +7,7 @@ use lib.ListN.{length}
 use borrow.Author.Needs.{needs}
 use Rattle.sheet.specs.Line.{isBad}
 use Rattle.sheet.specs.Sheet.{first, line, row2}
-use Rattle.reader.specs.FirstLaws.{first-more, first-found}
+use Rattle.sheet.specs.FirstLaws.{first-more, first-found}
 use Rattle.reader.specs.AccessLaws.{bad-at}
 use Rattle.reader.proofs.row2.Statement.{statement}
 use Rattle.reader.proofs.row2.Tie as tie

@@ -4,8 +4,9 @@ use native.Mathlib.Omega.{arith}
 use mathlib.Core.Logic.{⊎-elim}
 use lib.ListN.{getD}
 use Rattle.sheet.specs.Sheet.{line, lineAt}
-use Rattle.lines.specs.ShapeLaws.{number-named, number-over}
-use Rattle.reader.specs.AccessLaws.{line-past, value-good}
+use Rattle.sheet.specs.LineLaws.{number-named, number-over}
+use Rattle.sheet.specs.SheetLaws.{line-past}
+use Rattle.reader.specs.AccessLaws.{value-good}
 use borrow.Author.Needs.{needs}
 use Rattle.reader.proofs.value.Statement.{statement}
 use Rattle.reader.proofs.value.Tie as tie
