@@ -42,9 +42,11 @@ weigh-step Blank b s n e = go (eqb b 32) refl e
     go-digit : (c : Bool) → digit b ≡ c → told (scan (pick c (In (b - 48)) Broken) s) ≡ Value n → 0 * 10 + b % 16 ≡ sofar (pick c (In (b - 48)) Broken)
     go-digit true q k = omega (arith, digit-true b q .0, digit-true b q .1)
     go-digit false q k = absurd (broken s n k)
+
     go-zero : (c : Bool) → eqb b 48 ≡ c → told (scan (pick c Zero (pick (digit b) (In (b - 48)) Broken)) s) ≡ Value n → 0 * 10 + b % 16 ≡ sofar (pick c Zero (pick (digit b) (In (b - 48)) Broken))
     go-zero true q k = omega (arith, eqb-true b 48 q)
     go-zero false q k = go-digit (digit b) refl k
+
     go : (c : Bool) → eqb b 32 ≡ c → told (scan (pick c Blank (pick (eqb b 48) Zero (pick (digit b) (In (b - 48)) Broken))) s) ≡ Value n
         → 0 * 10 + b % 16 ≡ sofar (pick c Blank (pick (eqb b 48) Zero (pick (digit b) (In (b - 48)) Broken)))
     go true q k = omega (arith, eqb-true b 32 q)

@@ -3,12 +3,13 @@
 use mathlib.Core.Path.{_≡_, refl, sym, _∙_}
 use mathlib.Core.List.{List, []}
 use mathlib.Core.Bool.{Bool, true, false}
-use Prim.Native.Nat.{ℕ, _+_, _^_, _≤_, _<_}
+use Prim.Native.Nat.{ℕ, _+_, _*_, _^_, _≤_, _<_}
 use native.Mathlib.Omega.{arith}
 use lib.Dec.{eqb}
 use lib.ListN.{length, getD, take, drop}
 use borrow.Author.Tests.{lt-ltb}
 use Rattle.columns.specs.Column.{pick}
+use Rattle.columns.specs.Weight.{weigh, weigh-read}
 use Rattle.sheet.specs.Format.{textBytes}
 use Rattle.sheet.specs.Line.{Line, named, row, bad, cell, value, decode, letter, number, isBad}
 use Rattle.sheet.specs.Sheet.{count, lineAt, line, row2, textOf, nameText}
@@ -84,6 +85,10 @@ module _ (w : ℕ) (b : List ℕ) (good : row2 w b ≡ count w b) where
   pub value-good : (i k : ℕ) → i < count w b → k < 5 → (getD (lineAt w b i) 0 0 ≡ 78 → k ≡ 0) → value (cell w (lineAt w b i) k) ≡ number (line w b i) k
   unfolding line
   value-good i k h q o = rw (number-decode w (lineAt w b i) k (line-good i h) q o)
+
+  pub weight-good : (i k : ℕ) → i < count w b → k < 5 → (getD (lineAt w b i) 0 0 ≡ 78 → k ≡ 0) → weigh 0 (take w (drop (1 + k * w) (lineAt w b i))) ≡ number (line w b i) k
+  unfolding line cell
+  weight-good i k h q o = weigh-read (take w (drop (1 + k * w) (lineAt w b i))) (number (line w b i) k) (number-decode w (lineAt w b i) k (line-good i h) q o)
 
   pub letter-good : (i : ℕ) → i < count w b → getD (lineAt w b i) 0 0 ≡ letter (line w b i)
   unfolding line

@@ -118,15 +118,6 @@ pub fn letter_of(s: &[u8], i: usize) -> u8
     bytes[0]
 }
 
-fn value_of(n: Number) -> u32
-    ensures { λ r. ⌜ r ≡ line.value n ⌝ }
-{
-    match n {
-        Number::Value(v) => v,
-        Number::Bad => 0,
-    }
-}
-
 // Number k of line i of a sheet that row 2 passed, 0 where the line has none.
 pub fn value(s: &[u8], i: usize, k: usize) -> u32
     requires { ⌜ sheet.row2 6 (now s) ≡ sheet.count 6 (now s) ⌝ }
@@ -144,7 +135,7 @@ pub fn value(s: &[u8], i: usize, k: usize) -> u32
             return 0;
         }
     }
-    value_of(lines::cell(l, k))
+    lines::weight(l, k)
 }
 
 // The length of name n's spelling in its line.

@@ -6,7 +6,7 @@ use lib.ListN.{getD}
 use Rattle.sheet.specs.Sheet.{line, lineAt}
 use Rattle.sheet.specs.LineLaws.{number-named, number-over}
 use Rattle.sheet.specs.SheetLaws.{line-past}
-use Rattle.reader.specs.AccessLaws.{value-good}
+use Rattle.reader.specs.AccessLaws.{weight-good}
 use borrow.Author.Needs.{needs}
 use Rattle.reader.proofs.value.Statement.{statement}
 use Rattle.reader.proofs.value.Tie as tie
@@ -27,13 +27,12 @@ returns-3 c =
 
 returns-4 : tie.Need-returns-4
 returns-4 c =
-    let a = c .before .before .before .before .before .before .before in
+    let a = c .before .before .before .before .before .before in
     let s = a .args .s .now in
-    let l = c .before .before .before .line-bytes in
+    let l = c .before .before .line-bytes in
     let o : getD (lineAt 6 s (a .args .i)) 0 0 ≡ 78 → a .args .k ≡ 0 =
-    λ e. ⊎-elim (λ w. absurd (w .2 .left (rw (l .ensures .0) e))) (λ w. omega arith) (c .before .before .if3 .came) in
-    rw (c .value-of .ensures, c .before .cell .ensures, l .ensures .0)
-    (value-good 6 s (a .pre) (a .args .i) (a .args .k) (omega arith) (omega arith) o)
+    λ e. ⊎-elim (λ w. absurd (w .2 .left (rw (l .ensures .0) e))) (λ w. omega arith) (c .before .if3 .came) in
+    rw (c .weight .ensures, l .ensures .0) (weight-good 6 s (a .pre) (a .args .i) (a .args .k) (omega arith) (omega arith) o)
 
 pub value-spec : {M : Type 1} → statement M
 value-spec =
@@ -44,6 +43,5 @@ value-spec =
     (λ c κs. search needs)
     (λ c. search needs)
     returns-3
-    (λ c κs. search needs)
     (λ c κs. search needs)
     returns-4)
