@@ -80,14 +80,14 @@ pub fn read_number(s: &[u8]) -> Number
 
 // The number in columns that are known to hold one, by its digits alone: a space counts as 0.
 pub fn weigh_number(s: &[u8]) -> u32
-    requires { ⌜ length (now s) ≤ 9 ⌝ }
+    requires { ⌜ length (now s) < 10 ⌝ }
     ensures { λ r. ⌜ r ≡ weigh 0 (now (s .entry)) ⌝ }
 {
     let mut v: u32 = 0;
-    let mut i = 0;
-    while i < s.len() {
-        v = v * 10 + (s[i] % 16) as u32;
-        i += 1;
+    let mut k = 0;
+    while k < s.len() {
+        v = v * 10 + (s[k] % 16) as u32;
+        k += 1;
     }
     v
 }

@@ -13,10 +13,10 @@ use Rattle.columns.proofs.weigh_number.Statement.{statement}
 use Rattle.columns.proofs.weigh_number.Tie as tie
 
 abbrev Inv-loop : tie.InvT-loop
-Inv-loop s v₀ i₀ v i = (i ≤ length s) × (v ≡ weigh 0 (take i s)) × (v + 2 ≤ 2 * 10 ^ i)
+Inv-loop s v₀ k₀ v k = (k ≤ length s) × (v ≡ weigh 0 (take k s)) × (v + 2 ≤ 2 * 10 ^ k)
 
 abbrev μ-loop : tie.MeasureT-loop
-μ-loop s v₀ i₀ v i = length s - i
+μ-loop s v₀ k₀ v k = length s - k
 
 loop-holds : tie.Need-loop-holds Inv-loop μ-loop
 unfolding weigh
@@ -26,8 +26,8 @@ loop-holds c = (omega arith, refl, omega arith)
 small : (c : tie.In-loop Inv-loop μ-loop) → c .before .loop .v < 200000000
 small c =
     let l = c .before .loop in
-    let h : l .i ≤ 8 = omega (arith, c .loop-test .taken, c .before .before .pre) in
-    omega (arith, l .inv .2, pow-le-pow-right {n = 10} (omega arith) h)
+    let h : l .k ≤ 8 = omega (arith, c .loop-test .taken, c .before .before .pre) in
+    omega (arith, l .knv .2, pow-le-pow-right {n = 10} (omega arith) h)
 
 mul-v : tie.Need-mul-v Inv-loop μ-loop
 mul-v c = omega (arith, small c)
@@ -39,13 +39,13 @@ loop-again : tie.Need-loop-again Inv-loop μ-loop
 loop-again c =
     let l = c .before .before .loop in
     let s = c .before .before .before .args .s .now in
-    (omega arith, rw (weigh-more s (l .i) (omega arith), l .inv .1), rw add-one (omega (arith, l .inv .2)))
+    (omega arith, rw (weigh-more s (l .k) (omega arith), l .knv .1), rw add-one (omega (arith, l .knv .2)))
 
 returns : tie.Need-returns Inv-loop μ-loop
 returns c =
     let s = c .before .before .args .s .now in
-    let e : c .before .loop .i ≡ length s = omega arith in
-    c .before .loop .inv .1 ∙ rw (e, take-length)
+    let e : c .before .loop .k ≡ length s = omega arith in
+    c .before .loop .knv .1 ∙ rw (e, take-length)
 
 pub weigh-number-spec : {M : Type 1} → statement M
 weigh-number-spec =
