@@ -55,6 +55,7 @@ use Rattle.custard.specs.Laws.Cty.{every-mem}
 use Rattle.custard.specs.Laws.Run.{lay, layout-of-decl, left-at, info-at, getD-infos}
 use Rattle.custard.specs.Laws.Locality.{OwnImports, marks-local, layouts-local, info-local, left-local, fault-local, returns-local}
 use Rattle.custard.specs.Laws.Fuel.{fuel-more}
+use Rattle.custard.specs.Laws.Rename.{Injective, rename-decls, SameRenamed, locality-renamed}
 use Rattle.custard.specs.Laws.Answer.{Passes, sheets, passes-build, build-passes, accepted-passes, passes-answer, passes-accepted, Nothing, refused-nothing}
 use Rattle.custard.specs.Laws.Left.{Ample, base-ample, pass-no-return, pass-resolved, few-decls, left-sheet-names, verdict-sheet-length}
 use Rattle.custard.specs.Laws.Build.{Split, split-steps, split-nothing, prefix-verdict, pass-whole}
@@ -235,6 +236,12 @@ locality limit S ds ds' agree own own' n h d =
       same-fault = fault-local S ds ds' agree own limit n h d;
       same-loop = returns-local S ds ds' agree own own' n h d;
     }
+
+-- The same of two programs that number their names differently: ρ gives each name of the first its number
+-- in the second, and what the second gets is what the first gets, renamed.
+pub locality-by-names : (ρ : ℕ → ℕ) → Injective ρ → (limit : ℕ) (S : ℕ → Bool) (ds ds' : List Decl) → Agree S (rename-decls ρ ds) ds' → OwnImports ds → OwnImports ds'
+    → (n : ℕ) → S (ρ n) ≡ true → Declared ds n → SameRenamed ρ limit ds ds' n
+locality-by-names = locality-renamed
 
 -- ---- the cut
 -- CUT (demand 3). For every sheet b cut into its N, A and Y lines and a list of one or more units, each of

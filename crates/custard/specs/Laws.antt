@@ -9,6 +9,7 @@ pub mod Resolve
 pub mod Run
 pub mod Own
 pub mod Locality
+pub mod Rename
 pub mod Pinning
 pub mod Fuel
 pub mod Program

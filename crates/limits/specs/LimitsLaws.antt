@@ -1,0 +1,392 @@
+-- The counts of row 4 line by line, the limits that a sheet keeps where row 4 does not apply, and where declarations begin.
+-- Assumes nothing.
+use mathlib.Core.Path.{_≡_, refl, ap, sym, _∙_}
+use mathlib.Core.List.{List}
+use mathlib.Core.Logic.{_⊎_, inl, inr}
+use mathlib.Core.Bool.{Bool, true, false, _||_, not}
+use Prim.Native.Nat.{ℕ, zero, suc, _+_, _%_, _≤_, _<_}
+use native.Mathlib.Omega.{arith}
+use native.Mathlib.Numerals.{add-one}
+use lib.Dec.{eqb, leb, ltb}
+use lib.ListN.{length, getD, set, take, replicate, length-set, getD-replicate}
+use lib.Seq.{take-length, ext-getD, getD-set-same, getD-set-other}
+use borrow.Author.Tests.{lt-ltb, le-ltb, ltb-true, ltb-false, leb-true, leb-false, eqb-true, eqb-false}
+use Rattle.columns.specs.Column.{pick}
+use Rattle.sheet.specs.Format.{Format, base}
+use Rattle.sheet.specs.Line.{Line, letter}
+use Rattle.sheet.specs.Sheet.{first, count, line, lines, row1}
+use Rattle.sheet.specs.SheetLaws.{length-lines, getD-lines}
+use Rattle.sheet.specs.FirstLaws.{Place, first-place, first-le-at}
+use Rattle.custard.specs.Decl.{table}
+use Rattle.custard.specs.Program.{name-line, arg-line, type-line, param-line, ctor-line, field-line, is, is-head, select}
+use Rattle.custard.specs.Rows.{line-at, count-before, heads-before, params-after, row4}
+use Rattle.reader.specs.FirstLaws.{first-found, first-none, first-clear}
+use Rattle.order.specs.StepLaws.{
+  length-table,
+  getD-table,
+  count-before-step,
+  heads-before-step,
+  params-after-suc,
+  count-before-le,
+  heads-before-le,
+  params-after-le,
+  heads-before-mono,
+}
+use Rattle.limits.specs.declared.Tally.{Tally}
+use Rattle.limits.specs.Limits.{head-letter, none, tally-before, counted, past, Small, start, starts-of, counts-of, Kept}
+
+-- ---- letters
+-- a letter by the kind of its lines
+pub data Kind (x : ℕ) : Type 0 where
+  a-name : x ≡ 78 → Kind x
+  an-arg : x ≡ 65 → Kind x
+  a-type : x ≡ 89 → Kind x
+  a-local : x ≡ 68 → Kind x
+  an-import : x ≡ 73 → Kind x
+  a-param : x ≡ 80 → Kind x
+  a-ctor : x ≡ 67 → Kind x
+  a-field : x ≡ 70 → Kind x
+  another : eqb x 78 ≡ false → eqb x 65 ≡ false → eqb x 89 ≡ false → eqb x 68 ≡ false → eqb x 73 ≡ false → eqb x 80 ≡ false → eqb x 67 ≡ false → eqb x 70 ≡ false → Kind x
+
+pub kind : (x : ℕ) → Kind x
+kind x = go (eqb x 78) (eqb x 65) (eqb x 89) (eqb x 68) (eqb x 73) (eqb x 80) (eqb x 67) (eqb x 70) refl refl refl refl refl refl refl refl
+  where
+    go : (n a y d i p c f : Bool) → eqb x 78 ≡ n → eqb x 65 ≡ a → eqb x 89 ≡ y → eqb x 68 ≡ d → eqb x 73 ≡ i → eqb x 80 ≡ p → eqb x 67 ≡ c → eqb x 70 ≡ f → Kind x
+    go true a y d i p c f n' a' y' d' i' p' c' f' = a-name (eqb-true x 78 n')
+    go false true y d i p c f n' a' y' d' i' p' c' f' = an-arg (eqb-true x 65 a')
+    go false false true d i p c f n' a' y' d' i' p' c' f' = a-type (eqb-true x 89 y')
+    go false false false true i p c f n' a' y' d' i' p' c' f' = a-local (eqb-true x 68 d')
+    go false false false false true p c f n' a' y' d' i' p' c' f' = an-import (eqb-true x 73 i')
+    go false false false false false true c f n' a' y' d' i' p' c' f' = a-param (eqb-true x 80 p')
+    go false false false false false false true f n' a' y' d' i' p' c' f' = a-ctor (eqb-true x 67 c')
+    go false false false false false false false true n' a' y' d' i' p' c' f' = a-field (eqb-true x 70 f')
+    go false false false false false false false false n' a' y' d' i' p' c' f' = another n' a' y' d' i' p' c' f'
+
+-- ---- row 4, by the tally before a line and the line's letter
+pub tally-zero : (ls : List Line) → tally-before ls 0 ≡ none
+unfolding tally-before params-after select
+tally-zero ls = refl
+
+-- one line more, count by count
+abbrev added : Tally → ℕ → Tally
+added t x =
+    record {
+      names = pick (eqb x name-line) (t .names + 1) (t .names);
+      args = pick (eqb x arg-line) (t .args + 1) (t .args);
+      types = pick (eqb x type-line) (t .types + 1) (t .types);
+      decls = pick (head-letter x) (t .decls + 1) (t .decls);
+      params = pick (head-letter x) 0 (pick (eqb x param-line) (t .params + 1) (t .params));
+      ctors = pick (eqb x ctor-line) (t .ctors + 1) (t .ctors);
+      fields = pick (eqb x field-line) (t .fields + 1) (t .fields);
+    }
+
+added-counted : (t : Tally) (x : ℕ) → Kind x → added t x ≡ counted t x
+unfolding counted
+added-counted t x (a-name e) = rw e
+added-counted t x (an-arg e) = rw e
+added-counted t x (a-type e) = rw e
+added-counted t x (a-local e) = rw e
+added-counted t x (an-import e) = rw e
+added-counted t x (a-param e) = rw e
+added-counted t x (a-ctor e) = rw e
+added-counted t x (a-field e) = rw e
+added-counted t x (another n a y d i p c f) = rw (n, a, y, d, i, p, c, f)
+
+pub tally-suc : (ls : List Line) (i : ℕ) → i < length ls → tally-before ls (suc i) ≡ counted (tally-before ls i) (letter (line-at ls i))
+unfolding tally-before
+tally-suc ls i h =
+    rw (
+      count-before-step ls i h name-line,
+      count-before-step ls i h arg-line,
+      count-before-step ls i h type-line,
+      heads-before-step ls i h,
+      params-after-suc ls i h 0,
+      count-before-step ls i h ctor-line,
+      count-before-step ls i h field-line,
+      ← add-one (params-after 0 (take i ls)),
+    )
+    (added-counted (tally-before ls i) (letter (line-at ls i)) (kind (letter (line-at ls i))))
+
+pub row4-past : (f : Format) (ls : List Line) (i : ℕ) → row4 f ls i ≡ past f (tally-before ls i) (letter (line-at ls i))
+unfolding row4 past tally-before
+row4-past f ls i = refl
+
+-- what a D or I line adds, and its limit
+pub counted-head : (t : Tally) (x : ℕ) → (x ≡ 68) ⊎ (x ≡ 73) →
+    counted t x ≡ record { names = t .names; args = t .args; types = t .types; decls = t .decls + 1; params = 0; ctors = t .ctors; fields = t .fields }
+unfolding counted
+counted-head t x (inl e) = rw e
+counted-head t x (inr e) = rw e
+
+pub past-head : (f : Format) (t : Tally) (x : ℕ) → (x ≡ 68) ⊎ (x ≡ 73) → past f t x ≡ leb (f .decls) (t .decls)
+unfolding past
+past-head f t x (inl e) = rw e
+past-head f t x (inr e) = rw e
+
+-- no count is over the number of lines passed
+pub tally-small : (ls : List Line) (i : ℕ) → i ≤ length ls → i < 1152921504606846976 → Small (tally-before ls i)
+unfolding tally-before
+tally-small ls i h l =
+    record {
+      names = omega (arith, count-before-le ls name-line i h);
+      args = omega (arith, count-before-le ls arg-line i h);
+      types = omega (arith, count-before-le ls type-line i h);
+      decls = omega (arith, heads-before-le ls i h);
+      params = omega (arith, params-after-le ls i h);
+      ctors = omega (arith, count-before-le ls ctor-line i h);
+      fields = omega (arith, count-before-le ls field-line i h);
+    }
+
+-- ---- limits that are kept where row 4 does not apply
+-- a count, with what one line adds, stays within a limit that the line is not past
+step-kept : (n m : ℕ) (b c : Bool) → (b ≡ true → c ≡ leb m n) → c ≡ false → n ≤ m → pick b (n + 1) n ≤ m
+step-kept n m true c h e l = omega (arith, leb-false m n (sym (h refl) ∙ e))
+step-kept n m false c h e l = l
+
+pub head-cases : (x : ℕ) → head-letter x ≡ true → (x ≡ 68) ⊎ (x ≡ 73)
+head-cases x h = go (eqb x 68) refl h
+  where
+    go : (b : Bool) → eqb x 68 ≡ b → (b || eqb x 73) ≡ true → (x ≡ 68) ⊎ (x ≡ 73)
+    go true e k = inl (eqb-true x 68 e)
+    go false e k = inr (eqb-true x 73 k)
+
+pub cases-head : (x : ℕ) → (x ≡ 68) ⊎ (x ≡ 73) → head-letter x ≡ true
+cases-head x (inl e) = rw e
+cases-head x (inr e) = rw e
+
+module _ (f : Format) (ls : List Line) (none-past : first (row4 f ls) (length ls) ≡ length ls) where
+  -- lines of one letter, whose limit is m
+  one-kept : (x m : ℕ) → ((i : ℕ) → letter (line-at ls i) ≡ x → row4 f ls i ≡ leb m (count-before x ls i))
+      → (i : ℕ) → i ≤ length ls → count-before x ls i ≤ m
+  unfolding select
+  one-kept x m g zero h = omega arith
+  one-kept x m g (suc i) h =
+      rw (count-before-step ls i h x)
+      (step-kept (count-before x ls i) m (is x (line-at ls i)) (row4 f ls i) (λ e. g i (eqb-true (letter (line-at ls i)) x e)) (first-clear (row4 f ls) (length ls) none-past i h) (one-kept x m g i (omega arith)))
+
+  pub names-kept : (i : ℕ) → i ≤ length ls → count-before name-line ls i ≤ f .names
+  unfolding row4
+  names-kept = one-kept name-line (f .names) (λ i e. rw e)
+
+  pub args-kept : (i : ℕ) → i ≤ length ls → count-before arg-line ls i ≤ f .args
+  unfolding row4
+  args-kept = one-kept arg-line (f .args) (λ i e. rw e)
+
+  pub types-kept : (i : ℕ) → i ≤ length ls → count-before type-line ls i ≤ f .types
+  unfolding row4
+  types-kept = one-kept type-line (f .types) (λ i e. rw e)
+
+  pub ctors-kept : (i : ℕ) → i ≤ length ls → count-before ctor-line ls i ≤ f .ctors
+  unfolding row4
+  ctors-kept = one-kept ctor-line (f .ctors) (λ i e. rw e)
+
+  pub fields-kept : (i : ℕ) → i ≤ length ls → count-before field-line ls i ≤ f .fields
+  unfolding row4
+  fields-kept = one-kept field-line (f .fields) (λ i e. rw e)
+
+  head-limit : (i : ℕ) → (letter (line-at ls i) ≡ 68) ⊎ (letter (line-at ls i) ≡ 73) → row4 f ls i ≡ leb (f .decls) (heads-before ls i)
+  unfolding row4
+  head-limit i (inl e) = rw e
+  head-limit i (inr e) = rw e
+
+  pub decls-kept : (i : ℕ) → i ≤ length ls → heads-before ls i ≤ f .decls
+  unfolding select
+  decls-kept zero h = omega arith
+  decls-kept (suc i) h =
+      rw (heads-before-step ls i h)
+      (step-kept (heads-before ls i) (f .decls) (is-head (line-at ls i)) (row4 f ls i) (λ e. head-limit i (head-cases (letter (line-at ls i)) e)) (first-clear (row4 f ls) (length ls) none-past i h) (decls-kept i (omega arith)))
+
+  -- a declaration that begins at line i is one of those that a sheet may have
+  pub head-kept : (i : ℕ) → i < length ls → is-head (line-at ls i) ≡ true → heads-before ls i < f .decls
+  head-kept i h e = omega (arith, decls-kept (suc i) h, rw e at (heads-before-step ls i h))
+
+  -- what the sheet declares
+  pub counts-kept : Kept f (counts-of ls)
+  unfolding counts-of
+  counts-kept =
+      let w : take (length ls) ls ≡ ls = take-length ls in
+      let r : length ls ≤ length ls = omega arith in
+      record {
+        names = rw w at (names-kept (length ls) r);
+        args = rw w at (args-kept (length ls) r);
+        types = rw w at (types-kept (length ls) r);
+        decls = rw w at (decls-kept (length ls) r);
+      }
+
+-- ---- where declarations begin
+module _ (ls : List Line) where
+  pub start-at : (i : ℕ) → i < length ls → is-head (line-at ls i) ≡ true → start ls (heads-before ls i) ≡ i
+  unfolding start
+  start-at i h e =
+      let n : heads-before ls (suc i) ≡ heads-before ls i + 1 = rw e at (heads-before-step ls i h) in
+      first-found (λ j. ltb (heads-before ls i) (heads-before ls (suc j))) (length ls) i h
+      (first-none (λ j. ltb (heads-before ls i) (heads-before ls (suc j))) i (λ j l. le-ltb (heads-before ls i) (heads-before ls (suc j)) (heads-before-mono ls (suc j) i l (omega arith))))
+      (lt-ltb (heads-before ls i) (heads-before ls (suc i)) (omega arith))
+
+  pub start-past : (k : ℕ) → heads-before ls (length ls) ≤ k → start ls k ≡ length ls
+  unfolding start
+  start-past k h =
+      first-none (λ j. ltb k (heads-before ls (suc j))) (length ls)
+      (λ j l. le-ltb k (heads-before ls (suc j)) (omega (arith, heads-before-mono ls (suc j) (length ls) l (omega arith))))
+
+  pub starts-at : (k : ℕ) → k < 97 → getD (starts-of ls) k 0 ≡ start ls k
+  unfolding starts-of
+  starts-at k h = getD-table (start ls) 97 k 0 h
+
+  -- up to the start of declaration k, and no further back, there are more than k D and I lines
+  start-place : (k : ℕ) → Place (λ i. ltb k (heads-before ls (suc i))) (length ls) (start ls k)
+  unfolding start
+  start-place k = first-place (λ i. ltb k (heads-before ls (suc i))) (length ls)
+
+  pub start-within : (k : ℕ) → k < heads-before ls (length ls) → start ls k < length ls
+  unfolding start select
+  start-within k h = go (length ls) refl h
+    where
+      go : (n : ℕ) → length ls ≡ n → k < heads-before ls n → start ls k < length ls
+      go zero e m = absurd (omega arith)
+      go (suc n) e m =
+          let l : n < length ls = omega arith in
+          omega (arith, first-le-at (λ i. ltb k (heads-before ls (suc i))) (length ls) n l (lt-ltb k (heads-before ls (suc n)) m))
+
+  start-least : (k f : ℕ) → f ≡ start ls k → heads-before ls f ≤ k
+  unfolding select
+  start-least k zero e = omega arith
+  start-least k (suc f) e = ltb-false k (heads-before ls (suc f)) (start-place k .before f (omega arith))
+
+  start-split : (k : ℕ) → k < heads-before ls (length ls) → (is-head (line-at ls (start ls k)) ≡ true) × (heads-before ls (start ls k) ≡ k)
+  start-split k h = go (is-head (line-at ls (start ls k))) refl
+    where
+      l : start ls k < length ls
+      l = start-within k h
+
+      go : (c : Bool) → is-head (line-at ls (start ls k)) ≡ c → (is-head (line-at ls (start ls k)) ≡ true) × (heads-before ls (start ls k) ≡ k)
+      go true e =
+          (e, omega (arith, start-least k (start ls k) refl, rw e at (heads-before-step ls (start ls k) l), ltb-true k (heads-before ls (suc (start ls k))) (start-place k .holds l)))
+      go false e =
+          absurd (omega (arith, start-least k (start ls k) refl, rw e at (heads-before-step ls (start ls k) l), ltb-true k (heads-before ls (suc (start ls k))) (start-place k .holds l)))
+
+  -- declaration k begins at a D or I line, before which there are k
+  pub start-head : (k : ℕ) → k < heads-before ls (length ls) → is-head (line-at ls (start ls k)) ≡ true
+  start-head k h = start-split k h .0
+
+  pub start-counts : (k : ℕ) → k < heads-before ls (length ls) → heads-before ls (start ls k) ≡ k
+  start-counts k h = start-split k h .1
+
+  -- and before the next one
+  pub start-rises : (k : ℕ) → k < heads-before ls (length ls) → start ls k < start ls (suc k)
+  start-rises k h = go (ltb (suc k) (heads-before ls (length ls))) refl (leb (start ls (suc k)) (start ls k)) refl
+    where
+      l : start ls k < length ls
+      l = start-within k h
+
+      go : (c : Bool) → ltb (suc k) (heads-before ls (length ls)) ≡ c → (d : Bool) → leb (start ls (suc k)) (start ls k) ≡ d → start ls k < start ls (suc k)
+      go true e true q =
+          absurd (omega (arith, start-counts k h, start-counts (suc k) (ltb-true (suc k) (heads-before ls (length ls)) e), heads-before-mono ls (start ls (suc k)) (start ls k) (leb-true (start ls (suc k)) (start ls k) q) (omega (arith, l))))
+      go true e false q = leb-false (start ls (suc k)) (start ls k) q
+      go false e d q = omega (arith, l, start-past (suc k) (ltb-false (suc k) (heads-before ls (length ls)) e))
+
+ltb-other : (k m n : ℕ) → n ≡ m + 1 → (k ≡ m → ⊥) → ltb k m ≡ ltb k n
+ltb-other k m n e d = go (ltb k m) refl
+  where
+    go : (b : Bool) → ltb k m ≡ b → ltb k m ≡ ltb k n
+    go true q = q ∙ sym (lt-ltb k n (omega (arith, ltb-true k m q)))
+    go false q = q ∙ sym (le-ltb k n (omega (arith, ltb-false k m q)))
+
+-- The places found in the lines before line i: those of the declarations that begin there, and the count of lines for others.
+pub record Found (ls : List Line) (i : ℕ) (places : List ℕ) : Type 0 where
+  pub sized : length places ≡ 97
+  pub held : (k : ℕ) → k < 97 → getD places k 0 ≡ pick (ltb k (heads-before ls i)) (start ls k) (length ls)
+
+module _ (ls : List Line) where
+  pub found-none : Found ls 0 (replicate 97 (length ls))
+  unfolding select
+  found-none = record { sized = refl; held = λ k h. getD-replicate 97 k (length ls) 0 h ∙ rw (le-ltb k 0 (omega arith)) }
+
+  pub found-head : (i : ℕ) (places : List ℕ) → i < length ls → is-head (line-at ls i) ≡ true → heads-before ls i < 97
+      → Found ls i places → Found ls (suc i) (set places (heads-before ls i) i)
+  found-head i places h e m g =
+      record { sized = length-set places (heads-before ls i) i ∙ g .sized; held = λ k l. go k l (eqb k (heads-before ls i)) refl }
+    where
+      go : (k : ℕ) → k < 97 → (b : Bool) → eqb k (heads-before ls i) ≡ b
+          → getD (set places (heads-before ls i) i) k 0 ≡ pick (ltb k (heads-before ls (suc i))) (start ls k) (length ls)
+      go k l true q =
+          let s : k ≡ heads-before ls i = eqb-true k (heads-before ls i) q in
+          let n : heads-before ls (suc i) ≡ heads-before ls i + 1 = rw e at (heads-before-step ls i h) in
+          rw (s, lt-ltb (heads-before ls i) (heads-before ls (suc i)) (omega arith), start-at ls i h e)
+          (getD-set-same places (heads-before ls i) i 0 (omega (arith, g .sized)))
+      go k l false q =
+          let n : heads-before ls (suc i) ≡ heads-before ls i + 1 = rw e at (heads-before-step ls i h) in
+          getD-set-other places (heads-before ls i) k i 0 (eqb-false k (heads-before ls i) q) ∙ g .held k l ∙ ap (λ (b : Bool). pick b (start ls k) (length ls)) (ltb-other k (heads-before ls i) (heads-before ls (suc i)) n (eqb-false k (heads-before ls i) q))
+
+  pub found-other : (i : ℕ) (places : List ℕ) → i < length ls → is-head (line-at ls i) ≡ false → Found ls i places → Found ls (suc i) places
+  found-other i places h e g = record { sized = g .sized; held = λ k l. g .held k l ∙ rw (heads-before-step ls i h, e) }
+
+  pub found-all : (places : List ℕ) → Found ls (length ls) places → places ≡ starts-of ls
+  unfolding starts-of
+  found-all places g =
+      ext-getD 0 places (table (start ls) 97) (g .sized ∙ sym (length-table (start ls) 97))
+      (λ k l. let m : k < 97 = omega (arith, g .sized) in g .held k m ∙ go k (ltb k (heads-before ls (length ls))) refl ∙ sym (getD-table (start ls) 97 k 0 m))
+    where
+      go : (k : ℕ) (b : Bool) → ltb k (heads-before ls (length ls)) ≡ b → pick (ltb k (heads-before ls (length ls))) (start ls k) (length ls) ≡ start ls k
+      go k true q = rw q
+      go k false q = rw q (sym (start-past ls k (ltb-false k (heads-before ls (length ls)) q)))
+
+-- ---- lengths
+pub short-bytes : (b : List ℕ) → row1 base b ≡ false → length b ≤ 65536
+unfolding row1
+short-bytes b e = go (ltb 65536 (length b)) refl e
+  where
+    go : (c : Bool) → ltb 65536 (length b) ≡ c → (c || not (eqb (length b % 32) 0)) ≡ false → length b ≤ 65536
+    go true q k = let z : _≡_ {A = ℕ} 0 1 = cc in absurd (omega arith)
+    go false q k = ltb-false 65536 (length b) q
+
+-- ---- for a loop over the lines of a sheet, with the tally t before line i and the letter x of that line
+module _ (w : ℕ) (b : List ℕ) (t : Tally) (x i : ℕ) (e : x ≡ letter (line w b i)) (q : t ≡ tally-before (lines w b) i) where
+  pub tally-next : i < count w b → counted t x ≡ tally-before (lines w b) (suc i)
+  tally-next h =
+      let m : i < length (lines w b) = omega (arith, length-lines w b) in
+      rw (q, e, tally-suc (lines w b) i m, getD-lines w b i)
+
+  pub row4-next : (f : Format) → row4 f (lines w b) i ≡ past f t x
+  row4-next f = rw (q, e, row4-past f (lines w b) i, getD-lines w b i)
+
+  pub small-next : i < count w b → i < 1152921504606846976 → Small t
+  small-next h l = rw q (tally-small (lines w b) i (omega (arith, length-lines w b)) l)
+
+-- ---- for a loop over the lines of a sheet, with the number k of declarations and the places found before line i, and after it
+module _ (w : ℕ) (b : List ℕ) where
+  pub found-begin : Found (lines w b) 0 (replicate 97 (count w b))
+  found-begin = rw (length-lines w b) at (found-none (lines w b))
+
+  pub found-end : (i : ℕ) (places : List ℕ) → i ≡ count w b → Found (lines w b) i places → places ≡ starts-of (lines w b)
+  found-end i places e g = let m : i ≡ length (lines w b) = omega (arith, length-lines w b) in found-all (lines w b) places (rw m at g)
+
+  module _ (x i : ℕ) (e : x ≡ letter (line w b i)) (h : i < count w b) where
+    inside : i < length (lines w b)
+    inside = omega (arith, length-lines w b)
+
+    same-head : (c : Bool) → head-letter x ≡ c → is-head (line-at (lines w b) i) ≡ c
+    same-head c g = rw (getD-lines w b i, ← e) g
+
+    -- a limit on declarations
+    pub decl-kept : (f : Format) → first (row4 f (lines w b)) (count w b) ≡ count w b → head-letter x ≡ true → heads-before (lines w b) i < f .decls
+    decl-kept f g t = head-kept f (lines w b) (rw (length-lines w b) g) i inside (same-head true t)
+
+    module _ (k k' : ℕ) (places places' : List ℕ) (q : k ≡ heads-before (lines w b) i) (g : Found (lines w b) i places) where
+      pub heads-head : head-letter x ≡ true → k' ≡ k + 1 → k' ≡ heads-before (lines w b) (suc i)
+      heads-head t r = r ∙ rw (heads-before-step (lines w b) i inside, same-head true t, q)
+
+      pub heads-other : head-letter x ≡ false → k' ≡ k → k' ≡ heads-before (lines w b) (suc i)
+      heads-other t r = r ∙ rw (heads-before-step (lines w b) i inside, same-head false t, q)
+
+      pub found-head-next : head-letter x ≡ true → k < 97 → places' ≡ set places k i → Found (lines w b) (suc i) places'
+      found-head-next t m r = rw (r, q) (found-head (lines w b) i places inside (same-head true t) (rw (← q) m) g)
+
+      pub found-other-next : head-letter x ≡ false → places' ≡ places → Found (lines w b) (suc i) places'
+      found-other-next t r = rw r (found-other (lines w b) i places inside (same-head false t) g)
+
+  -- what the tally after the last line and the places say
+  pub counts-whole : (let t : Tally = tally-before (lines w b) (count w b) in
+      record { names = t .names; args = t .args; types = t .types; decls = t .decls; starts = starts-of (lines w b) }) ≡ counts-of (lines w b)
+  unfolding tally-before counts-of
+  counts-whole = rw (← length-lines w b, take-length (lines w b))

@@ -1,0 +1,72 @@
+// Rows 1 to 7 of document 01's table, in the order in which they are tested, of any bytes.
+use custard::Refusal;
+use limits::Counts;
+ghost use mathlib.Core.Path.{_≡_};
+ghost use Rattle.refusals.specs.Rows.{refused-as, checked-of};
+
+// A line's bytes.
+const LINE: usize = 32;
+
+// The first of the rows that applies; and where none does what the sheet declares, else zeros.
+pub struct Checked {
+    pub refusal: Refusal,
+    pub counts: Counts,
+}
+
+fn refused(code: u32, place: usize) -> Checked
+    ensures { λ r. ⌜ r ≡ refused-as code place ⌝ }
+{
+    let counts = Counts {
+        names: 0,
+        args: 0,
+        types: 0,
+        decls: 0,
+        starts: [0u16; 97],
+    };
+    Checked {
+        refusal: Refusal::Refused { code, place },
+        counts,
+    }
+}
+
+// Tests rows 1 to 7.
+pub fn check_rows(s: &[u8]) -> Checked
+    ensures { λ r. ⌜ r ≡ checked-of (now (s .entry)) ⌝ }
+{
+    if reader::row1(s) {
+        return refused(1, 0);
+    }
+    let n = s.len() / LINE;
+    let bad = reader::row2(s);
+    if bad < n {
+        return refused(2, bad);
+    }
+    let misplaced = order::row3(s);
+    if misplaced <= n {
+        return refused(3, misplaced);
+    }
+    let past = limits::row4(s);
+    if past < n {
+        return refused(4, past);
+    }
+    let counts = limits::counts_of(s);
+    let names = counts.names;
+    let args = counts.args;
+    let types = counts.types;
+    let outside = ranges::row5(s, names, args, types);
+    if outside < n {
+        return refused(5, outside);
+    }
+    let repeated = distinct::row6(s, names);
+    if repeated < n {
+        return refused(6, repeated);
+    }
+    let wrong = verdicts::row7(s);
+    if wrong < n {
+        return refused(7, wrong);
+    }
+    Checked {
+        refusal: Refusal::Accepted,
+        counts,
+    }
+}

@@ -1,0 +1,28 @@
+-- The part of row 6 that is about spellings. Assumes nothing.
+use mathlib.Core.Path.{_≡_}
+use mathlib.Core.List.{List}
+use mathlib.Core.Bool.{Bool, false, _&&_}
+use Prim.Native.Nat.{ℕ, suc}
+use Rattle.sheet.specs.Format.{base}
+use Rattle.sheet.specs.Line.{Line, text}
+use Rattle.sheet.specs.Sheet.{first, count, lines, row1, row2, nameText}
+use Rattle.custard.specs.Program.{name-line, is}
+use Rattle.custard.specs.Rows.{some-below, line-at, raws, row3, row4, row5, equal}
+
+-- the bytes passed rows 1 to 5
+pub record Ranged (b : List ℕ) : Type 0 where
+  pub short : row1 base b ≡ false
+  pub no-bad : row2 6 b ≡ count 6 b
+  pub in-order : first (row3 (raws 6 b)) (suc (count 6 b)) ≡ suc (count 6 b)
+  pub in-limits : first (row4 base (lines 6 b)) (count 6 b) ≡ count 6 b
+  pub in-range : first (row5 (lines 6 b)) (count 6 b) ≡ count 6 b
+
+-- ---- spellings
+-- an N line has the spelling of an earlier one
+unfoldable pub respelled : List Line → ℕ → Bool
+respelled ls i =
+    some-below (λ j. is name-line (line-at ls j) && is name-line (line-at ls i) && equal (text (line-at ls j)) (text (line-at ls i))) i
+
+-- a name has the spelling of an earlier one
+unfoldable pub spelled-before : ℕ → List ℕ → ℕ → Bool
+spelled-before w b i = some-below (λ j. equal (nameText w b j) (nameText w b i)) i
