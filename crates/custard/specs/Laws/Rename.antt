@@ -11,6 +11,7 @@ use lib.Dec.{eqb, leb, ltb}
 use lib.ListN.{length, getD, length-map, List·getD-map}
 use borrow.Author.Tests.{eqb-true, eq-eqb}
 use Rattle.columns.specs.Column.{pick}
+use Rattle.sheet.specs.ListLaws.{same-test}
 use Rattle.custard.specs.Cty.{
   Cty,
   Ctys,
@@ -180,10 +181,12 @@ use Rattle.custard.specs.Run.{
   decl-fault,
 }
 use Rattle.custard.specs.Names.{fields-names, ctors-names, body-names, dtype-names, Declared, Agree}
-use Rattle.custard.specs.Laws.Layout.{same-test, table-cong, candidate-at, candidates-of, layout-at}
-use Rattle.custard.specs.Laws.Own.{cls-names, layout-names, Among}
+use Rattle.custard.specs.Laws.Layout.{candidate-at, candidates-of, layout-at}
+use Rattle.custard.specs.Laws.Own.{cls-names, layout-names}
 use Rattle.custard.specs.Laws.Locality.{OwnImports, marks-local, layouts-local, left-local, fault-local, info-local, returns-local}
 use Rattle.custard.specs.Laws.Run.{lay, layout-of-decl, left-at, info-at, run-program, run-infos}
+use Rattle.custard.specs.Laws.Lists.{getD-map, table-cong}
+use Rattle.custard.specs.Laws.Names.{Among}
 
 -- ---- lists
 -- two ways round through two maps
@@ -196,12 +199,6 @@ pub getD-read : {A B C : Type 0} (f : A → B) (p : A → C) (q : B → C) → (
 getD-read f p q e a b z [] i = z
 getD-read f p q e a b z (x ∷ xs) zero = e x
 getD-read f p q e a b z (x ∷ xs) (suc i) = getD-read f p q e a b z xs i
-
--- an entry of a mapped list, before its end
-pub getD-mapped : {A B : Type 0} (f : A → B) (a : A) (b : B) (xs : List A) (i : ℕ) → i < length xs → getD (map f xs) i b ≡ f (getD xs i a)
-getD-mapped f a b [] i h = absurd (omega arith)
-getD-mapped f a b (x ∷ xs) zero h = refl
-getD-mapped f a b (x ∷ xs) (suc i) h = getD-mapped f a b xs i (omega arith)
 
 pub table-map : {A B : Type 0} (g : A → B) (f : ℕ → A) (n : ℕ) → table (λ i. g (f i)) n ≡ map g (table f n)
 unfolding table
@@ -506,10 +503,10 @@ module _ (ρ : ℕ → ℕ) where
 
   -- the entries of a renamed program
   pub dtype-rename : (ds : List Decl) (i : ℕ) → i < length ds → dtype-at (rename-decls ρ ds) i ≡ rename-dtype ρ (dtype-at ds i)
-  dtype-rename ds i h = ap (λ (d : Decl). d .dtype) (getD-mapped (rename-decl ρ) no-decl no-decl ds i h)
+  dtype-rename ds i h = ap (λ (d : Decl). d .dtype) (getD-map (rename-decl ρ) ds i no-decl no-decl h)
 
   pub origin-rename : (ds : List Decl) (i : ℕ) → i < length ds → origin-at (rename-decls ρ ds) i ≡ rename-origin ρ (origin-at ds i)
-  origin-rename ds i h = ap (λ (d : Decl). d .origin) (getD-mapped (rename-decl ρ) no-decl no-decl ds i h)
+  origin-rename ds i h = ap (λ (d : Decl). d .origin) (getD-map (rename-decl ρ) ds i no-decl no-decl h)
 
 -- ---- names that are compared
 module _ (ρ : ℕ → ℕ) (inj : Injective ρ) where
