@@ -27,7 +27,7 @@ small : (c : tie.In-loop Inv-loop μ-loop) → c .before .loop .v < 200000000
 small c =
     let l = c .before .loop in
     let h : l .k ≤ 8 = omega (arith, c .loop-test .taken, c .before .before .pre) in
-    omega (arith, l .knv .2, pow-le-pow-right {n = 10} (omega arith) h)
+    omega (arith, l .inv .2, pow-le-pow-right {n = 10} (omega arith) h)
 
 mul-v : tie.Need-mul-v Inv-loop μ-loop
 mul-v c = omega (arith, small c)
@@ -39,13 +39,13 @@ loop-again : tie.Need-loop-again Inv-loop μ-loop
 loop-again c =
     let l = c .before .before .loop in
     let s = c .before .before .before .args .s .now in
-    (omega arith, rw (weigh-more s (l .k) (omega arith), l .knv .1), rw add-one (omega (arith, l .knv .2)))
+    (omega arith, rw (weigh-more s (l .k) (omega arith), l .inv .1), rw add-one (omega (arith, l .inv .2)))
 
 returns : tie.Need-returns Inv-loop μ-loop
 returns c =
     let s = c .before .before .args .s .now in
     let e : c .before .loop .k ≡ length s = omega arith in
-    c .before .loop .knv .1 ∙ rw (e, take-length)
+    c .before .loop .inv .1 ∙ rw (e, take-length)
 
 pub weigh-number-spec : {M : Type 1} → statement M
 weigh-number-spec =
