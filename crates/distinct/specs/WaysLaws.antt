@@ -2,7 +2,7 @@
 use mathlib.Core.Path.{_≡_, refl, ap, sym, _∙_}
 use mathlib.Core.List.{List}
 use mathlib.Core.Logic.{_⊎_, inl, inr}
-use mathlib.Core.Bool.{Bool, true, false, _&&_, _||_, not}
+use mathlib.Core.Bool.{Bool, true, false, _&&_, _||_, and-assoc, and-false}
 use Prim.Native.Nat.{ℕ, zero, suc, _+_, _≤_, _<_, min}
 use native.Mathlib.Omega.{arith}
 use lib.Dec.{eqb, eqb·zero-suc, eqb·suc-suc}
@@ -15,6 +15,7 @@ use Rattle.sheet.specs.Line.{Line, letter, number, text}
 use Rattle.sheet.specs.Sheet.{first, count, line, lines}
 use Rattle.sheet.specs.SheetLaws.{length-lines, getD-lines}
 use Rattle.sheet.specs.FirstLaws.{first-congr}
+use Rattle.sheet.specs.ListLaws.{both}
 use Rattle.custard.specs.Program.{name-line, param-line, ctor-line, field-line, is, is-head, select}
 use Rattle.custard.specs.Rows.{
   some-below,
@@ -41,9 +42,6 @@ use Rattle.spellings.specs.SomeLaws.{some-zero, some-suc, some-congr, some-none
 use Rattle.distinct.specs.declared.Way.{Way}
 use Rattle.distinct.specs.declared.Way.the-variants.{Declared, Parameters, Fields, Constructors}
 use Rattle.distinct.specs.Ways.{alike, repeated, takes, begins, group, stamp}
-
-contrary : {A : Type 0} (b : Bool) → b ≡ true → b ≡ false → A
-contrary b t f = let z : _≡_ {A = ℕ} 0 1 = cc in absurd (omega arith)
 
 -- ---- the ways
 spread : (a e h p f c : Bool) → a || (e && (h || p || f || c)) ≡ a || ((e && h) || ((e && p) || ((e && f) || (e && c))))
@@ -89,14 +87,6 @@ first-row6 ls n =
     ∙ ap (min (first (repeated Parameters ls) n)) (first-or (repeated Fields ls) (repeated Constructors ls) n)))
 
 -- ---- the last group of each name
-and-assoc : (a b c : Bool) → a && (b && c) ≡ (a && b) && c
-and-assoc true b c = refl
-and-assoc false b c = refl
-
-and-false : (a : Bool) → a && false ≡ false
-and-false true = refl
-and-false false = refl
-
 module _ (p : ℕ → Bool) (x g : ℕ → ℕ) where
   -- a line before line i has the name v and is of the group m
   abbrev seen : ℕ → ℕ → ℕ → Bool
@@ -115,8 +105,8 @@ module _ (p : ℕ → Bool) (x g : ℕ → ℕ) where
 
       go : (c : Bool) → (p i && eqb (x i) v) ≡ c → eqb (stamp p x g i v) (suc m) ≡ some-below (seen v m) i
           → eqb (pick c (suc (g i)) (stamp p x g i v)) (suc m) ≡ some-below (seen v m) i || seen v m i
-      go true e ih = rw (and-assoc (p i) (eqb (x i) v) (eqb (g i) m), e) (eqb·suc-suc (g i) m ∙ later (eqb (g i) m) refl)
-      go false e ih = rw (and-assoc (p i) (eqb (x i) v) (eqb (g i) m), e) (ih ∙ sym (or-false (some-below (seen v m) i)))
+      go true e ih = rw (← (and-assoc (p i) (eqb (x i) v) (eqb (g i) m)), e) (eqb·suc-suc (g i) m ∙ later (eqb (g i) m) refl)
+      go false e ih = rw (← (and-assoc (p i) (eqb (x i) v) (eqb (g i) m)), e) (ih ∙ sym (or-false (some-below (seen v m) i)))
 
 -- ---- groups
 -- a group's number, from line to line
@@ -157,10 +147,6 @@ and-pair true true = refl
 and-pair true false = refl
 and-pair false b = refl
 
-and-three : (a b c : Bool) → (a && b && c) ≡ a && (b && c)
-and-three true b c = refl
-and-three false b c = refl
-
 eqb-sum : (a b c d : ℕ) → a ≤ c → b ≤ d → eqb a c && eqb b d ≡ eqb (a + b) (c + d)
 eqb-sum a b c d h k = go (eqb a c) refl (eqb b d) refl
   where
@@ -172,9 +158,9 @@ eqb-sum a b c d h k = go (eqb a c) refl (eqb b d) refl
 alike-group : (way : Way) (ls : List Line) (j i : ℕ) → j < i → i ≤ length ls
     → alike way ls j i ≡ takes way (line-at ls j) && (takes way (line-at ls i) && eqb (group way ls j) (group way ls i))
 alike-group Declared ls j i h l = and-pair (is-head (line-at ls j)) (is-head (line-at ls i))
-alike-group Parameters ls j i h l = and-three (is param-line (line-at ls j)) (is param-line (line-at ls i)) (same-decl ls j i)
+alike-group Parameters ls j i h l = and-assoc (is param-line (line-at ls j)) (is param-line (line-at ls i)) (same-decl ls j i)
 alike-group Fields ls j i h l =
-    and-three (is field-line (line-at ls j)) (is field-line (line-at ls i)) (same-ctor ls j i)
+    and-assoc (is field-line (line-at ls j)) (is field-line (line-at ls i)) (same-ctor ls j i)
     ∙ ap (λ (b : Bool). is field-line (line-at ls j) && (is field-line (line-at ls i) && b))
     (eqb-sum (heads-before ls j) (count-before ctor-line ls j) (heads-before ls i) (count-before ctor-line ls i) (heads-before-mono ls j i (omega arith) l) (count-before-mono ls ctor-line j i (omega arith) l))
 alike-group Constructors ls j i h l = and-pair (is-ctor (line-at ls j)) (is-ctor (line-at ls i))
@@ -258,10 +244,6 @@ module _ (way : Way) (ls : List Line) where
         plus false n = refl
 
 -- ---- names below the count of names
-first-true : (a b : Bool) → a && b ≡ true → a ≡ true
-first-true true b e = refl
-first-true false b e = e
-
 -- a D or I line of a record type
 pub ctor-head : (l : Line) (x : ℕ) → letter l ≡ x → (x ≡ 68) ⊎ (x ≡ 73) → is-ctor l ≡ eqb (number l 2) 2
 ctor-head l x r (inl e) = rw (r, e)
@@ -272,25 +254,25 @@ ctor-cases l e = go (is ctor-line l) refl e
   where
     go : (c : Bool) → is ctor-line l ≡ c → (c || (is-head l && eqb (number l 2) 2)) ≡ true → (letter l ≡ 67) ⊎ (is-head l ≡ true)
     go true q k = inl (eqb-true (letter l) 67 q)
-    go false q k = inr (first-true (is-head l) (eqb (number l 2) 2) k)
+    go false q k = inr (both (is-head l) (eqb (number l 2) 2) k .0)
 
 module _ (ls : List Line) (i : ℕ) (g : good-numbers ls i ≡ true) where
   head-below : (letter (line-at ls i) ≡ 68) ⊎ (letter (line-at ls i) ≡ 73) → number (line-at ls i) 0 < count-of name-line ls
   unfolding good-numbers good-head
-  head-below (inl e) = ltb-true (number (line-at ls i) 0) (count-of name-line ls) (first-true _ _ (first-true _ _ (rw e at g)))
-  head-below (inr e) = ltb-true (number (line-at ls i) 0) (count-of name-line ls) (first-true _ _ (first-true _ _ (rw e at g)))
+  head-below (inl e) = ltb-true (number (line-at ls i) 0) (count-of name-line ls) (both _ _ (both _ _ (rw e at g) .0) .0)
+  head-below (inr e) = ltb-true (number (line-at ls i) 0) (count-of name-line ls) (both _ _ (both _ _ (rw e at g) .0) .0)
 
   ctor-below : (letter (line-at ls i) ≡ 67) ⊎ (is-head (line-at ls i) ≡ true) → number (line-at ls i) 0 < count-of name-line ls
   unfolding good-numbers
-  ctor-below (inl e) = ltb-true (number (line-at ls i) 0) (count-of name-line ls) (first-true _ _ (rw e at g))
+  ctor-below (inl e) = ltb-true (number (line-at ls i) 0) (count-of name-line ls) (both _ _ (rw e at g) .0)
   ctor-below (inr e) = head-below (head-cases (letter (line-at ls i)) e)
 
   pub named-below : (way : Way) → takes way (line-at ls i) ≡ true → number (line-at ls i) 0 < count-of name-line ls
   unfolding good-numbers
   named-below Declared e = head-below (head-cases (letter (line-at ls i)) e)
-  named-below Parameters e = ltb-true (number (line-at ls i) 0) (count-of name-line ls) (first-true _ _ (rw (eqb-true (letter (line-at ls i)) 80 e) at g))
+  named-below Parameters e = ltb-true (number (line-at ls i) 0) (count-of name-line ls) (both _ _ (rw (eqb-true (letter (line-at ls i)) 80 e) at g) .0)
   named-below Fields e =
-      ltb-true (number (line-at ls i) 0) (count-of name-line ls) (first-true _ _ (first-true _ _ (rw (eqb-true (letter (line-at ls i)) 70 e) at g)))
+      ltb-true (number (line-at ls i) 0) (count-of name-line ls) (both _ _ (both _ _ (rw (eqb-true (letter (line-at ls i)) 70 e) at g) .0) .0)
   named-below Constructors e = ctor-below (ctor-cases (line-at ls i) e)
 
 -- ---- for a loop over the lines of a sheet that passed rows 1 to 5

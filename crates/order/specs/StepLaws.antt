@@ -1,17 +1,16 @@
 -- What the definitions of rows 3 to 7 count over the lines before line i, from line i to line i + 1. Assumes nothing.
-use mathlib.Core.Path.{_≡_, refl, ap, _∙_}
+use mathlib.Core.Path.{_≡_, refl, _∙_}
 use mathlib.Core.List.{List, [], _∷_, _++_}
 use mathlib.Core.Bool.{Bool, true, false, _&&_, _||_, not}
 use Prim.Native.Nat.{ℕ, zero, suc, _+_, _≤_, _<_}
 use native.Mathlib.Omega.{arith}
 use lib.Dec.{eqb, leb}
-use lib.ListN.{length, getD, take, length-append}
+use lib.ListN.{length, take, length-append}
 use lib.Seq.{take-suc}
 use borrow.Author.Tests.{eqb-true, leb-true, leb-false}
 use Rattle.columns.specs.Column.{pick}
 use Rattle.sheet.specs.Line.{Line, bad, letter, number}
 use Rattle.custard.specs.declared.Due.{Due}
-use Rattle.custard.specs.Decl.{table}
 use Rattle.custard.specs.Program.{local-line, import-line, param-line, field-line, is, is-head, select}
 use Rattle.custard.specs.Rows.{
   line-at,
@@ -24,30 +23,10 @@ use Rattle.custard.specs.Rows.{
   last-head,
   kept-after,
 }
-
--- ---- tables
-pub length-table : {A : Type 0} (f : ℕ → A) (n : ℕ) → length (table f n) ≡ n
-unfolding table
-length-table f zero = refl
-length-table f (suc n) = ap suc (length-table (λ i. f (suc i)) n)
-
-pub getD-table : {A : Type 0} (f : ℕ → A) (n i : ℕ) (d : A) → i < n → getD (table f n) i d ≡ f i
-unfolding table
-getD-table f zero i d h = absurd (omega arith)
-getD-table f (suc n) zero d h = refl
-getD-table f (suc n) (suc i) d h = getD-table (λ i. f (suc i)) n i d (omega arith)
+use Rattle.custard.specs.Laws.Program.{select-append}
+use Rattle.custard.specs.Laws.Rows.{due-after-append, last-head-append, kept-after-append}
 
 -- ---- how many lines of a letter
-select-append : (x : ℕ) (ls ms : List Line) → select x (ls ++ ms) ≡ select x ls ++ select x ms
-unfolding select
-select-append x [] ms = refl
-select-append x (l ∷ ls) ms = go (is x l) (select-append x ls ms)
-  where
-    go : (c : Bool) → select x (ls ++ ms) ≡ select x ls ++ select x ms
-        → pick c (l ∷ select x (ls ++ ms)) (select x (ls ++ ms)) ≡ pick c (l ∷ select x ls) (select x ls) ++ select x ms
-    go true e = ap (λ (s : List Line). l ∷ s) e
-    go false e = e
-
 one : (x : ℕ) (l : Line) → count-of x (l ∷ []) ≡ pick (is x l) 1 0
 unfolding select
 one x l = go (is x l)
@@ -57,26 +36,10 @@ one x l = go (is x l)
     go false = refl
 
 -- ---- what is known after the lines of two lists
-due-after-append : (q : Due) (ls ms : List Line) → due-after q (ls ++ ms) ≡ due-after (due-after q ls) ms
-unfolding due-after
-due-after-append q [] ms = refl
-due-after-append q (l ∷ ls) ms = due-after-append (due q l) ls ms
-
 params-after-append : (n : ℕ) (ls ms : List Line) → params-after n (ls ++ ms) ≡ params-after (params-after n ls) ms
 unfolding params-after
 params-after-append n [] ms = refl
 params-after-append n (l ∷ ls) ms = params-after-append (pick (is-head l) 0 (pick (is param-line l) (suc n) n)) ls ms
-
-last-head-append : (h : Line) (ls ms : List Line) → last-head h (ls ++ ms) ≡ last-head (last-head h ls) ms
-unfolding last-head
-last-head-append h [] ms = refl
-last-head-append h (l ∷ ls) ms = last-head-append (pick (is-head l) l h) ls ms
-
-kept-after-append : (n : ℕ) (ls ms : List Line) → kept-after n (ls ++ ms) ≡ kept-after (kept-after n ls) ms
-unfolding kept-after
-kept-after-append n [] ms = refl
-kept-after-append n (l ∷ ls) ms =
-    kept-after-append (pick (is-head l) 0 (pick (is field-line l && not (eqb (number l 2) 0)) (suc n) n)) ls ms
 
 -- ---- one line more
 plus : (n : ℕ) (b : Bool) → n + pick b 1 0 ≡ pick b (n + 1) n

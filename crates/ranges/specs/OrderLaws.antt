@@ -13,12 +13,14 @@ use Rattle.columns.specs.Column.{pick, _⇒_∥_}
 use Rattle.sheet.specs.Line.{Line, bad, letter, number}
 use Rattle.sheet.specs.Sheet.{first, count, line, linesFrom, lines, row2}
 use Rattle.sheet.specs.FirstLaws.{none-first}
+use Rattle.sheet.specs.ListLaws.{false-true}
 use Rattle.custard.specs.declared.Due.{Due}
 use Rattle.custard.specs.declared.Due.the-variants.{Header, Within, Broken}
 use Rattle.custard.specs.Decl.{table}
 use Rattle.custard.specs.Program.{name-line, arg-line, type-line, param-line, field-line, ctor-line, verdict-line, is, select}
 use Rattle.custard.specs.Rows.{count-of, count-before, raw, raws, announced, due-header, due, due-after, is-broken, row3}
 use Rattle.reader.specs.AccessLaws.{letter-good}
+use Rattle.custard.specs.Laws.Lists.{length-table}
 
 -- ---- order
 -- a letter's place in a sheet: N, A, Y, and then declarations
@@ -35,9 +37,6 @@ ordered-weak q p [] h o = tt
 ordered-weak q p (x ∷ xs) h o = (omega (arith, o .0), o .1)
 
 -- ---- row 3
-false-true : {A : Type 0} → false ≡ true → A
-false-true e = let z : _≡_ {A = ℕ} 0 1 = cc in absurd (omega arith)
-
 -- the least place of what may come next
 least : Due → ℕ
 least (Header place) = min place 3
@@ -127,11 +126,6 @@ letters-table w b f i (suc n) h =
 pub letters-raws : (w : ℕ) (b : List ℕ) → row2 w b ≡ count w b → map letter (raws w b) ≡ map letter (lines w b)
 unfolding raws lines raw
 letters-raws w b good = letters-table w b (raw w b) 0 (count w b) (λ k l. let e : 0 + k ≡ k = omega arith in rw e (letter-good w b good k l))
-
-length-table : {A : Type 0} (f : ℕ → A) (n : ℕ) → length (table f n) ≡ n
-unfolding table
-length-table f zero = refl
-length-table f (suc n) = ap suc (length-table (λ k. f (suc k)) n)
 
 -- a list of lines that row 3 passed
 ordered-row3 : (ls : List Line) (n : ℕ) → length ls ≡ n → first (row3 ls) (suc n) ≡ suc n → Ordered 0 (map letter ls)

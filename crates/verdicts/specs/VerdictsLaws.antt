@@ -17,6 +17,7 @@ use Rattle.sheet.specs.SheetLaws.{length-lines, getD-lines, line-past}
 use Rattle.custard.specs.Program.{import-line, field-line, verdict-line, is, is-head}
 use Rattle.custard.specs.Rows.{last-head, kept-after, good-verdicts, row7}
 use Rattle.verdicts.specs.Verdicts.{has-ctors, good-line, kept-at}
+use Rattle.custard.specs.Laws.Rows.{last-head-append, kept-after-append}
 
 -- ---- body kinds
 pub ctors-within : (k : ℕ) → 2 ≤ k → k < 4 → has-ctors k ≡ true
@@ -33,13 +34,11 @@ ctors-outside k e f = rw (ne-eqb k 2 e, ne-eqb k 3 f)
 -- ---- one line more
 last-head-snoc : (h : Line) (ls : List Line) (l : Line) → last-head h (ls ++ (l ∷ [])) ≡ pick (is-head l) l (last-head h ls)
 unfolding last-head
-last-head-snoc h [] l = refl
-last-head-snoc h (k ∷ ls) l = last-head-snoc (pick (is-head k) k h) ls l
+last-head-snoc h ls l = last-head-append h ls (l ∷ [])
 
 kept-after-snoc : (n : ℕ) (ls : List Line) (l : Line) → kept-after n (ls ++ (l ∷ [])) ≡ kept-at (kept-after n ls) l
 unfolding kept-after
-kept-after-snoc n [] l = refl
-kept-after-snoc n (k ∷ ls) l = kept-after-snoc (kept-at n k) ls l
+kept-after-snoc n ls l = kept-after-append n ls (l ∷ [])
 
 pub kept-at-le : (n : ℕ) (l : Line) → kept-at n l ≤ suc n
 kept-at-le n l = go (is-head l) (is field-line l && not (eqb (number l 2) 0))

@@ -269,11 +269,11 @@ header-within (Header n) h = refl
 header-within (Within p f c) h = false-true h
 header-within Broken h = refl
 
-row3-inside : (ls : List Line) (i : ℕ) → i < length ls → row3 ls i ≡ is-broken (due-after (Header 0) (take (suc i) ls))
+pub row3-inside : (ls : List Line) (i : ℕ) → i < length ls → row3 ls i ≡ is-broken (due-after (Header 0) (take (suc i) ls))
 unfolding row3
 row3-inside ls i h = rw (lt-ltb i (length ls) h, row3)
 
-row3-past : (ls : List Line) (i : ℕ) → length ls ≤ i → row3 ls i ≡ is-within (due-after (Header 0) ls)
+pub row3-past : (ls : List Line) (i : ℕ) → length ls ≤ i → row3 ls i ≡ is-within (due-after (Header 0) ls)
 unfolding row3
 row3-past ls i h = rw (le-ltb i (length ls) h, row3)
 
@@ -1311,7 +1311,7 @@ unfolding last-head
 last-head-append h [] b = refl
 last-head-append h (l ∷ a) b = last-head-append (next-head h l) a b
 
-kept-after-append : (n : ℕ) (a b : List Line) → kept-after n (a ++ b) ≡ kept-after (kept-after n a) b
+pub kept-after-append : (n : ℕ) (a b : List Line) → kept-after n (a ++ b) ≡ kept-after (kept-after n a) b
 unfolding kept-after
 kept-after-append n [] b = refl
 kept-after-append n (l ∷ a) b = kept-after-append (next-kept n l) a b
@@ -1423,11 +1423,11 @@ due-take-same (suc n) (x ∷ xs) (y ∷ ys) e h q =
     ap (λ (d : Due). due-after d (take n xs)) (h 0 (omega arith) q)
     ∙ due-take-same n xs ys (omega arith) (λ i k. h (suc i) (omega arith)) (due q y)
 
-length-raws : (w : ℕ) (b : List ℕ) → length (raws w b) ≡ count w b
+pub length-raws : (w : ℕ) (b : List ℕ) → length (raws w b) ≡ count w b
 unfolding raws
 length-raws w b = length-table (raw w b) (count w b)
 
-line-raws : (w : ℕ) (b : List ℕ) (i : ℕ) → i < count w b → line-at (raws w b) i ≡ raw w b i
+pub line-raws : (w : ℕ) (b : List ℕ) (i : ℕ) → i < count w b → line-at (raws w b) i ≡ raw w b i
 unfolding raws
 line-raws w b i h = getD-table (raw w b) (count w b) i bad h
 
