@@ -2,10 +2,11 @@
 use mathlib.Core.Path.{_≡_}
 use mathlib.Core.List.{List}
 use mathlib.Core.Bool.{Bool, false, _&&_}
-use Prim.Native.Nat.{ℕ, suc}
-use Rattle.sheet.specs.Format.{base}
+use Prim.Native.Nat.{ℕ, suc, _+_}
+use lib.ListN.{take, drop}
+use Rattle.sheet.specs.Format.{base, textBytes}
 use Rattle.sheet.specs.Line.{Line, text}
-use Rattle.sheet.specs.Sheet.{first, count, lines, row1, row2, nameText}
+use Rattle.sheet.specs.Sheet.{first, count, lineAt, lines, row1, row2}
 use Rattle.custard.specs.Program.{name-line, is}
 use Rattle.custard.specs.Rows.{some-below, line-at, raws, row3, row4, row5, equal}
 
@@ -23,6 +24,10 @@ unfoldable pub respelled : List Line → ℕ → Bool
 respelled ls i =
     some-below (λ j. is name-line (line-at ls j) && is name-line (line-at ls i) && equal (text (line-at ls j)) (text (line-at ls i))) i
 
--- a name has the spelling of an earlier one
+-- the part of line i where an N line has its text and the spaces after it
+unfoldable pub textAt : ℕ → List ℕ → ℕ → List ℕ
+textAt w b i = take (textBytes w) (drop (1 + w) (lineAt w b i))
+
+-- an earlier line has the same bytes there
 unfoldable pub spelled-before : ℕ → List ℕ → ℕ → Bool
-spelled-before w b i = some-below (λ j. equal (nameText w b j) (nameText w b i)) i
+spelled-before w b i = some-below (λ j. equal (textAt w b j) (textAt w b i)) i

@@ -1,13 +1,16 @@
 // Row 6, the names' spellings: of a sheet that passed rows 1 to 5.
+use lines::LINE;
+use lines::TEXT;
 ghost use mathlib.Core.Path.{_≡_};
+ghost use Prim.Native.Nat.{_<_};
 ghost use Rattle.sheet.specs.Sheet as sheet;
 ghost use Rattle.custard.specs.Program.{name-line};
 ghost use Rattle.custard.specs.Rows as rows;
-ghost use Rattle.spellings.specs.Spellings.{Ranged, spelled-before};
+ghost use Rattle.spellings.specs.Spellings.{Ranged, textAt, spelled-before};
 ghost use Rattle.spellings.specs.Spellings as spellings;
 
-// A line's bytes.
-const LINE: usize = 32;
+// The bytes of a name's text with the spaces after it.
+const TEXT_BYTES: usize = 24;
 
 fn same(a: &[u8], b: &[u8]) -> bool
     ensures { λ r. ⌜ r ≡ rows.equal (now (a .entry)) (now (b .entry)) ⌝ }
@@ -25,14 +28,25 @@ fn same(a: &[u8], b: &[u8]) -> bool
     true
 }
 
-// A name before name i has its spelling.
+// The part of line i where an N line has its text and the spaces after it. Row 2 checked it, so nothing is checked here.
+fn text(s: &[u8], i: usize) -> &[u8]
+    requires { ⌜ i < sheet.count 6 (now s) ⌝ }
+    ensures { λ r. ⌜ now r ≡ textAt 6 (now (s .entry)) i ⌝ }
+{
+    let at = i * LINE + TEXT;
+    let end = at + TEXT_BYTES;
+    &s[at..end]
+}
+
+// A line before line i has its text.
 fn spelled_before(s: &[u8], i: usize) -> bool
+    requires { ⌜ i < sheet.count 6 (now s) ⌝ }
     ensures { λ r. ⌜ r ≡ spelled-before 6 (now (s .entry)) i ⌝ }
 {
-    let own = reader::name(s, i);
+    let own = text(s, i);
     let mut j = 0;
     while j < i {
-        if same(reader::name(s, j), own) {
+        if same(text(s, j), own) {
             return true;
         }
         j += 1;

@@ -27,6 +27,11 @@ loop-holds c = (omega arith, refl)
 named : (c : tie.In-loop Inv-loop μ-loop) → c .before .loop .i < count-of name-line (lines 6 (c .before .before .before .args .s .now))
 named c = omega (arith, c .before .before .before .pre .1)
 
+spelled-before-requires : tie.Need-spelled-before-requires Inv-loop μ-loop
+spelled-before-requires c κs =
+    let a = c .before .before .before in
+    name-counted (a .args .s .now) (a .pre .0) (c .before .loop .i) (named c)
+
 test : (c : tie.After-spelled-before Inv-loop μ-loop)
     → respelled (lines 6 (c .before .before .before .before .args .s .now)) (c .before .before .loop .i) ≡ c .spelled-before .result
 test c =
@@ -60,7 +65,7 @@ respelled-spec =
     Inv-loop
     μ-loop
     loop-holds
-    (λ c κs. search needs)
+    spelled-before-requires
     returns
     (λ c. search needs)
     (λ c. search needs)

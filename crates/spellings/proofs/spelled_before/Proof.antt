@@ -1,36 +1,36 @@
--- `spellings::spelled_before` meets its contract: no name passed has the spelling. Assumes nothing.
+-- `spellings::spelled_before` meets its contract: no line passed has the text. Assumes nothing.
 use mathlib.Core.Path.{_≡_, refl, sym, _∙_}
 use mathlib.Core.Bool.{Bool}
 use Prim.Native.Nat.{ℕ, _-_, _≤_}
 use native.Mathlib.Omega.{arith}
 use mathlib.Core.List.{List}
 use borrow.Author.Needs.{needs}
-use Rattle.sheet.specs.Sheet.{first, nameText}
+use Rattle.sheet.specs.Sheet.{first}
 use Rattle.custard.specs.Rows.{equal}
 use Rattle.reader.specs.FirstLaws.{first-more}
-use Rattle.spellings.specs.Spellings.{spelled-before}
+use Rattle.spellings.specs.Spellings.{textAt, spelled-before}
 use Rattle.spellings.specs.SomeLaws.{some-found, some-clear}
 use Rattle.spellings.proofs.spelled_before.Statement.{statement}
 use Rattle.spellings.proofs.spelled_before.Tie as tie
 
--- name j has the spelling of name i
+-- line j has the text of line i
 abbrev has : List ℕ → ℕ → ℕ → Bool
-has s i j = equal (nameText 6 s j) (nameText 6 s i)
+has s i j = equal (textAt 6 s j) (textAt 6 s i)
 
 abbrev Inv-loop : tie.InvT-loop
-Inv-loop s i own j₀ j = (j ≤ i) × (own ≡ nameText 6 s i) × (first (has s i) j ≡ j)
+Inv-loop s i own j₀ j = (j ≤ i) × (own ≡ textAt 6 s i) × (first (has s i) j ≡ j)
 
 abbrev μ-loop : tie.MeasureT-loop
 μ-loop s i own j₀ j = i - j
 
 loop-holds : tie.Need-loop-holds Inv-loop μ-loop
 unfolding first
-loop-holds c = (omega arith, c .name .ensures, refl)
+loop-holds c = (omega arith, c .text .ensures, refl)
 
 test : (c : tie.After-same Inv-loop μ-loop)
     → has (c .before .before .before .before .before .before .args .s .now) (c .before .before .before .before .before .before .args .i) (c .before .before .before .loop .j)
     ≡ c .same .result
-test c = sym (c .same .ensures ∙ rw (c .before .name2 .ensures, c .before .before .before .loop .inv .1))
+test c = sym (c .same .ensures ∙ rw (c .before .text2 .ensures, c .before .before .before .loop .inv .1))
 
 returns : tie.Need-returns Inv-loop μ-loop
 unfolding spelled-before
