@@ -85,7 +85,7 @@ equal-spaced [] (y ∷ u) m n g h l = spaces-text m y (u ++ replicate n 32) (h .
 equal-spaced (x ∷ t) [] m n g h l = text-spaces n x (t ++ replicate m 32) (g .0)
 equal-spaced (x ∷ t) (y ∷ u) m n g h l = rw (equal-spaced t u m n (g .2) (h .2) (omega arith))
 
--- padding texts tells no more of them and no fewer apart
+-- two texts are equal exactly if they are with the spaces after them
 pub equal-padded : (n : ℕ) (t u : List ℕ) → (length t ≤ n) × Graphic t → (length u ≤ n) × Graphic u → equal (padded n t) (padded n u) ≡ equal t u
 unfolding padded
 equal-padded n t u g h = equal-spaced t u (n - length t) (n - length u) (g .1) (h .1) (omega arith)

@@ -1,5 +1,5 @@
 -- `spellings::text` meets its contract: the part lent is where line i has its text. Assumes nothing.
-use mathlib.Core.Path.{_≡_, sym}
+use mathlib.Core.Path.{sym}
 use native.Mathlib.Nat.{add-sub-cancel-left, mul-comm}
 use borrow.Author.Needs.{needs}
 use Rattle.spellings.specs.SpellingsLaws.{textAt-part}
