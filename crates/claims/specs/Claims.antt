@@ -12,7 +12,7 @@ use mathlib.Core.Option.{Option, none, some}
 use Prim.Native.Nat.{ℕ, zero, suc, _≤_, _<_}
 use native.Mathlib.Omega.{arith}
 use lib.Dec.{T}
-use lib.ListN.{length, getD}
+use lib.ListN.{length, getD, drop, List·getD-append}
 use Rattle.columns.specs.Column.{pick}
 use Rattle.sheet.specs.Format.{Format, base}
 use Rattle.sheet.specs.Line.{Line, letter, number}
@@ -56,10 +56,10 @@ use Rattle.custard.specs.Laws.Run.{lay, layout-of-decl, left-at, info-at, getD-
 use Rattle.custard.specs.Laws.Locality.{OwnImports, marks-local, layouts-local, info-local, left-local, fault-local, returns-local}
 use Rattle.custard.specs.Laws.Fuel.{fuel-more}
 use Rattle.custard.specs.Laws.Rename.{Injective, rename-decls, SameRenamed, locality-renamed}
-use Rattle.custard.specs.Laws.Answer.{Passes, sheets, passes-build, build-passes, accepted-passes, passes-answer, passes-accepted, Nothing, refused-nothing}
+use Rattle.custard.specs.Laws.Answer.{Passes, sheets, passes-build, build-passes, accepted-passes, passes-answer, passes-accepted, Nothing, refused-nothing, after-length, after-past}
 use Rattle.custard.specs.Laws.Left.{Ample, base-ample, pass-no-return, pass-resolved, few-decls, left-sheet-names, verdict-sheet-length}
 use Rattle.custard.specs.Laws.Build.{Split, split-steps, split-nothing, prefix-verdict, pass-whole}
-use Rattle.custard.specs.Laws.Split.{cut-builds, cut-splits}
+use Rattle.custard.specs.Laws.Split.{joined-parts, cut-splits, cut-first, cut-builds}
 use Rattle.claims.specs.Unerased.{unerased}
 use Rattle.claims.specs.ClaimsLaws.{
   true-of,
@@ -71,7 +71,6 @@ use Rattle.claims.specs.ClaimsLaws.{
   import-info,
   map-ctors,
   at-least,
-  joined-parts,
   first-accepted,
 }
 
@@ -195,8 +194,8 @@ verdict-again f b v l pos x e =
     ∙ (ap (build f v l) (append-nil b) ∙ e))
 
 -- REFUSED. The refusal line shows 0 exactly where no row of document 01's table applies (the checklist's
--- fourth line). On every refusal both outputs keep their bytes; on acceptance the bytes past the written
--- length keep theirs (`after`).
+-- fourth line). On every refusal both outputs keep their bytes. On acceptance both sheets fit their outputs,
+-- and past a sheet its output keeps its bytes.
 pub refused : (f : Format) (b : List ℕ) (v l : ℕ) → Accepted f b v l ↔ Passes f b v l
 refused f b v l = (accepted-passes f b v l, passes-accepted f b v l)
 
@@ -213,6 +212,22 @@ unchanged f b v l h =
       verdict-output = λ old. ap (λ (x : List ℕ). after x old) (n .no-verdict);
       left-output = λ old. ap (λ (x : List ℕ). after x old) (n .no-left);
     }
+
+pub record Written (sheet old : List ℕ) : Type 0 where
+  pub same-length : length (after sheet old) ≡ length old
+  pub begins : (k : ℕ) → k < length sheet → getD (after sheet old) k 0 ≡ getD sheet k 0
+  pub past : (k : ℕ) → length sheet ≤ k → getD (after sheet old) k 0 ≡ getD old k 0
+
+pub written : (f : Format) (b : List ℕ) (v l : ℕ) → Ample f → Accepted f b v l → (old old' : List ℕ) → length old ≡ v → length old' ≡ l
+    → Written (answer f b v l .verdict) old × Written (answer f b v l .left) old'
+written f b v l ample a old old' e e' =
+    let p : Passes f b v l = accepted-passes f b v l a in (
+      fitted (answer f b v l .verdict) old (omega (arith, verdict-length f b v l ample a, p .pass11)),
+      fitted (answer f b v l .left) old' (omega (arith, ap length (answer-left f b v l a), p .pass12)),
+    )
+  where
+    fitted : (w o : List ℕ) → length w ≤ length o → Written w o
+    fitted w o h = record { same-length = after-length w o h; begins = List·getD-append w (drop (length w) o) 0; past = after-past w o }
 
 -- ---- locality
 -- LOCALITY. Two programs that agree on a set of names closed under what their declarations name, imports
@@ -255,15 +270,19 @@ pub cut : (f : Format) (v l : ℕ) (b header u : List ℕ) (us : List (List ℕ)
     → builds f v l header u us ≡ build f v l b
 cut = cut-builds
 
--- SAME FIELDS (the checklist's second line). In an accepted sheet that is cut so, the verdict sheet of the
--- first units is accepted and begins the whole's verdict sheet: every line of a type, its keeps among them,
--- is the same in every unit from the one that declares it.
-pub same-fields : (f : Format) (v l : ℕ) (b header : List ℕ) (xs ys : List (List ℕ)) → 0 < f .columns → Cut (f .columns) b header (xs ++ ys)
+-- SAME FIELDS (the checklist's second line). In an accepted sheet that is cut so, the first units build as
+-- well, and their verdict sheet begins the whole's: every line of a type, its keeps among them, is the same
+-- in every unit from the one that declares it.
+pub same-fields : (f : Format) (v l : ℕ) (b header u : List ℕ) (us ys : List (List ℕ)) → 0 < f .columns → Cut (f .columns) b header (u ∷ (us ++ ys))
     → (y : Sheets) → build f v l b ≡ some y
-    → (x : Sheets) × (build f v l (header ++ join xs) ≡ some x) × ((r : List ℕ) × (y .verdict ≡ x .verdict ++ r))
-same-fields f v l b header xs ys pos c y e =
+    → (x : Sheets) × (builds f v l header u us ≡ some x) × ((r : List ℕ) × (y .verdict ≡ x .verdict ++ r))
+same-fields f v l b header u us ys pos c y e =
+    let xs : List (List ℕ) = u ∷ us in
     let p : List ℕ = header ++ join xs in
     let q : List ℕ = join ys in
     let s : Split (f .columns) p q = cut-splits (f .columns) b header (xs ++ ys) c xs ys [] (ap (λ (t : List (List ℕ)). xs ++ t) (sym (append-nil ys))) in
-    let k : build f v l (p ++ q) ≡ some y = ap (build f v l) (sym (c .joined ∙ joined-parts header xs ys)) ∙ e in
-    (sheets f p, first-accepted f v l pos p q s y k, prefix-verdict f v l p q s y k)
+    let k : build f v l (p ++ q) ≡ some y = ap (build f v l) (sym (c .joined ∙ joined-parts header xs ys)) ∙ e in (
+      sheets f p,
+      cut f v l p header u us pos (cut-first (f .columns) b header xs ys c) ∙ first-accepted f v l pos p q s y k,
+      prefix-verdict f v l p q s y k,
+    )

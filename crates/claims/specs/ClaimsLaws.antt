@@ -1,6 +1,6 @@
 -- Steps from the laws of `custard` to the claims. Assumes nothing.
 use mathlib.Core.Path.{_≡_, refl, sym, _∙_, ap, ap₂, subst}
-use mathlib.Core.List.{List, [], _∷_, _++_, map, append-assoc, append-nil}
+use mathlib.Core.List.{List, [], _∷_, _++_, map}
 use mathlib.Core.Bool.{Bool, true, false, not}
 use mathlib.Core.Option.{Option, none, some}
 use Prim.Native.Nat.{ℕ, zero, suc, _≤_, _<_}
@@ -17,11 +17,10 @@ use Rattle.custard.specs.Layout.{slots, kept, ctor-layout, ctor-layouts}
 use Rattle.custard.specs.Run.{info, run}
 use Rattle.custard.specs.Program.{program}
 use Rattle.custard.specs.Answer.{Answer, verdict-sheet, left-sheet, answered, answer}
-use Rattle.custard.specs.Cut.{Sheets, build, join}
+use Rattle.custard.specs.Cut.{Sheets, build}
 use Rattle.custard.specs.Laws.Run.{info-at, left-at, layout-of-decl}
 use Rattle.custard.specs.Laws.Answer.{sheets, passes-build, build-passes, accepted-passes, passes-answer}
 use Rattle.custard.specs.Laws.Build.{Split, split-steps}
-use Rattle.custard.specs.Laws.Split.{join-append}
 use Rattle.claims.specs.Unerased.{unerased}
 
 pub true-of : (b : Bool) → T b → b ≡ true
@@ -85,9 +84,6 @@ at-least g x zero h f = absurd (omega arith)
 at-least g x (suc k) h f = f k (omega arith)
 
 -- ---- the cut
-pub joined-parts : (header : List ℕ) (xs ys : List (List ℕ)) → header ++ join (xs ++ ys) ≡ header ++ join xs ++ join ys
-joined-parts header xs ys = ap (λ (r : List ℕ). header ++ r) (join-append xs ys) ∙ sym (append-assoc header (join xs) (join ys))
-
 pub first-accepted : (f : Format) (v l : ℕ) → 0 < f .columns → (p q : List ℕ) → Split (f .columns) p q → (y : Sheets) → build f v l (p ++ q) ≡ some y → build f v l p ≡ some (sheets f p)
 first-accepted f v l pos p q s y e =
     let r = split-steps f v l pos .prefix-step p q y s e in

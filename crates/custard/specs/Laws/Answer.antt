@@ -1,13 +1,14 @@
 -- When a build is accepted, and with which sheets. Assumes nothing.
 use mathlib.Core.Logic.{_↔_}
-use mathlib.Core.Path.{_≡_, refl, sym, _∙_, ap}
+use mathlib.Core.Path.{_≡_, refl, sym, _∙_, ap, subst}
 use mathlib.Core.List.{List, [], _∷_}
 use mathlib.Core.Bool.{Bool, true, false, not}
 use mathlib.Core.Option.{Option, none, some}
-use Prim.Native.Nat.{ℕ, suc, _≤_, _<_}
+use Prim.Native.Nat.{ℕ, suc, _+_, _-_, _≤_, _<_}
 use native.Mathlib.Omega.{arith}
 use lib.Dec.{eqb, ltb}
-use lib.ListN.{length}
+use lib.ListN.{length, getD, drop, length-append, length-drop}
+use lib.Seq.{getD-append-add, getD-drop}
 use borrow.Author.Tests.{ltb-true, ltb-false, le-ltb, ne-eqb, eqb-false, not-true}
 use Rattle.columns.specs.Column.{pick}
 use Rattle.sheet.specs.Format.{Format}
@@ -33,6 +34,7 @@ use Rattle.custard.specs.Answer.{
   Answer,
   answered,
   answer,
+  after,
 }
 use Rattle.custard.specs.Cut.{Sheets, sheets-of, build}
 
@@ -279,3 +281,13 @@ refused-nothing f b v l h = go (refusal (rows f b v l)) h
     go : (r : Refusal) → (answered f b r .code ≡ 0 → ⊥) → Nothing (answered f b r)
     go Accepted k = absurd (k refl)
     go (Refused code place) k = record { no-rounds = refl; no-verdict = refl; no-left = refl }
+
+-- ---- an output after the call
+module _ (w old : List ℕ) where
+  pub after-length : length w ≤ length old → length (after w old) ≡ length old
+  after-length h = rw (length-append, length-drop) (omega arith)
+
+  pub after-past : (k : ℕ) → length w ≤ k → getD (after w old) k 0 ≡ getD old k 0
+  after-past k h =
+      let e : length w + (k - length w) ≡ k = omega arith in
+      subst (λ (j : ℕ). getD (after w old) j 0 ≡ getD old j 0) e (getD-append-add w (drop (length w) old) (k - length w) 0 ∙ getD-drop (length w) old (k - length w) 0)

@@ -8,6 +8,7 @@ use mathlib.Core.List.{
   _++_,
   map,
   append-assoc,
+  append-nil,
   List·Memᴰ,
   List·Memᴰ·head,
   List·Memᴰ·tail,
@@ -103,6 +104,9 @@ pub join-append : (xs ys : List (List ℕ)) → join (xs ++ ys) ≡ join xs ++ j
 unfolding join
 join-append [] ys = refl
 join-append (x ∷ xs) ys = ap (λ (r : List ℕ). x ++ r) (join-append xs ys) ∙ sym (append-assoc x (join xs) (join ys))
+
+pub joined-parts : (header : List ℕ) (xs ys : List (List ℕ)) → header ++ join (xs ++ ys) ≡ header ++ join xs ++ join ys
+joined-parts header xs ys = ap (λ (r : List ℕ). header ++ r) (join-append xs ys) ∙ sym (append-assoc header (join xs) (join ys))
 
 lines-nil : (w : ℕ) → lines w [] ≡ []
 unfolding lines linesFrom
@@ -376,6 +380,28 @@ module _ (w : ℕ) (b header : List ℕ) (units : List (List ℕ)) (cut : Cut w 
     starts = join-starts w ys (ys-units xs ys zs e);
     apart = split-apart xs ys zs e;
   }
+
+-- The first units of a cut are a cut of what they declare.
+pub cut-first : (w : ℕ) (b header : List ℕ) (xs ys : List (List ℕ)) → Cut w b header (xs ++ ys) → Cut w (header ++ join xs) header xs
+cut-first w b header xs ys c =
+    record {
+      joined = refl;
+      header-whole = c .header-whole;
+      header-only = c .header-only;
+      declarations = λ ks bs u e. c .declarations ks (bs ++ ys) u (further ks bs u e);
+      named = λ ks bs u e two five n m. ⊎-elim inl (λ no. inr (λ d. no (subst (λ (ls : List Line). Declared (program ls) n) (sym parts) (declared-left (lines w (header ++ join xs)) (lines w (join ys)) n d)))) (c .named ks (bs ++ ys) u (further ks bs u e) two five n m);
+    }
+  where
+    further : (ks bs : List (List ℕ)) (u : List ℕ) → xs ≡ ks ++ (u ∷ bs) → xs ++ ys ≡ ks ++ (u ∷ (bs ++ ys))
+    further ks bs u e = ap (λ (t : List (List ℕ)). t ++ ys) e ∙ append-assoc ks (u ∷ bs) ys
+
+    first-whole : Whole w (header ++ join xs)
+    first-whole = cut-splits w b header (xs ++ ys) c xs ys [] (ap (λ (t : List (List ℕ)). xs ++ t) (sym (append-nil ys))) .first-whole
+
+    parts : lines w b ≡ lines w (header ++ join xs) ++ lines w (join ys)
+    parts =
+        ap (lines w) (c .joined ∙ joined-parts header xs ys)
+        ∙ lines-cut w (header ++ join xs) (join ys) first-whole
 
 -- The cut, of any sheet: building the units in turn is building the whole.
 pub cut-builds : (f : Format) (v l : ℕ) (b header u : List ℕ) (us : List (List ℕ)) → 0 < f .columns → Cut (f .columns) b header (u ∷ us) → builds f v l header u us ≡ build f v l b
