@@ -1,21 +1,21 @@
 -- The number that columns hold, by its digits alone: of columns that hold a number, without a test.
 -- Assumes nothing.
-use mathlib.Core.Path.{_≡_, refl, sym, _∙_, ap}
-use mathlib.Core.List.{List, [], _∷_, _++_}
+use mathlib.Core.Path.{_≡_, refl, sym, _∙_, ap, subst}
+use mathlib.Core.List.{List, [], _∷_, _++_, append-assoc}
 use mathlib.Core.Bool.{Bool, true, false}
-use Prim.Native.Nat.{ℕ, zero, suc, _+_, _*_, _-_, _%_, _^_, _≤_, _<_}
+use Prim.Native.Nat.{ℕ, zero, suc, _+_, _*_, _-_, _/_, _%_, _^_, _≤_, _<_}
 use native.Mathlib.Omega.{arith}
 use native.Mathlib.Numerals.{add-one}
 use lib.Dec.{eqb}
 use lib.ListN.{length, take, getD}
-use lib.Seq.{take-suc}
+use lib.Seq.{take-suc, getD-append-seam, getD-append-add}
 use borrow.Author.Tests.{eqb-true, eqb-false}
 use Rattle.columns.specs.declared.Scan.{Scan}
 use Rattle.columns.specs.declared.Scan.the-variants.{Blank, Zero, In, Broken}
 use Rattle.columns.specs.declared.Number.{Number}
 use Rattle.columns.specs.declared.Number.the-variants.{Value, Bad}
-use Rattle.columns.specs.Column.{pick, digit, step, scan, told, read}
-use Rattle.columns.specs.ColumnLaws.{digit-true}
+use Rattle.columns.specs.Column.{pick, digit, step, scan, told, read, mark, shown, write}
+use Rattle.columns.specs.ColumnLaws.{digit-true, shown-length, write-read}
 
 -- v with the columns s behind it; a space counts as 0
 unfoldable pub weigh : ℕ → List ℕ → ℕ
@@ -71,6 +71,35 @@ weigh-scan (b ∷ s) a n e = ap (λ (x : ℕ). weigh x s) (weigh-step a b s n e)
 pub weigh-read : (s : List ℕ) (n : ℕ) → read s ≡ Value n → weigh 0 s ≡ n
 unfolding read
 weigh-read s n e = weigh-scan s Blank n e
+
+-- ---- for a number of one digit
+write-last-two : (w n : ℕ) → write (suc (suc w)) n ≡ shown w (n / 10 / 10) ++ (mark (n / 10) ∷ ((48 + n % 10) ∷ []))
+unfolding write shown
+write-last-two w n = append-assoc (shown w (n / 10 / 10)) (mark (n / 10) ∷ []) ((48 + n % 10) ∷ [])
+
+-- Columns that hold a number, with a space before the last, hold one digit.
+pub read-digit : (w : ℕ) (s : List ℕ) (n : ℕ) → length s ≡ suc (suc w) → read s ≡ Value n → getD s w 0 ≡ 32 → getD s (suc w) 0 % 16 ≡ n
+read-digit w s n len r h = go (eqb (n / 10) 0) refl
+  where
+    p : List ℕ
+    p = shown w (n / 10 / 10)
+
+    e : s ≡ p ++ (mark (n / 10) ∷ ((48 + n % 10) ∷ []))
+    e = write-read s n r .0 ∙ (ap (λ (k : ℕ). write k n) len ∙ write-last-two w n)
+
+    before : getD s w 0 ≡ mark (n / 10)
+    before = ap (λ (t : List ℕ). getD t w 0) e ∙ (subst (λ (k : ℕ). getD (p ++ (mark (n / 10) ∷ ((48 + n % 10) ∷ []))) k 0 ≡ mark (n / 10)) (shown-length w (n / 10 / 10)) (getD-append-seam p (mark (n / 10)) ((48 + n % 10) ∷ []) 0))
+
+    last : getD s (suc w) 0 ≡ 48 + n % 10
+    last =
+        ap (λ (t : List ℕ). getD t (suc w) 0) e
+        ∙ (subst (λ (k : ℕ). getD (p ++ (mark (n / 10) ∷ ((48 + n % 10) ∷ []))) k 0 ≡ 48 + n % 10) (ap (λ (k : ℕ). k + 1) (shown-length w (n / 10 / 10)) ∙ add-one w) (getD-append-add p (mark (n / 10) ∷ ((48 + n % 10) ∷ [])) 1 0))
+
+    go : (c : Bool) → eqb (n / 10) 0 ≡ c → getD s (suc w) 0 % 16 ≡ n
+    go true q = omega (arith, last, eqb-true (n / 10) 0 q)
+    go false q =
+        let m : mark (n / 10) ≡ 48 + n / 10 % 10 = rw q in
+        absurd (omega (arith, before, h, m))
 
 -- ---- for a loop over the columns
 weigh-append : (v : ℕ) (s : List ℕ) (b : ℕ) → weigh v (s ++ (b ∷ [])) ≡ weigh v s * 10 + b % 16

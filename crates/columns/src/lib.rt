@@ -2,6 +2,7 @@
 ghost use mathlib.Core.Path.{_≡_};
 ghost use Prim.Native.Nat.{ℕ, _≤_, _<_};
 ghost use lib.ListN.{length};
+ghost use Rattle.columns.specs.declared.Number.the-variants.{Value};
 ghost use Rattle.columns.specs.Column as col;
 ghost use Rattle.columns.specs.Weight.{weigh};
 ghost use Rattle.columns.specs.ColumnLaws.{Below};
@@ -78,8 +79,8 @@ pub fn read_number(s: &[u8]) -> Number
     told(st)
 }
 
-// The number in columns that are known to hold one, by its digits alone: a space counts as 0.
-pub fn weigh_number(s: &[u8]) -> u32
+// The number of the digits in the columns: a space counts as 0.
+fn weigh_number(s: &[u8]) -> u32
     requires { ⌜ length (now s) < 10 ⌝ }
     ensures { λ r. ⌜ r ≡ weigh 0 (now (s .entry)) ⌝ }
 {
@@ -90,6 +91,21 @@ pub fn weigh_number(s: &[u8]) -> u32
         k += 1;
     }
     v
+}
+
+// The number in columns that are known to hold one: a single digit where a space stands before the last.
+pub fn known_number(s: &[u8]) -> u32
+    requires { ⌜ length (now s) < 10 ⌝ }
+    requires { ⌜ col.read (now s) ≡ Value (weigh 0 (now s)) ⌝ }
+    ensures { λ r. ⌜ r ≡ weigh 0 (now (s .entry)) ⌝ }
+{
+    let n = s.len();
+    if n > 1 {
+        if s[n - 2] == 32 {
+            return (s[n - 1] % 16) as u32;
+        }
+    }
+    weigh_number(s)
 }
 
 // The column of a digit that is not the last: a space where nothing is left of the number.

@@ -3,6 +3,7 @@ use columns::Number;
 ghost use mathlib.Core.Path.{_≡_};
 ghost use Prim.Native.Nat.{ℕ, _+_, _*_, _≤_, _<_};
 ghost use lib.ListN.{length, take, drop};
+ghost use Rattle.columns.specs.declared.Number.the-variants.{Value};
 ghost use Rattle.columns.specs.Weight.{weigh};
 ghost use Rattle.sheet.specs.Line as line;
 ghost use Rattle.lines.specs.Shape as shape;
@@ -50,9 +51,10 @@ pub fn cell(l: &[u8], k: usize) -> Number
 // Number k of a line whose columns are known to hold one.
 pub fn weight(l: &[u8], k: usize) -> u32
     requires { ⌜ (32 ≤ length (now l)) × (k < 5) ⌝ }
+    requires { ⌜ line.cell 6 (now l) k ≡ Value (weigh 0 (take 6 (drop (1 + k * 6) (now l)))) ⌝ }
     ensures { λ r. ⌜ r ≡ weigh 0 (take 6 (drop (1 + k * 6) (now (l .entry)))) ⌝ }
 {
-    columns::weigh_number(number_part(l, k))
+    columns::known_number(number_part(l, k))
 }
 
 fn is_value(n: Number) -> bool

@@ -1,6 +1,6 @@
 -- What reading by columns gives on any bytes, and on a sheet without bad lines. For any width.
 -- Assumes nothing.
-use mathlib.Core.Path.{_≡_, refl, sym, _∙_}
+use mathlib.Core.Path.{_≡_, refl, sym, _∙_, ap}
 use mathlib.Core.List.{List, []}
 use mathlib.Core.Bool.{Bool, true, false}
 use Prim.Native.Nat.{ℕ, _+_, _*_, _^_, _≤_, _<_}
@@ -8,6 +8,7 @@ use native.Mathlib.Omega.{arith}
 use lib.Dec.{eqb}
 use lib.ListN.{length, getD, take, drop}
 use borrow.Author.Tests.{lt-ltb}
+use Rattle.columns.specs.declared.Number.the-variants.{Value}
 use Rattle.columns.specs.Column.{pick}
 use Rattle.columns.specs.Weight.{weigh, weigh-read}
 use Rattle.sheet.specs.Format.{textBytes}
@@ -89,6 +90,11 @@ module _ (w : ℕ) (b : List ℕ) (good : row2 w b ≡ count w b) where
   pub weight-good : (i k : ℕ) → i < count w b → k < 5 → (getD (lineAt w b i) 0 0 ≡ 78 → k ≡ 0) → weigh 0 (take w (drop (1 + k * w) (lineAt w b i))) ≡ number (line w b i) k
   unfolding line cell
   weight-good i k h q o = weigh-read (take w (drop (1 + k * w) (lineAt w b i))) (number (line w b i) k) (number-decode w (lineAt w b i) k (line-good i h) q o)
+
+  -- so its columns hold what they weigh
+  pub cell-good : (i k : ℕ) → i < count w b → k < 5 → (getD (lineAt w b i) 0 0 ≡ 78 → k ≡ 0) → cell w (lineAt w b i) k ≡ Value (weigh 0 (take w (drop (1 + k * w) (lineAt w b i))))
+  unfolding line
+  cell-good i k h q o = number-decode w (lineAt w b i) k (line-good i h) q o ∙ ap Value (sym (weight-good i k h q o))
 
   pub letter-good : (i : ℕ) → i < count w b → getD (lineAt w b i) 0 0 ≡ letter (line w b i)
   unfolding line

@@ -6,7 +6,7 @@ use lib.ListN.{getD}
 use Rattle.sheet.specs.Sheet.{line, lineAt}
 use Rattle.sheet.specs.LineLaws.{number-named, number-over}
 use Rattle.sheet.specs.SheetLaws.{line-past}
-use Rattle.reader.specs.AccessLaws.{weight-good}
+use Rattle.reader.specs.AccessLaws.{weight-good, cell-good}
 use borrow.Author.Needs.{needs}
 use Rattle.reader.proofs.value.Statement.{statement}
 use Rattle.reader.proofs.value.Tie as tie
@@ -25,14 +25,21 @@ returns-3 c =
     let n : getD (lineAt 6 (a .s .now) (a .i)) 0 0 ≡ 78 = rw (← (c .before .before .before .line-bytes .ensures .0)) (c .if4 .taken) in
     sym (number-named 6 (lineAt 6 (a .s .now) (a .i)) (a .k) n (omega arith))
 
+-- an N line has one number
+one-number : (c : tie.Joined3) → getD (lineAt 6 (c .before .before .before .before .before .args .s .now) (c .before .before .before .before .before .args .i)) 0 0 ≡ 78 → c .before .before .before .before .before .args .k ≡ 0
+one-number c e = ⊎-elim (λ w. absurd (w .2 .left (rw (c .before .line-bytes .ensures .0) e))) (λ w. omega arith) (c .if3 .came)
+
+weight-requires : tie.Need-weight-requires
+weight-requires c κs =
+    let a = c .before .before .before .before .before in
+    let l = c .before .line-bytes in
+    ((rw (l .ensures .1) (omega arith), omega arith), rw (l .ensures .0) (cell-good 6 (a .args .s .now) (a .pre) (a .args .i) (a .args .k) (omega arith) (omega arith) (one-number c)))
+
 returns-4 : tie.Need-returns-4
 returns-4 c =
     let a = c .before .before .before .before .before .before in
-    let s = a .args .s .now in
-    let l = c .before .before .line-bytes in
-    let o : getD (lineAt 6 s (a .args .i)) 0 0 ≡ 78 → a .args .k ≡ 0 =
-    λ e. ⊎-elim (λ w. absurd (w .2 .left (rw (l .ensures .0) e))) (λ w. omega arith) (c .before .if3 .came) in
-    rw (c .weight .ensures, l .ensures .0) (weight-good 6 s (a .pre) (a .args .i) (a .args .k) (omega arith) (omega arith) o)
+    rw (c .weight .ensures, c .before .before .line-bytes .ensures .0)
+    (weight-good 6 (a .args .s .now) (a .pre) (a .args .i) (a .args .k) (omega arith) (omega arith) (one-number (c .before)))
 
 pub value-spec : {M : Type 1} → statement M
 value-spec =
@@ -43,5 +50,5 @@ value-spec =
     (λ c κs. search needs)
     (λ c. search needs)
     returns-3
-    (λ c κs. search needs)
+    weight-requires
     returns-4)
