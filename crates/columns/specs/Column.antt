@@ -41,6 +41,10 @@ told Zero = Value 0
 told (In v) = Value v
 told Broken = Bad
 
+abbrev pub isValue : Number → Bool
+isValue (Value n) = true
+isValue Bad = false
+
 -- the number in the columns s
 unfoldable pub read : List ℕ → Number
 read s = told (scan Blank s)

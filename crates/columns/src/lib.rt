@@ -2,6 +2,7 @@
 ghost use mathlib.Core.Path.{_≡_};
 ghost use Prim.Native.Nat.{ℕ, _≤_, _<_};
 ghost use lib.ListN.{length};
+ghost use Rattle.columns.specs.declared.Scan.the-variants.{Blank};
 ghost use Rattle.columns.specs.declared.Number.the-variants.{Value};
 ghost use Rattle.columns.specs.Column as col;
 ghost use Rattle.columns.specs.Weight.{weigh};
@@ -65,10 +66,21 @@ fn told(st: Scan) -> Number
     }
 }
 
-// The number in the columns s. Nine columns at most: a u32 holds every number of nine digits.
-pub fn read_number(s: &[u8]) -> Number
+fn is_told(st: Scan) -> bool
+    ensures { λ r. ⌜ r ≡ col.isValue (col.told st) ⌝ }
+{
+    match st {
+        Scan::Blank => false,
+        Scan::Zero => true,
+        Scan::In(_) => true,
+        Scan::Broken => false,
+    }
+}
+
+// What is read of the columns s. Nine columns at most: a u32 holds every number of nine digits.
+fn scanned(s: &[u8]) -> Scan
     requires { ⌜ length (now s) ≤ 9 ⌝ }
-    ensures { λ r. ⌜ r ≡ col.read (now (s .entry)) ⌝ }
+    ensures { λ r. ⌜ r ≡ col.scan Blank (now (s .entry)) ⌝ }
 {
     let mut st = Scan::Blank;
     let mut i = 0;
@@ -76,7 +88,23 @@ pub fn read_number(s: &[u8]) -> Number
         st = step(st, s[i]);
         i += 1;
     }
-    told(st)
+    st
+}
+
+// The number in the columns s.
+pub fn read_number(s: &[u8]) -> Number
+    requires { ⌜ length (now s) < 10 ⌝ }
+    ensures { λ r. ⌜ r ≡ col.read (now (s .entry)) ⌝ }
+{
+    told(scanned(s))
+}
+
+// Whether the columns s hold a number.
+pub fn is_number(s: &[u8]) -> bool
+    requires { ⌜ length (now s) < 10 ⌝ }
+    ensures { λ r. ⌜ r ≡ col.isValue (col.read (now (s .entry))) ⌝ }
+{
+    is_told(scanned(s))
 }
 
 // The number of the digits in the columns: a space counts as 0.

@@ -57,13 +57,12 @@ pub fn weight(l: &[u8], k: usize) -> u32
     columns::known_number(number_part(l, k))
 }
 
-fn is_value(n: Number) -> bool
-    ensures { λ r. ⌜ r ≡ line.isValue n ⌝ }
+// Whether the columns of number k of a line hold one.
+fn has_number(l: &[u8], k: usize) -> bool
+    requires { ⌜ (32 ≤ length (now l)) × (k < 5) ⌝ }
+    ensures { λ r. ⌜ r ≡ line.isValue (line.cell 6 (now (l .entry)) k) ⌝ }
 {
-    match n {
-        Number::Value(_) => true,
-        Number::Bad => false,
-    }
+    columns::is_number(number_part(l, k))
 }
 
 // A byte of a name's text.
@@ -130,7 +129,7 @@ fn read_row(l: &[u8]) -> Shape
 {
     let mut k = 0;
     while k < NUMBERS {
-        if !is_value(cell(l, k)) {
+        if !has_number(l, k) {
             return Shape::Bad;
         }
         k += 1;

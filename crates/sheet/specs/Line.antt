@@ -8,6 +8,7 @@ use lib.ListN.{length, take, drop, getD, replicate}
 use Rattle.columns.specs.declared.Number.{Number}
 use Rattle.columns.specs.declared.Number.the-variants.{Value, Bad}
 use Rattle.columns.specs.Column.{pick, read, write}
+pub use Rattle.columns.specs.Column.{isValue}
 use Rattle.sheet.specs.Format.{lineBytes, textBytes}
 
 -- An N line: its number, and its text without the spaces after it. Any other line: its letter and
@@ -48,10 +49,6 @@ lettered x = pick (eqb x 65) true (pick (eqb x 67) true (pick (eqb x 68) true (p
 -- the columns of number k
 unfoldable pub cell : ℕ → List ℕ → ℕ → Number
 cell w b k = read (take w (drop (1 + k * w) b))
-
-abbrev pub isValue : Number → Bool
-isValue (Value n) = true
-isValue Bad = false
 
 abbrev pub value : Number → ℕ
 value (Value n) = n

@@ -1,54 +1,12 @@
--- `columns::read_number` meets its contract: the state is what the columns passed give.
--- Assumes nothing.
-use mathlib.Core.Path.{_≡_, refl}
-use Prim.Native.Nat.{_-_, _≤_}
-use native.Mathlib.Omega.{arith}
-use lib.ListN.{length, take, length-take}
-use lib.Seq.{take-length}
+-- `columns::read_number` meets its contract: it is told of what is read. Assumes nothing.
 use borrow.Author.Needs.{needs}
-use Rattle.columns.specs.declared.Scan.the-variants.{Blank}
-use Rattle.columns.specs.Column.{scan, read}
-use Rattle.columns.specs.ColumnLaws.{scan-take, scan-below}
+use Rattle.columns.specs.Column.{read}
 use Rattle.columns.proofs.read_number.Statement.{statement}
 use Rattle.columns.proofs.read_number.Tie as tie
 
-abbrev Inv-loop : tie.InvT-loop
-Inv-loop s st₀ i₀ st i = (i ≤ length s) × (st ≡ scan Blank (take i s))
-
-abbrev μ-loop : tie.MeasureT-loop
-μ-loop s st₀ i₀ st i = length s - i
-
-loop-holds : tie.Need-loop-holds Inv-loop μ-loop
-unfolding scan
-loop-holds c = (omega arith, refl)
-
-step-requires : tie.Need-step-requires Inv-loop μ-loop
-step-requires c κs = rw (c .before .before .loop .inv .1) (scan-below 8 _ (simp length-take (omega arith)))
-
-loop-again : tie.Need-loop-again Inv-loop μ-loop
-loop-again c =
-    let i = c .before .before .before .loop .i in
-    let s = c .before .before .before .before .before .args .s .now in
-    (omega arith, rw (scan-take s i (omega arith), c .step .ensures, c .before .before .before .loop .inv .1))
-
-returns : tie.Need-returns Inv-loop μ-loop
+returns : tie.Need-returns
 unfolding read
-returns c =
-    let s = c .before .before .before .before .args .s .now in
-    let e : c .before .before .loop .i ≡ length s = omega arith in
-    rw (c .told .ensures, c .before .before .loop .inv .1, e, take-length)
+returns c = rw (c .told .ensures, c .before .scanned .ensures)
 
 pub read-number-spec : {M : Type 1} → statement M
-read-number-spec =
-    tie.close
-    (tie.spec
-    Inv-loop
-    μ-loop
-    loop-holds
-    (λ c. search needs)
-    step-requires
-    (λ c. search needs)
-    (λ c. search needs)
-    loop-again
-    (λ c κs. search needs)
-    returns)
+read-number-spec = tie.close (tie.spec (λ c κs. search needs) (λ c κs. search needs) returns)

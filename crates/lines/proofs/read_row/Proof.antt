@@ -19,17 +19,17 @@ abbrev μ-loop : tie.MeasureT-loop
 
 returns : tie.Need-returns Inv-loop μ-loop
 returns c =
-    let i = c .before .before .before .before .loop .k in
-    let l = c .before .before .before .before .before .before .args .l .now in
-    let g : isValue (cell 6 l i) ≡ false = rw (← (c .before .before .cell .ensures), ← (c .before .is-value .ensures)) (not-true (c .before .is-value .result) (c .if1 .taken)) in
+    let i = c .before .before .before .loop .k in
+    let l = c .before .before .before .before .before .args .l .now in
+    let g : isValue (cell 6 l i) ≡ false = rw (← (c .before .has-number .ensures)) (not-true (c .before .has-number .result) (c .if1 .taken)) in
     sym (decodeRow-bad 6 l i (omega arith) g)
 
 loop-again : tie.Need-loop-again Inv-loop μ-loop
 loop-again c =
-    let i = c .before .before .before .before .loop .k in
-    let l = c .before .before .before .before .before .before .args .l .now in
-    let g : isValue (cell 6 l i) ≡ true = rw (← (c .before .before .cell .ensures), ← (c .before .is-value .ensures)) (not-false (c .before .is-value .result) (c .if1 .left)) in
-    (omega arith, below-more _ _ (c .before .before .before .before .loop .inv .1) g)
+    let i = c .before .before .before .loop .k in
+    let l = c .before .before .before .before .before .args .l .now in
+    let g : isValue (cell 6 l i) ≡ true = rw (← (c .before .has-number .ensures)) (not-false (c .before .has-number .result) (c .if1 .left)) in
+    (omega arith, below-more _ _ (c .before .before .before .loop .inv .1) g)
 
 returns-2 : tie.Need-returns-2 Inv-loop μ-loop
 returns-2 c =
@@ -43,7 +43,6 @@ read-row-spec =
     Inv-loop
     μ-loop
     (λ c. (search needs, below-none _))
-    (λ c κs. search needs)
     (λ c κs. search needs)
     returns
     (λ c. search needs)

@@ -1,0 +1,12 @@
+-- `columns::is_number` meets its contract: it is told of what is read. Assumes nothing.
+use borrow.Author.Needs.{needs}
+use Rattle.columns.specs.Column.{read}
+use Rattle.columns.proofs.is_number.Statement.{statement}
+use Rattle.columns.proofs.is_number.Tie as tie
+
+returns : tie.Need-returns
+unfolding read
+returns c = rw (c .is-told .ensures, c .before .scanned .ensures)
+
+pub is-number-spec : {M : Type 1} → statement M
+is-number-spec = tie.close (tie.spec (λ c κs. search needs) (λ c κs. search needs) returns)
