@@ -41,6 +41,7 @@ told Zero = Value 0
 told (In v) = Value v
 told Broken = Bad
 
+-- whether the columns hold a number
 abbrev pub isValue : Number → Bool
 isValue (Value n) = true
 isValue Bad = false

@@ -1,11 +1,9 @@
-// Numbers in columns.
+// Reading numbers in columns.
 ghost use mathlib.Core.Path.{_≡_};
 ghost use Prim.Native.Nat.{ℕ, _≤_, _<_};
 ghost use lib.ListN.{length};
 ghost use Rattle.columns.specs.declared.Scan.the-variants.{Blank};
-ghost use Rattle.columns.specs.declared.Number.the-variants.{Value};
 ghost use Rattle.columns.specs.Column as col;
-ghost use Rattle.columns.specs.Weight.{weigh};
 ghost use Rattle.columns.specs.ColumnLaws.{Below};
 
 // What has been read of a number so far.
@@ -55,28 +53,6 @@ fn step(st: Scan, b: u8) -> Scan
     }
 }
 
-fn told(st: Scan) -> Number
-    ensures { λ r. ⌜ r ≡ col.told st ⌝ }
-{
-    match st {
-        Scan::Blank => Number::Bad,
-        Scan::Zero => Number::Value(0),
-        Scan::In(v) => Number::Value(v),
-        Scan::Broken => Number::Bad,
-    }
-}
-
-fn is_told(st: Scan) -> bool
-    ensures { λ r. ⌜ r ≡ col.isValue (col.told st) ⌝ }
-{
-    match st {
-        Scan::Blank => false,
-        Scan::Zero => true,
-        Scan::In(_) => true,
-        Scan::Broken => false,
-    }
-}
-
 // What is read of the columns s. Nine columns at most: a u32 holds every number of nine digits.
 fn scanned(s: &[u8]) -> Scan
     requires { ⌜ length (now s) ≤ 9 ⌝ }
@@ -96,7 +72,12 @@ pub fn read_number(s: &[u8]) -> Number
     requires { ⌜ length (now s) < 10 ⌝ }
     ensures { λ r. ⌜ r ≡ col.read (now (s .entry)) ⌝ }
 {
-    told(scanned(s))
+    match scanned(s) {
+        Scan::Blank => Number::Bad,
+        Scan::Zero => Number::Value(0),
+        Scan::In(v) => Number::Value(v),
+        Scan::Broken => Number::Bad,
+    }
 }
 
 // Whether the columns s hold a number.
@@ -104,59 +85,10 @@ pub fn is_number(s: &[u8]) -> bool
     requires { ⌜ length (now s) < 10 ⌝ }
     ensures { λ r. ⌜ r ≡ col.isValue (col.read (now (s .entry))) ⌝ }
 {
-    is_told(scanned(s))
-}
-
-// The number of the digits in the columns: a space counts as 0.
-fn weigh_number(s: &[u8]) -> u32
-    requires { ⌜ length (now s) < 10 ⌝ }
-    ensures { λ r. ⌜ r ≡ weigh 0 (now (s .entry)) ⌝ }
-{
-    let mut v: u32 = 0;
-    let mut k = 0;
-    while k < s.len() {
-        v = v * 10 + (s[k] % 16) as u32;
-        k += 1;
-    }
-    v
-}
-
-// The number in columns that are known to hold one: a single digit where a space stands before the last.
-pub fn known_number(s: &[u8]) -> u32
-    requires { ⌜ length (now s) < 10 ⌝ }
-    requires { ⌜ col.read (now s) ≡ Value (weigh 0 (now s)) ⌝ }
-    ensures { λ r. ⌜ r ≡ weigh 0 (now (s .entry)) ⌝ }
-{
-    let n = s.len();
-    if n > 1 {
-        if s[n - 2] == 32 {
-            return (s[n - 1] % 16) as u32;
-        }
-    }
-    weigh_number(s)
-}
-
-// The column of a digit that is not the last: a space where nothing is left of the number.
-fn column(m: u32) -> u8
-    ensures { λ r. ⌜ r ≡ col.mark m ⌝ }
-{
-    if m == 0 { 32 } else { 48 + (m % 10) as u8 }
-}
-
-// Writes n into the columns, from the right; of a number that does not fit, its last digits.
-pub fn write_number(out: &mut [u8], n: u32)
-    ensures { λ _. ⌜ now (out .exit) ≡ col.write (length (now (out .entry))) n ⌝ }
-{
-    let mut i = out.len();
-    if i == 0 {
-        return;
-    }
-    i -= 1;
-    out[i] = 48 + (n % 10) as u8;
-    let mut m = n / 10;
-    while 0 < i {
-        i -= 1;
-        out[i] = column(m);
-        m = m / 10;
+    match scanned(s) {
+        Scan::Blank => false,
+        Scan::Zero => true,
+        Scan::In(_) => true,
+        Scan::Broken => false,
     }
 }

@@ -14,7 +14,7 @@ use Rattle.sheet.specs.Format.{base}
 use Rattle.sheet.specs.Line.{Line, letter, number, text}
 use Rattle.sheet.specs.Sheet.{first, count, line, lines}
 use Rattle.sheet.specs.SheetLaws.{length-lines, getD-lines}
-use Rattle.sheet.specs.FirstLaws.{first-congr}
+use Rattle.sheet.specs.FirstLaws.{first-congr, none-first}
 use Rattle.sheet.specs.ListLaws.{both}
 use Rattle.custard.specs.Program.{name-line, param-line, ctor-line, field-line, is, is-head, select}
 use Rattle.custard.specs.Rows.{
@@ -34,7 +34,6 @@ use Rattle.custard.specs.Rows.{
   repeats,
   row6,
 }
-use Rattle.reader.specs.FirstLaws.{first-clear}
 use Rattle.order.specs.StepLaws.{count-before-step, heads-before-step, count-before-mono, heads-before-mono}
 use Rattle.limits.specs.LimitsLaws.{head-cases, names-kept, decls-kept, ctors-kept}
 use Rattle.spellings.specs.Spellings.{Ranged, respelled}
@@ -300,7 +299,7 @@ module _ (b : List ℕ) (r : Ranged b) where
     pub name-fits : takes way (line 6 b i) ≡ true → number (line 6 b i) 0 < 256
     unfolding row5
     name-fits e =
-        let g : row5 (lines 6 b) i ≡ false = first-clear (row5 (lines 6 b)) (count 6 b) (r .in-range) i h in
+        let g : row5 (lines 6 b) i ≡ false = none-first (row5 (lines 6 b)) (count 6 b) (r .in-range) i h in
         let n : number (line-at (lines 6 b) i) 0 < count-of name-line (lines 6 b) = named-below (lines 6 b) i (not-false (good-numbers (lines 6 b) i) g) way (here true e) in
         let k : count-before name-line (lines 6 b) (length (lines 6 b)) ≤ 256 = names-kept base (lines 6 b) in-limits (length (lines 6 b)) (omega arith) in
         rw (← (getD-lines 6 b i)) (omega (arith, ap (count-of name-line) (take-length (lines 6 b))))

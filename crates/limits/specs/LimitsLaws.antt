@@ -16,11 +16,10 @@ use Rattle.sheet.specs.Format.{Format, base}
 use Rattle.sheet.specs.Line.{Line, letter}
 use Rattle.sheet.specs.Sheet.{first, count, line, lines, row1}
 use Rattle.sheet.specs.SheetLaws.{length-lines, getD-lines}
-use Rattle.sheet.specs.FirstLaws.{Place, first-place, first-le-at}
+use Rattle.sheet.specs.FirstLaws.{Place, first-place, first-le-at, first-found, first-none, none-first}
 use Rattle.custard.specs.Decl.{table}
 use Rattle.custard.specs.Program.{name-line, arg-line, type-line, param-line, ctor-line, field-line, is, is-head, select}
 use Rattle.custard.specs.Rows.{line-at, count-before, heads-before, params-after, row4}
-use Rattle.reader.specs.FirstLaws.{first-found, first-none, first-clear}
 use Rattle.order.specs.StepLaws.{count-before-step, heads-before-step, params-after-suc, count-before-le, heads-before-le, params-after-le, heads-before-mono}
 use Rattle.limits.specs.declared.Tally.{Tally}
 use Rattle.limits.specs.Limits.{head-letter, none, tally-before, counted, past, Small, start, starts-of, counts-of, Kept}
@@ -153,7 +152,7 @@ module _ (f : Format) (ls : List Line) (none-past : first (row4 f ls) (length ls
   one-kept x m g zero h = omega arith
   one-kept x m g (suc i) h =
       rw (count-before-step ls i h x)
-      (step-kept (count-before x ls i) m (is x (line-at ls i)) (row4 f ls i) (λ e. g i (eqb-true (letter (line-at ls i)) x e)) (first-clear (row4 f ls) (length ls) none-past i h) (one-kept x m g i (omega arith)))
+      (step-kept (count-before x ls i) m (is x (line-at ls i)) (row4 f ls i) (λ e. g i (eqb-true (letter (line-at ls i)) x e)) (none-first (row4 f ls) (length ls) none-past i h) (one-kept x m g i (omega arith)))
 
   pub names-kept : (i : ℕ) → i ≤ length ls → count-before name-line ls i ≤ f .names
   unfolding row4
@@ -185,7 +184,7 @@ module _ (f : Format) (ls : List Line) (none-past : first (row4 f ls) (length ls
   decls-kept zero h = omega arith
   decls-kept (suc i) h =
       rw (heads-before-step ls i h)
-      (step-kept (heads-before ls i) (f .decls) (is-head (line-at ls i)) (row4 f ls i) (λ e. head-limit i (head-cases (letter (line-at ls i)) e)) (first-clear (row4 f ls) (length ls) none-past i h) (decls-kept i (omega arith)))
+      (step-kept (heads-before ls i) (f .decls) (is-head (line-at ls i)) (row4 f ls i) (λ e. head-limit i (head-cases (letter (line-at ls i)) e)) (none-first (row4 f ls) (length ls) none-past i h) (decls-kept i (omega arith)))
 
   -- a declaration that begins at line i is one of those that a sheet may have
   pub head-kept : (i : ℕ) → i < length ls → is-head (line-at ls i) ≡ true → heads-before ls i < f .decls

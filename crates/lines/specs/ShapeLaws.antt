@@ -8,43 +8,17 @@ use Prim.Native.Nat.{ℕ, zero, suc, _+_, _*_, _≤_, _<_}
 use native.Mathlib.Omega.{arith}
 use lib.Dec.{eqb, leb}
 use lib.ListN.{length, getD, take, drop}
-use lib.Seq.{drop-cons}
 use borrow.Author.Tests.{eq-eqb, ne-eqb, eqb-true, eqb-false, leb-false}
 use Rattle.columns.specs.declared.Number.{Number}
 use Rattle.columns.specs.declared.Number.the-variants.{Value, Bad}
 use Rattle.columns.specs.Column.{pick}
 use Rattle.sheet.specs.Format.{textBytes}
-use Rattle.sheet.specs.Line.{named, bad, graphic, spelling, spaces, proper, lettered, cell, isValue, value, decode, decodeNamed, decodeRow}
+use Rattle.sheet.specs.Line.{Line, named, row, bad, spelling, spaces, proper, lettered, cell, isValue, value, decode, decodeNamed, decodeRow, isBad}
 use Rattle.sheet.specs.LineLaws.{lettered-other}
+use Rattle.sheet.specs.Sheet.{lineAt, line, textOf}
+use Rattle.texts.specs.Text.{textLength}
 use Rattle.lines.specs.declared.Shape.the-variants.{Named, Row, Bad as NoLine}
-use Rattle.lines.specs.Shape.{shapeOf, textLength, namedShape}
-
--- ---- the text of a name
--- at each byte, for a loop
-pub spelling-here : (t : List ℕ) (i : ℕ) → i < length t → length (spelling (drop i t)) ≡ pick (graphic (getD t i 0)) (suc (length (spelling (drop (suc i) t)))) 0
-unfolding spelling
-spelling-here t i h = rw (drop-cons t i 0 h) (go (graphic (getD t i 0)))
-  where
-    go : (g : Bool) → length (pick g (getD t i 0 ∷ spelling (drop (suc i) t)) []) ≡ pick g (suc (length (spelling (drop (suc i) t)))) 0
-    go true = refl
-    go false = refl
-
-pub spaces-here : (t : List ℕ) (i : ℕ) → i < length t → spaces (drop i t) ≡ eqb (getD t i 0) 32 && spaces (drop (suc i) t)
-unfolding spaces
-spaces-here t i h = rw (drop-cons t i 0 h)
-
--- the text's length by what stands after it
-pub textLength-blank : (t : List ℕ) → spaces (drop (length (spelling t)) t) ≡ true → textLength t ≡ length (spelling t)
-unfolding textLength proper
-textLength-blank t h = rw h (go (leb 1 (length (spelling t))) refl)
-  where
-    go : (a : Bool) → leb 1 (length (spelling t)) ≡ a → pick (a && true) (length (spelling t)) 0 ≡ length (spelling t)
-    go true e = refl
-    go false e = omega (arith, leb-false 1 (length (spelling t)) e)
-
-pub textLength-other : (t : List ℕ) → spaces (drop (length (spelling t)) t) ≡ false → textLength t ≡ 0
-unfolding textLength proper
-textLength-other t h = simp (h, and-false)
+use Rattle.lines.specs.Shape.{shapeOf, namedShape, isNone, spelledIn}
 
 -- ---- shapes
 -- a line of name n by its text t
@@ -82,6 +56,24 @@ decodeRow-bad w b (suc (suc zero)) l h = simp (h, and-false)
 decodeRow-bad w b (suc (suc (suc zero))) l h = simp (h, and-false)
 decodeRow-bad w b (suc (suc (suc (suc zero)))) l h = simp (h, and-false)
 decodeRow-bad w b (suc (suc (suc (suc (suc k))))) l h = absurd (omega arith)
+
+pub isBad-shape : (l : Line) → isBad l ≡ isNone (shapeOf l)
+isBad-shape (named n t) = refl
+isBad-shape (row x ns) = refl
+isBad-shape bad = refl
+
+pub spelledIn-shape : (n : ℕ) (l : Line) → spelledIn n (shapeOf l) ≡ length (textOf n l)
+spelledIn-shape n (named m t) = go (eqb m n)
+  where
+    go : (b : Bool) → pick b (length t) 0 ≡ length (pick b t [])
+    go true = refl
+    go false = refl
+spelledIn-shape n (row x ns) = refl
+spelledIn-shape n bad = refl
+
+pub bad-at : (w : ℕ) (b : List ℕ) (i : ℕ) → isBad (line w b i) ≡ isNone (shapeOf (decode w (lineAt w b i)))
+unfolding line
+bad-at w b i = isBad-shape (decode w (lineAt w b i))
 
 -- ---- by the letter
 -- the letters of lines with five numbers, as `match` tells them: single bytes, and C and D as a range

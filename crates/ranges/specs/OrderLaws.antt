@@ -19,7 +19,7 @@ use Rattle.custard.specs.declared.Due.the-variants.{Header, Within, Broken}
 use Rattle.custard.specs.Decl.{table}
 use Rattle.custard.specs.Program.{name-line, arg-line, type-line, param-line, field-line, ctor-line, verdict-line, is, select}
 use Rattle.custard.specs.Rows.{count-of, count-before, raw, raws, announced, due-header, due, due-after, is-broken, row3}
-use Rattle.reader.specs.AccessLaws.{letter-good}
+use Rattle.sheet.specs.SheetLaws.{letter-good}
 use Rattle.custard.specs.Laws.Lists.{length-table}
 
 -- ---- order

@@ -9,9 +9,8 @@ use lib.ListN.{length, getD, length-map, List·getD-map}
 use borrow.Author.Tests.{eq-eqb, ne-eqb, lt-ltb, le-ltb, le-leb, lt-leb}
 use Rattle.sheet.specs.Line.{Line, bad, letter, number}
 use Rattle.sheet.specs.Sheet.{first, count, line, lines}
-use Rattle.sheet.specs.FirstLaws.{first-none, none-first, first-le-at}
+use Rattle.sheet.specs.FirstLaws.{first-none, none-first, first-le-at, first-more}
 use Rattle.sheet.specs.SheetLaws.{length-lines, getD-lines}
-use Rattle.reader.specs.FirstLaws.{first-more}
 use Rattle.custard.specs.Program.{name-line, arg-line, type-line, select}
 use Rattle.custard.specs.Rows.{some-below, count-before, zeros-from, is-list, good-type}
 use Rattle.ranges.specs.Ranges.{Counted, types-of}

@@ -1,3 +1,1 @@
-pub mod Access
-pub mod FirstLaws
-pub mod AccessLaws
+pub mod ReaderLaws

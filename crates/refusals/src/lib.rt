@@ -33,11 +33,11 @@ fn refused(code: u32, place: usize) -> Checked
 pub fn check_rows(s: &[u8]) -> Checked
     ensures { λ r. ⌜ r ≡ checked-of (now (s .entry)) ⌝ }
 {
-    if reader::row1(s) {
+    if format::row1(s) {
         return refused(1, 0);
     }
     let n = s.len() / LINE;
-    let bad = reader::row2(s);
+    let bad = format::row2(s);
     if bad < n {
         return refused(2, bad);
     }

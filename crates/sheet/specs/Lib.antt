@@ -5,3 +5,5 @@ pub mod ListLaws
 pub mod FirstLaws
 pub mod LineLaws
 pub mod SheetLaws
+pub mod Output
+pub mod OutputLaws

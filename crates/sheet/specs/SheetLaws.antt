@@ -12,10 +12,10 @@ use lib.Seq.{take-at, take-take, drop-drop, take-append-le, drop-append-le, drop
 use borrow.Author.Tests.{eq-eqb, eqb-true, ltb-true, ltb-false}
 use Rattle.columns.specs.Column.{pick}
 use Rattle.sheet.specs.Format.{lineBytes, textBytes}
-use Rattle.sheet.specs.Line.{Line, named, row, bad, spelling, decode, encode, isBad}
+use Rattle.sheet.specs.Line.{Line, named, row, bad, spelling, decode, encode, letter, isBad}
 use Rattle.sheet.specs.Sheet.{lineAt, count, line, linesFrom, lines, encodes, row2, textOf, nameText}
-use Rattle.sheet.specs.FirstLaws.{none-first}
-use Rattle.sheet.specs.LineLaws.{Fits, spelling-take, spelling-le, decode-encode, encode-decode, encode-length, decode-fits, decode-short, Decoded, as-named, as-row, as-bad, decoded}
+use Rattle.sheet.specs.FirstLaws.{first-le, none-first}
+use Rattle.sheet.specs.LineLaws.{Fits, spelling-take, spelling-le, decode-encode, encode-decode, encode-length, decode-fits, decode-short, letter-decode, Decoded, as-named, as-row, as-bad, decoded}
 use Rattle.sheet.specs.ListLaws.{length-nil, Every, every-append}
 
 -- every line fits
@@ -151,6 +151,25 @@ getD-lines w b i = go (ltb i (count w b)) refl
         let k : count w b ≤ i = ltb-false i (count w b) e in
         List·getD-eq-default (lines w b) bad {n = i} (omega (arith, length-lines w b)) ∙ sym (line-past w b i k)
 
+-- ---- row 2
+pub row2-le : (w : ℕ) (b : List ℕ) → row2 w b ≤ count w b
+unfolding row2
+row2-le w b = first-le (λ i. isBad (line w b i)) (count w b)
+
+-- a place that is no line: row 2 passed the sheet
+pub row2-passed : (w : ℕ) (b : List ℕ) (r : ℕ) → r ≡ row2 w b → count w b ≤ r → row2 w b ≡ count w b
+row2-passed w b r e h = omega (arith, row2-le w b)
+
+-- a sheet that row 2 passed
+module _ (w : ℕ) (b : List ℕ) (good : row2 w b ≡ count w b) where
+  pub line-good : (i : ℕ) → i < count w b → isBad (line w b i) ≡ false
+  unfolding row2
+  line-good i h = none-first (λ i. isBad (line w b i)) (count w b) good i h
+
+  pub letter-good : (i : ℕ) → i < count w b → getD (lineAt w b i) 0 0 ≡ letter (line w b i)
+  unfolding line
+  letter-good i h = sym (letter-decode w (lineAt w b i) (line-good i h))
+
 -- ---- encoding what was decoded
 line-zero : (w : ℕ) (b : List ℕ) → line w b 0 ≡ decode w (take (lineBytes w) b)
 unfolding line lineAt
@@ -180,8 +199,7 @@ encodes-lines w b h = encodes-whole w (count w b) b (omega (arith, div-add-mod (
 
 -- the same, by row 2's answer
 pub encodes-lines-row2 : (w : ℕ) (b : List ℕ) → length b % lineBytes w ≡ 0 → row2 w b ≡ count w b → encodes w (lines w b) ≡ b
-unfolding row2
-encodes-lines-row2 w b h e = encodes-lines w b h (none-first (λ i. isBad (line w b i)) (count w b) e)
+encodes-lines-row2 w b h e = encodes-lines w b h (line-good w b e)
 
 -- a line that is not bad is encoded as its bytes
 pub encode-line : (w : ℕ) (b : List ℕ) (i : ℕ) → i < count w b → isBad (line w b i) ≡ false → encode w (line w b i) ≡ lineAt w b i

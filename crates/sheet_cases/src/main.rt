@@ -1,10 +1,8 @@
-// Reads each sheet that an argument names, and writes what the reader answers.
+// Reads each sheet that an argument names, and writes what is read of it.
+use access::Cell;
+use access::Letter;
 use libc::STDOUT_FILENO;
-use lines::LINE;
-use reader::Cell;
-use reader::Letter;
-ghost use mathlib.Core.Path.{_≡_};
-ghost use Rattle.sheet.specs.Sheet.{row2, count};
+use parts::LINE;
 
 // A number past every line: 32 times it does not fit.
 const FAR: usize = 18446744073709551615;
@@ -20,7 +18,7 @@ fn put_columns(columns: &[u8; 7]) {
 // A number in six columns, with a space before it.
 fn put_number(n: u32) {
     let mut columns = [32u8; 7];
-    columns::write_number(&mut columns[1..7], n);
+    digits::write_number(&mut columns[1..7], n);
     put_columns(&columns);
 }
 
@@ -50,7 +48,7 @@ fn put_cell(c: Cell) {
 // The numbers of line i of any bytes, and one too many.
 fn put_cells(s: &[u8], i: usize) {
     for k in 0..6 {
-        put_cell(reader::number_at(s, i, k));
+        put_cell(access::number_at(s, i, k));
     }
 }
 
@@ -59,32 +57,11 @@ fn put_line(s: &[u8], i: usize) {
     put(b"line");
     put_place(i);
     put(b" ");
-    put_letter(reader::letter_at(s, i));
+    put_letter(access::letter_at(s, i));
     put_cells(s, i);
     put(b" [");
-    put(reader::name(s, i));
+    put(names::name(s, i));
     put(b"]\n");
-}
-
-// The numbers of line i of a sheet that row 2 passed, and one too many.
-fn put_values(s: &[u8], i: usize)
-    requires { ⌜ row2 6 (now s) ≡ count 6 (now s) ⌝ }
-{
-    for k in 0..6 {
-        put_number(reader::value(s, i, k));
-    }
-}
-
-// Line i of a sheet that row 2 passed.
-fn put_good(s: &[u8], i: usize)
-    requires { ⌜ row2 6 (now s) ≡ count 6 (now s) ⌝ }
-{
-    put(b"good");
-    put_place(i);
-    put(b" ");
-    put(&[reader::letter_of(s, i)]);
-    put_values(s, i);
-    put(b"\n");
 }
 
 // All lines of any bytes, and two places past the end.
@@ -96,27 +73,14 @@ fn put_lines(s: &[u8]) {
     put_line(s, FAR);
 }
 
-fn put_good_lines(s: &[u8])
-    requires { ⌜ row2 6 (now s) ≡ count 6 (now s) ⌝ }
-{
-    for i in 0..s.len() / LINE {
-        put_good(s, i);
-    }
-}
-
 fn put_sheet(s: &[u8]) {
-    if reader::row1(s) {
+    if format::row1(s) {
         put(b"row 1\n");
     }
-    let place = reader::row2(s);
     put(b"row 2 at");
-    put_place(place);
+    put_place(format::row2(s));
     put(b"\n");
     put_lines(s);
-    if place < s.len() / LINE {
-        return;
-    }
-    put_good_lines(s);
 }
 
 // One case: the file that argument i names.

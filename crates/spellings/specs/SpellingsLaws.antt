@@ -15,11 +15,10 @@ use Rattle.sheet.specs.Format.{lineBytes, textBytes}
 use Rattle.sheet.specs.Line.{Line, named, row, bad, lettered, padded, encode, letter, text}
 use Rattle.sheet.specs.LineLaws.{Graphic, Fits, length-padded, decode-fits}
 use Rattle.sheet.specs.Sheet.{first, count, lineAt, line, lines}
-use Rattle.sheet.specs.SheetLaws.{length-lines, getD-lines, encode-line}
+use Rattle.sheet.specs.SheetLaws.{length-lines, getD-lines, encode-line, line-good}
 use Rattle.custard.specs.Program.{name-line, is}
 use Rattle.custard.specs.Rows.{some-below, line-at, count-of, count-before, equal}
-use Rattle.reader.specs.AccessLaws.{line-good}
-use Rattle.reader.specs.FirstLaws.{first-clear, first-none}
+use Rattle.sheet.specs.FirstLaws.{none-first, first-none}
 use Rattle.order.specs.StepLaws.{count-before-step, count-before-le, count-before-mono}
 use Rattle.ranges.specs.OrderLaws.{Ordered, ordered-lines, name-before}
 use Rattle.spellings.specs.Spellings.{Ranged, respelled, textAt, spelled-before}
@@ -213,5 +212,5 @@ module _ (b : List ℕ) (r : Ranged b) where
   respelled-none i e f = first-none (respelled (lines 6 b)) (count 6 b) (λ j l. go j l (ltb j i) refl)
     where
       go : (j : ℕ) → j < count 6 b → (c : Bool) → ltb j i ≡ c → respelled (lines 6 b) j ≡ false
-      go j l true q = first-clear (respelled (lines 6 b)) i f j (ltb-true j i q)
+      go j l true q = none-first (respelled (lines 6 b)) i f j (ltb-true j i q)
       go j l false q = respelled-past j (omega (arith, ltb-false j i q)) (omega (arith, length-lines 6 b))

@@ -1,6 +1,6 @@
 // Row 6, the names' spellings: of a sheet that passed rows 1 to 5.
-use lines::LINE;
-use lines::TEXT;
+use parts::LINE;
+use parts::TEXT;
 ghost use mathlib.Core.Path.{_≡_};
 ghost use Prim.Native.Nat.{_<_};
 ghost use Rattle.sheet.specs.Sheet as sheet;

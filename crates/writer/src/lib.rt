@@ -1,10 +1,10 @@
-// Writes lines into the parts of an output that hold them.
+// Writes lines of a letter and five numbers into the parts of an output that hold them.
 ghost use mathlib.Core.Path.{_≡_};
 ghost use Prim.Native.Nat.{ℕ, suc, _*_, _≤_};
 ghost use lib.ListN.{length};
 ghost use Rattle.sheet.specs.Line.{row, encode};
-ghost use Rattle.writer.specs.Output.{putAt};
-use columns::write_number;
+ghost use Rattle.sheet.specs.Output.{putAt};
+use digits::write_number;
 
 // A line of a letter and five numbers, into the 32 bytes that hold it.
 pub fn put_row(out: &mut [u8], letter: u8, numbers: [u32; 5])
@@ -21,16 +21,6 @@ pub fn put_row(out: &mut [u8], letter: u8, numbers: [u32; 5])
     out[31] = 10;
 }
 
-// A copy of a line's bytes, into a part as long.
-pub fn copy_line(out: &mut [u8], line: &[u8])
-    requires { ⌜ length (now out) ≡ length (now line) ⌝ }
-    ensures { λ _. ⌜ now (out .exit) ≡ now (line .entry) ⌝ }
-{
-    for i in 0..line.len() {
-        out[i] = line[i];
-    }
-}
-
 // A line of a letter and five numbers, as line i of a larger output.
 pub fn row_at(out: &mut [u8], i: usize, letter: u8, numbers: [u32; 5])
     requires { ⌜ 32 * suc i ≤ length (now out) ⌝ }
@@ -38,13 +28,4 @@ pub fn row_at(out: &mut [u8], i: usize, letter: u8, numbers: [u32; 5])
 {
     let at = i * 32;
     put_row(&mut out[at..at + 32], letter, numbers);
-}
-
-// A copy of a line's 32 bytes, as line i of a larger output.
-pub fn line_at(out: &mut [u8], i: usize, line: &[u8])
-    requires { ⌜ (32 * suc i ≤ length (now out)) × (length (now line) ≡ 32) ⌝ }
-    ensures { λ _. ⌜ now (out .exit) ≡ putAt 6 (now (out .entry)) i (now (line .entry)) ⌝ }
-{
-    let start = i * 32;
-    copy_line(&mut out[start..start + 32], line);
 }

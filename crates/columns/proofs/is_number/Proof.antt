@@ -1,4 +1,4 @@
--- `columns::is_number` meets its contract: it is told of what is read. Assumes nothing.
+-- `columns::is_number` meets its contract, by what is read of the columns. Assumes nothing.
 use borrow.Author.Needs.{needs}
 use Rattle.columns.specs.Column.{read}
 use Rattle.columns.proofs.is_number.Statement.{statement}
@@ -6,7 +6,30 @@ use Rattle.columns.proofs.is_number.Tie as tie
 
 returns : tie.Need-returns
 unfolding read
-returns c = rw (c .is-told .ensures, c .before .scanned .ensures)
+returns c = rw (← (c .before .before .scanned .ensures), c .enum-told .given .1)
+
+returns-2 : tie.Need-returns-2
+unfolding read
+returns-2 c = rw (← (c .before .before .scanned .ensures), c .enum-told2 .given .1)
+
+returns-3 : tie.Need-returns-3
+unfolding read
+returns-3 c = rw (← (c .before .before .scanned .ensures), c .enum-told3 .given .1)
+
+returns-4 : tie.Need-returns-4
+unfolding read
+returns-4 c = rw (← (c .before .before .scanned .ensures), c .enum-told4 .given .1)
 
 pub is-number-spec : {M : Type 1} → statement M
-is-number-spec = tie.close (tie.spec (λ c κs. search needs) (λ c κs. search needs) returns)
+is-number-spec =
+    tie.close
+    (tie.spec
+    (λ c κs. search needs)
+    (λ c. search needs)
+    (λ c. search needs)
+    (λ c. search needs)
+    (λ c. search needs)
+    returns
+    returns-2
+    returns-3
+    returns-4)

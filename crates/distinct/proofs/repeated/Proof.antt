@@ -9,7 +9,7 @@ use lib.ListN.{length, getD}
 use borrow.Author.Needs.{needs}
 use borrow.Author.Tests.{eq-eqb, ne-eqb}
 use Rattle.sheet.specs.Sheet.{first, lines}
-use Rattle.reader.specs.FirstLaws.{first-more, first-found}
+use Rattle.sheet.specs.FirstLaws.{first-more, first-found}
 use Rattle.distinct.specs.Ways.{repeated}
 use Rattle.distinct.specs.WaysLaws.{Stamped, stamped-none, name-fits, test-takes, test-other, take-next, other-next, group-small}
 use Rattle.distinct.proofs.repeated.Statement.{statement}

@@ -1,6 +1,5 @@
 -- `reader::letter_of` meets its contract: a line that is not bad begins with its letter. Assumes nothing.
-use Rattle.sheet.specs.SheetLaws.{line-past}
-use Rattle.reader.specs.AccessLaws.{letter-good}
+use Rattle.sheet.specs.SheetLaws.{line-past, letter-good}
 use borrow.Author.Needs.{needs}
 use Rattle.reader.proofs.letter_of.Statement.{statement}
 use Rattle.reader.proofs.letter_of.Tie as tie

@@ -3,10 +3,11 @@ use mathlib.Core.Path.{_≡_, sym}
 use native.Mathlib.Omega.{arith}
 use mathlib.Core.Logic.{⊎-elim}
 use lib.ListN.{getD}
+use Rattle.sheet.specs.Line.{cell}
 use Rattle.sheet.specs.Sheet.{line, lineAt}
 use Rattle.sheet.specs.LineLaws.{number-named, number-over}
 use Rattle.sheet.specs.SheetLaws.{line-past}
-use Rattle.reader.specs.AccessLaws.{weight-good, cell-good}
+use Rattle.reader.specs.ReaderLaws.{weight-good, cell-good}
 use borrow.Author.Needs.{needs}
 use Rattle.reader.proofs.value.Statement.{statement}
 use Rattle.reader.proofs.value.Tie as tie
@@ -29,17 +30,19 @@ returns-3 c =
 one-number : (c : tie.Joined3) → getD (lineAt 6 (c .before .before .before .before .before .args .s .now) (c .before .before .before .before .before .args .i)) 0 0 ≡ 78 → c .before .before .before .before .before .args .k ≡ 0
 one-number c e = ⊎-elim (λ w. absurd (w .2 .left (rw (c .before .line-bytes .ensures .0) e))) (λ w. omega arith) (c .if3 .came)
 
-weight-requires : tie.Need-weight-requires
-weight-requires c κs =
-    let a = c .before .before .before .before .before in
-    let l = c .before .line-bytes in
-    ((rw (l .ensures .1) (omega arith), omega arith), rw (l .ensures .0) (cell-good 6 (a .args .s .now) (a .pre) (a .args .i) (a .args .k) (omega arith) (omega arith) (one-number c)))
+known-number-requires : tie.Need-known-number-requires
+unfolding cell
+known-number-requires c κs =
+    let a = c .before .before .before .before .before .before in
+    let l = c .before .before .line-bytes in
+    let p = c .number-part .ensures in
+    (rw (p .1) (omega arith), rw (p .0, l .ensures .0) (cell-good 6 (a .args .s .now) (a .pre) (a .args .i) (a .args .k) (omega arith) (omega arith) (one-number (c .before))))
 
 returns-4 : tie.Need-returns-4
 returns-4 c =
-    let a = c .before .before .before .before .before .before in
-    rw (c .weight .ensures, c .before .before .line-bytes .ensures .0)
-    (weight-good 6 (a .args .s .now) (a .pre) (a .args .i) (a .args .k) (omega arith) (omega arith) (one-number (c .before)))
+    let a = c .before .before .before .before .before .before .before in
+    rw (c .known-number .ensures, c .before .number-part .ensures .0, c .before .before .before .line-bytes .ensures .0)
+    (weight-good 6 (a .args .s .now) (a .pre) (a .args .i) (a .args .k) (omega arith) (omega arith) (one-number (c .before .before)))
 
 pub value-spec : {M : Type 1} → statement M
 value-spec =
@@ -50,5 +53,6 @@ value-spec =
     (λ c κs. search needs)
     (λ c. search needs)
     returns-3
-    weight-requires
+    (λ c κs. search needs)
+    known-number-requires
     returns-4)

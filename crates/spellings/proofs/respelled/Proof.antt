@@ -7,7 +7,7 @@ use borrow.Author.Needs.{needs}
 use Rattle.sheet.specs.Sheet.{first, lines}
 use Rattle.custard.specs.Program.{name-line}
 use Rattle.custard.specs.Rows.{count-of}
-use Rattle.reader.specs.FirstLaws.{first-more, first-found}
+use Rattle.sheet.specs.FirstLaws.{first-more, first-found}
 use Rattle.spellings.specs.Spellings.{respelled}
 use Rattle.spellings.specs.SpellingsLaws.{name-counted, respelled-at, respelled-none}
 use Rattle.spellings.proofs.respelled.Statement.{statement}

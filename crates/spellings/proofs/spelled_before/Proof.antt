@@ -7,7 +7,7 @@ use mathlib.Core.List.{List}
 use borrow.Author.Needs.{needs}
 use Rattle.sheet.specs.Sheet.{first}
 use Rattle.custard.specs.Rows.{equal}
-use Rattle.reader.specs.FirstLaws.{first-more}
+use Rattle.sheet.specs.FirstLaws.{first-more}
 use Rattle.spellings.specs.Spellings.{textAt, spelled-before}
 use Rattle.spellings.specs.SomeLaws.{some-found, some-clear}
 use Rattle.spellings.proofs.spelled_before.Statement.{statement}

@@ -6,7 +6,7 @@ use native.Mathlib.Omega.{arith}
 use lib.ListN.{length, take, drop, set, length-set}
 use borrow.Author.Needs.{needs}
 use Rattle.sheet.specs.Line.{writes}
-use Rattle.writer.specs.OutputLaws.{row-start, row-more, row-end}
+use Rattle.writer.specs.RowLaws.{row-start, row-more, row-end}
 use Rattle.writer.proofs.put_row.Statement.{statement}
 use Rattle.writer.proofs.put_row.Tie as tie
 

@@ -2,8 +2,8 @@
 use mathlib.Core.Path.{_∙_, ap}
 use Prim.Native.Nat.{_+_, _*_}
 use native.Mathlib.Omega.{arith}
-use Rattle.writer.specs.Output.{putAt}
-use Rattle.writer.specs.OutputLaws.{part-put}
+use Rattle.sheet.specs.Output.{putAt}
+use Rattle.sheet.specs.OutputLaws.{part-put}
 use borrow.Author.Needs.{needs}
 use Rattle.writer.proofs.row_at.Statement.{statement}
 use Rattle.writer.proofs.row_at.Tie as tie

@@ -1,0 +1,23 @@
+-- On a sheet that row 2 passed, what is read by columns is what the lines hold. For any width.
+-- Assumes nothing.
+use mathlib.Core.Path.{_≡_, _∙_}
+use mathlib.Core.List.{List}
+use Prim.Native.Nat.{ℕ, _<_}
+use borrow.Author.Tests.{lt-ltb}
+use Rattle.sheet.specs.Line.{letter, number}
+use Rattle.sheet.specs.Sheet.{count, lineAt, line, row2}
+use Rattle.sheet.specs.LineLaws.{letter-decode, number-decode}
+use Rattle.sheet.specs.SheetLaws.{line-good}
+use Rattle.access.specs.declared.Letter.the-variants.{Byte}
+use Rattle.access.specs.declared.Cell.the-variants.{Value as Held}
+use Rattle.access.specs.Access.{letterAt, cellAt}
+
+module _ (w : ℕ) (b : List ℕ) (good : row2 w b ≡ count w b) where
+  pub letterAt-good : (i : ℕ) → i < count w b → letterAt w b i ≡ Byte (letter (line w b i))
+  unfolding letterAt line
+  letterAt-good i h = rw (lt-ltb i (count w b) h, letter-decode w (lineAt w b i) (line-good w b good i h))
+
+  pub cellAt-good : (i k : ℕ) → i < count w b → k < 5 → (letter (line w b i) ≡ 78 → k ≡ 0) → cellAt w b i k ≡ Held (number (line w b i) k)
+  unfolding cellAt line
+  cellAt-good i k h q o =
+      rw (lt-ltb i (count w b) h, lt-ltb k 5 q, number-decode w (lineAt w b i) k (line-good w b good i h) q (λ z. o (letter-decode w (lineAt w b i) (line-good w b good i h) ∙ z)))

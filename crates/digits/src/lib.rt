@@ -1,0 +1,29 @@
+// Writing numbers in columns.
+ghost use mathlib.Core.Path.{_≡_};
+ghost use lib.ListN.{length};
+ghost use Rattle.columns.specs.Column as col;
+
+// The column of a digit that is not the last: a space where nothing is left of the number.
+fn column(m: u32) -> u8
+    ensures { λ r. ⌜ r ≡ col.mark m ⌝ }
+{
+    if m == 0 { 32 } else { 48 + (m % 10) as u8 }
+}
+
+// Writes n into the columns, from the right; of a number that does not fit, its last digits.
+pub fn write_number(out: &mut [u8], n: u32)
+    ensures { λ _. ⌜ now (out .exit) ≡ col.write (length (now (out .entry))) n ⌝ }
+{
+    let mut i = out.len();
+    if i == 0 {
+        return;
+    }
+    i -= 1;
+    out[i] = 48 + (n % 10) as u8;
+    let mut m = n / 10;
+    while 0 < i {
+        i -= 1;
+        out[i] = column(m);
+        m = m / 10;
+    }
+}
