@@ -13,12 +13,12 @@ use Rattle.columns.specs.Column.{pick, step, scan, read, shown, write}
 use Rattle.sheet.specs.Format.{base}
 use Rattle.sheet.specs.Line.{row, encode, decode, decodeNamed, decodeRow, cell, spelling, spaces, proper, padded, lettered, writes}
 use Rattle.sheet.specs.Sheet.{first, lineAt, count, line, linesFrom, lines, encodes, row1}
-use Rattle.custard.specs.Cty.{lengths, append, firsts, others, walk, gather, names-of-cty, cty-vars, size, uninline, zip, look, subst-cty}
+use Rattle.custard.specs.Cty.{TUnit, TApp, TTuple, TBuf, nil, cons, lengths, append, firsts, others, walk, gather, names-of-cty, cty-vars, size, uninline, zip, look, subst-cty}
 use Rattle.custard.specs.Decl.{has-flag, ctors-of, layout-number, table, position, member, close, close-field, close-body, close-fields}
 use Rattle.custard.specs.Erasure.{cty-erased, fields-erased, body-erased, dtype-erased, marked, rule-of, rule, update, sweep, same, settle, start-of, start, erasure-fixpoint}
 use Rattle.custard.specs.Reach.{go, cyclic}
 use Rattle.custard.specs.Layout.{slots, kept, ctor-layout, ctor-layouts, first-kept, newtype-of-ctor, newtype-of, candidate, candidates, positions, payload-names, guard-next, dropped, collapse, layout-of-body, layout-of, compute-layouts}
-use Rattle.custard.specs.Resolve.{unfold-body, unfold-dtype, unfold-of, unfolds, unfold-name, attach, instance, applied, resolve, bind, sized, within, surplus, checked-applied, checked, resolve-checked}
+use Rattle.custard.specs.Resolve.{abbreviation, fault, unfold-body, unfold-dtype, unfold-of, unfolds, unfold-name, attach, instance, applied, resolve, bind, sized, within, surplus, checked-applied, checked, resolve-checked}
 use Rattle.custard.specs.Run.{all-in, collapsed-abbrev, resolved-field, resolved-ctor, struct-body, rw-decl, record-body, record-verdict, record-of, info, somes, layouts-of, run, unfold-names, unfold-next, returns, field-types, resolves, fault-code, decl-fault}
 use Rattle.custard.specs.Program.{name-line, verdict-line, select, before, groups, list-of, tree, trees-after, trees, field-of, ctor-of, body-of, dtype-of, keeps, keeps-of, ctor-layouts-by, layout-by, info-of, decl-of, program}
 use Rattle.custard.specs.Rows.{announced, due-header, due, due-after, raw, raws, row3, params-after, row4, zeros-from, is-width, is-list, good-type, good-head, good-numbers, row5, equal, repeats, row6, last-head, kept-after, good-verdict, good-verdicts, row7}
@@ -621,3 +621,9 @@ further =
 pub further-cases : map given further ≡ map expected further
 unfolding given expected further
 further-cases = refl
+
+-- Types are also measured where they are returned: under a limit of 4 nodes a pair of `l`, which abbreviates a buffer of
+-- `unit`, is called with 3 nodes and each `l` is unfolded to 2, but the pair has 5 then.
+pub result-size : resolve-checked 4 (λ n. abbreviation [] (TBuf TUnit)) 2 (TTuple (cons (TApp 0 nil) (cons (TApp 0 nil) nil))) ≡ fault 10
+unfolding resolve-checked checked checked-applied surplus within sized bind size lengths firsts others instance subst-cty walk zip look
+result-size = refl
