@@ -1,4 +1,6 @@
 // Row 6: names that are to differ, of a sheet that passed rows 1 to 5.
+use limits::NAMES;
+use parts::LINE;
 ghost use mathlib.Core.Path.{_≡_};
 ghost use Prim.Native.Nat.{_+_, _<_, min};
 ghost use Rattle.columns.specs.Column.{pick};
@@ -7,11 +9,6 @@ ghost use Rattle.custard.specs.Program.{name-line};
 ghost use Rattle.custard.specs.Rows as rows;
 ghost use Rattle.spellings.specs.Spellings.{Ranged};
 ghost use Rattle.distinct.specs.Ways as ways;
-
-// A line's bytes, and the names of a sheet.
-const LINE: usize = 32;
-
-const NAMES: usize = 256;
 
 // The ways in which the name of a line is not to repeat that of an earlier one: the names of all
 // declarations, of the parameters of one declaration, of the fields of one constructor or record,

@@ -1,15 +1,14 @@
 // Row 4: the limits of a sheet that row 2 passed; and what the lines of a sheet that row 4 passed
 // declare: how many there are of each kind, and where each declaration begins.
+use parts::LINE;
 ghost use mathlib.Core.Path.{_≡_};
 ghost use Rattle.sheet.specs.Format.{base};
 ghost use Rattle.sheet.specs.Sheet as sheet;
 ghost use Rattle.custard.specs.Rows as rows;
 ghost use Rattle.limits.specs.Limits as limits;
 
-// A line's bytes, and document 01's limits.
-const LINE: usize = 32;
-
-const NAMES: usize = 256;
+// Document 01's limits.
+pub const NAMES: usize = 256;
 
 const ARGS: usize = 512;
 

@@ -1,4 +1,6 @@
 // Row 5: the numbers of each line are in range (document 01, "What a call returns").
+use parts::LINE;
+use parts::NUMBERS;
 ghost use mathlib.Core.Path.{_≡_};
 ghost use mathlib.Core.Bool.{_&&_};
 ghost use Prim.Native.Nat.{_<_};
@@ -6,9 +8,6 @@ ghost use Rattle.sheet.specs.Sheet as sheet;
 ghost use Rattle.custard.specs.Rows as rows;
 ghost use Rattle.ranges.specs.Ranges.{Counted, types-of, good-last};
 
-const LINE: usize = 32;
-
-const NUMBERS: usize = 5;
 // The flags' sum is at most this.
 const FLAGS: usize = 31;
 

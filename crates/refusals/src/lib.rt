@@ -1,11 +1,9 @@
 // Rows 1 to 7 of document 01's table, in the order in which they are tested, of any bytes.
 use custard::Refusal;
 use limits::Counts;
+use parts::LINE;
 ghost use mathlib.Core.Path.{_≡_};
 ghost use Rattle.refusals.specs.Rows.{refused-as, checked-of};
-
-// A line's bytes.
-const LINE: usize = 32;
 
 // The first of the rows that applies; and where none does what the sheet declares, else zeros.
 pub struct Checked {

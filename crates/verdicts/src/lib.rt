@@ -1,4 +1,5 @@
 // Row 7: keep numbers and verdicts (document 01, "What a call returns").
+use parts::LINE;
 ghost use mathlib.Core.Path.{_≡_};
 ghost use mathlib.Core.Bool.{_&&_};
 ghost use Prim.Native.Nat.{_<_};
@@ -8,8 +9,6 @@ ghost use Rattle.sheet.specs.Sheet as sheet;
 ghost use Rattle.custard.specs.Program as letters;
 ghost use Rattle.custard.specs.Rows as rows;
 ghost use Rattle.verdicts.specs.Verdicts as verdicts;
-
-const LINE: usize = 32;
 
 fn both(a: bool, b: bool) -> bool
     ensures { λ r. ⌜ r ≡ (a && b) ⌝ }
