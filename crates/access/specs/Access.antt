@@ -7,8 +7,8 @@ use lib.ListN.{getD}
 use Rattle.columns.specs.declared.Number.{Number}
 use Rattle.columns.specs.declared.Number.the-variants.{Value, Bad}
 use Rattle.columns.specs.Column.{pick}
-use Rattle.sheet.specs.Line.{cell}
-use Rattle.sheet.specs.Sheet.{count, lineAt}
+use Rattle.sheet.specs.Line.{cell, text}
+use Rattle.sheet.specs.Sheet.{count, lineAt, line}
 use Rattle.access.specs.declared.Letter.{Letter}
 use Rattle.access.specs.declared.Letter.the-variants.{Byte, Past}
 use Rattle.access.specs.declared.Cell.{Cell}
@@ -25,3 +25,7 @@ cellOf Bad = Unread
 -- number k of line i, by its columns alone
 unfoldable pub cellAt : ℕ → List ℕ → ℕ → ℕ → Cell
 cellAt w b i k = pick (ltb i (count w b)) (pick (ltb k 5) (cellOf (cell w (lineAt w b i) k)) Outside) Outside
+
+-- the text of line i: nothing where the line has none, or is past the end
+unfoldable pub textAt : ℕ → List ℕ → ℕ → List ℕ
+textAt w b i = text (line w b i)

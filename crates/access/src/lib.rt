@@ -1,9 +1,12 @@
-// The letters and numbers of a sheet's lines, of any bytes and at any place.
+// The letters, numbers and texts of a sheet's lines, of any bytes and at any place.
 use columns::Number;
+use lines::Shape;
 use parts::LINE;
 use parts::NUMBERS;
+use parts::TEXT;
 ghost use mathlib.Core.Path.{_≡_};
-ghost use Rattle.access.specs.Access.{letterAt, cellAt};
+ghost use Rattle.lines.specs.Shape.{textIn};
+ghost use Rattle.access.specs.Access.{letterAt, cellAt, textAt};
 
 // The letter of a line, or that the line is past the end.
 pub enum Letter {
@@ -43,4 +46,27 @@ pub fn number_at(s: &[u8], i: usize, k: usize) -> Cell
         Number::Value(v) => Cell::Value(v),
         Number::Bad => Cell::Bad,
     }
+}
+
+// The length of a line's text.
+fn text_in(l: Shape) -> usize
+    ensures { λ r. ⌜ r ≡ textIn l ⌝ }
+{
+    match l {
+        Shape::Named(_, k) => k,
+        Shape::Row => 0,
+        Shape::Bad => 0,
+    }
+}
+
+// The text of line i, of any bytes: the part that holds it, empty where the line has none or is past the end.
+pub fn text_at(s: &[u8], i: usize) -> &[u8]
+    ensures { λ r. ⌜ now r ≡ textAt 6 (now (s .entry)) i ⌝ }
+{
+    if i >= s.len() / LINE {
+        return &s[0..0];
+    }
+    let line = parts::line_bytes(s, i);
+    let end = TEXT + text_in(lines::read_line(line));
+    &line[TEXT..end]
 }

@@ -2,7 +2,7 @@
 -- Assumes nothing.
 use mathlib.Core.Bool.{Bool, true, false}
 use Prim.Native.Nat.{ℕ}
-use lib.Dec.{eqb, leb}
+use lib.Dec.{leb}
 use lib.ListN.{length}
 use Rattle.columns.specs.declared.Number.{Number}
 use Rattle.columns.specs.declared.Number.the-variants.{Value, Bad}
@@ -27,8 +27,8 @@ isNone (Named n k) = false
 isNone Row = false
 isNone NoLine = true
 
--- the length of the spelling of name n in a line of that shape
-abbrev pub spelledIn : ℕ → Shape → ℕ
-spelledIn n (Named m k) = pick (eqb m n) k 0
-spelledIn n Row = 0
-spelledIn n NoLine = 0
+-- the length of the text of a line of that shape
+abbrev pub textIn : Shape → ℕ
+textIn (Named n k) = k
+textIn Row = 0
+textIn NoLine = 0

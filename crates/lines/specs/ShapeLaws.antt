@@ -13,12 +13,12 @@ use Rattle.columns.specs.declared.Number.{Number}
 use Rattle.columns.specs.declared.Number.the-variants.{Value, Bad}
 use Rattle.columns.specs.Column.{pick}
 use Rattle.sheet.specs.Format.{textBytes}
-use Rattle.sheet.specs.Line.{Line, named, row, bad, spelling, spaces, proper, lettered, cell, isValue, value, decode, decodeNamed, decodeRow, isBad}
+use Rattle.sheet.specs.Line.{Line, named, row, bad, spelling, spaces, proper, lettered, cell, isValue, value, decode, decodeNamed, decodeRow, text, isBad}
 use Rattle.sheet.specs.LineLaws.{lettered-other}
-use Rattle.sheet.specs.Sheet.{lineAt, line, textOf}
+use Rattle.sheet.specs.Sheet.{lineAt, line}
 use Rattle.texts.specs.Text.{textLength}
 use Rattle.lines.specs.declared.Shape.the-variants.{Named, Row, Bad as NoLine}
-use Rattle.lines.specs.Shape.{shapeOf, namedShape, isNone, spelledIn}
+use Rattle.lines.specs.Shape.{shapeOf, namedShape, isNone, textIn}
 
 -- ---- shapes
 -- a line of name n by its text t
@@ -62,14 +62,10 @@ isBad-shape (named n t) = refl
 isBad-shape (row x ns) = refl
 isBad-shape bad = refl
 
-pub spelledIn-shape : (n : ℕ) (l : Line) → spelledIn n (shapeOf l) ≡ length (textOf n l)
-spelledIn-shape n (named m t) = go (eqb m n)
-  where
-    go : (b : Bool) → pick b (length t) 0 ≡ length (pick b t [])
-    go true = refl
-    go false = refl
-spelledIn-shape n (row x ns) = refl
-spelledIn-shape n bad = refl
+pub textIn-shape : (l : Line) → textIn (shapeOf l) ≡ length (text l)
+textIn-shape (named n t) = refl
+textIn-shape (row x ns) = refl
+textIn-shape bad = refl
 
 pub bad-at : (w : ℕ) (b : List ℕ) (i : ℕ) → isBad (line w b i) ≡ isNone (shapeOf (decode w (lineAt w b i)))
 unfolding line

@@ -1,35 +1,20 @@
 // The spellings of names, of any bytes.
-use lines::Shape;
-use parts::LINE;
-use parts::TEXT;
+use access::Cell;
 ghost use mathlib.Core.Path.{_≡_};
 ghost use Rattle.sheet.specs.Sheet.{nameText};
-ghost use Rattle.lines.specs.Shape.{spelledIn};
 
-// The length of name n's spelling in its line.
-fn spelled(l: Shape, n: usize) -> usize
-    ensures { λ r. ⌜ r ≡ spelledIn n l ⌝ }
-{
-    match l {
-        Shape::Named(m, k) => {
-            if m as usize == n {
-                return k;
-            }
-            0
-        }
-        Shape::Row => 0,
-        Shape::Bad => 0,
-    }
-}
-
-// The spelling of name n, of any bytes: the part of the sheet that holds it.
+// The spelling of name n: the part of the sheet that holds it, empty where line n is no N line of number n.
 pub fn name(s: &[u8], n: usize) -> &[u8]
     ensures { λ r. ⌜ now r ≡ nameText 6 (now (s .entry)) n ⌝ }
 {
-    if n >= s.len() / LINE {
-        return &s[0..0];
+    match access::number_at(s, n, 0) {
+        Cell::Value(m) => {
+            if m as usize == n {
+                return access::text_at(s, n);
+            }
+            &s[0..0]
+        }
+        Cell::Bad => &s[0..0],
+        Cell::Past => &s[0..0],
     }
-    let l = parts::line_bytes(s, n);
-    let end = TEXT + spelled(lines::read_line(l), n);
-    &l[TEXT..end]
 }

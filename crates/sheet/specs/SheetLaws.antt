@@ -12,7 +12,7 @@ use lib.Seq.{take-at, take-take, drop-drop, take-append-le, drop-append-le, drop
 use borrow.Author.Tests.{eq-eqb, eqb-true, ltb-true, ltb-false}
 use Rattle.columns.specs.Column.{pick}
 use Rattle.sheet.specs.Format.{lineBytes, textBytes}
-use Rattle.sheet.specs.Line.{Line, named, row, bad, spelling, decode, encode, letter, isBad}
+use Rattle.sheet.specs.Line.{Line, named, row, bad, spelling, decode, encode, letter, text, isBad}
 use Rattle.sheet.specs.Sheet.{lineAt, count, line, linesFrom, lines, encodes, row2, textOf, nameText}
 use Rattle.sheet.specs.FirstLaws.{first-le, none-first}
 use Rattle.sheet.specs.LineLaws.{Fits, spelling-take, spelling-le, decode-encode, encode-decode, encode-length, decode-fits, decode-short, letter-decode, Decoded, as-named, as-row, as-bad, decoded}
@@ -242,35 +242,24 @@ named-nameText w b n h = rw (nameText-lines w b n) (go (getD (lines w b) n bad) 
 pub nameText-encodes : (w : ℕ) (ls : List Line) (n : ℕ) → 0 < w → AllFit w ls → nameText w (encodes w ls) n ≡ textOf n (getD ls n bad)
 nameText-encodes w ls n z h = nameText-lines w (encodes w ls) n ∙ rw (lines-encodes w ls z h)
 
--- ---- the text of a name is a part of its line
+-- ---- the text of a line is a part of it
 spelling-part : (m : ℕ) (d : List ℕ) → spelling (take m d) ≡ take (length (spelling (take m d))) d
 spelling-part m d =
     let h : length (spelling (take m d)) ≤ m = omega (arith, spelling-le (take m d), length-take m d) in
     spelling-take (take m d) ∙ take-take _ m d h
 
-pub textOf-part : (w n : ℕ) (b : List ℕ) → textOf n (decode w b) ≡ take (length (textOf n (decode w b))) (drop (1 + w) b)
-textOf-part w n b = go (decoded w b)
+pub text-part : (w : ℕ) (b : List ℕ) → text (decode w b) ≡ take (length (text (decode w b))) (drop (1 + w) b)
+text-part w b = go (decoded w b)
   where
-    one : (q : Bool) → pick q (spelling (take (textBytes w) (drop (1 + w) b))) [] ≡ take (length (pick q (spelling (take (textBytes w) (drop (1 + w) b))) [])) (drop (1 + w) b)
-    one true = spelling-part (textBytes w) (drop (1 + w) b)
-    one false = refl
-
-    go : {l : Line} → Decoded w b l → textOf n l ≡ take (length (textOf n l)) (drop (1 + w) b)
-    go (as-named m z e p) = one (eqb m n)
+    go : {l : Line} → Decoded w b l → text l ≡ take (length (text l)) (drop (1 + w) b)
+    go (as-named n z e p) = spelling-part (textBytes w) (drop (1 + w) b)
     go (as-row ns z l k e) = refl
     go as-bad = refl
 
-pub textOf-le : (w n : ℕ) (b : List ℕ) → length (textOf n (decode w b)) ≤ textBytes w
-textOf-le w n b = go (decoded w b)
+pub text-le : (w : ℕ) (b : List ℕ) → length (text (decode w b)) ≤ textBytes w
+text-le w b = go (decoded w b)
   where
-    t : List ℕ
-    t = take (textBytes w) (drop (1 + w) b)
-
-    one : (q : Bool) → length (pick q (spelling t) []) ≤ textBytes w
-    one true = omega (arith, spelling-le t, length-take (textBytes w) (drop (1 + w) b))
-    one false = omega arith
-
-    go : {l : Line} → Decoded w b l → length (textOf n l) ≤ textBytes w
-    go (as-named m z e p) = one (eqb m n)
+    go : {l : Line} → Decoded w b l → length (text l) ≤ textBytes w
+    go (as-named n z e p) = omega (arith, spelling-le (take (textBytes w) (drop (1 + w) b)), length-take (textBytes w) (drop (1 + w) b))
     go (as-row ns z l k e) = omega arith
     go as-bad = omega arith

@@ -52,7 +52,7 @@ fn put_cells(s: &[u8], i: usize) {
     }
 }
 
-// Line i of any bytes: its letter, its numbers, and the name of that number.
+// Line i of any bytes: its letter, its numbers, the name of that number, and its text.
 fn put_line(s: &[u8], i: usize) {
     put(b"line");
     put_place(i);
@@ -61,6 +61,8 @@ fn put_line(s: &[u8], i: usize) {
     put_cells(s, i);
     put(b" [");
     put(names::name(s, i));
+    put(b"] [");
+    put(access::text_at(s, i));
     put(b"]\n");
 }
 
