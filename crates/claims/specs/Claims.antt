@@ -5,30 +5,22 @@
 -- and the left sheet. f is the format; `base` is document 01's own, and `Ample f` says that its limits do
 -- not outgrow its columns and the fuel, which `base-ample` shows of it. Assumes nothing.
 use mathlib.Core.Logic.{_↔_}
-use mathlib.Core.Path.{_≡_, refl, sym, _∙_, ap, subst}
+use mathlib.Core.Path.{_≡_, sym, _∙_, ap, subst}
 use mathlib.Core.List.{List, [], _∷_, _++_, map, append-nil, List·Memᴰ}
 use mathlib.Core.Bool.{Bool, true, false, not}
-use mathlib.Core.Option.{Option, none, some}
-use Prim.Native.Nat.{ℕ, zero, suc, _≤_, _<_}
+use mathlib.Core.Option.{some}
+use Prim.Native.Nat.{ℕ, suc, _≤_, _<_}
 use native.Mathlib.Omega.{arith}
 use lib.Dec.{T}
 use lib.ListN.{length, getD, drop, List·getD-append}
-use Rattle.columns.specs.Column.{pick}
-use Rattle.sheet.specs.Format.{Format, base}
+use Rattle.sheet.specs.Format.{Format}
 use Rattle.sheet.specs.Line.{Line, letter, number}
 use Rattle.sheet.specs.Sheet.{lines, encodes}
 use Rattle.custard.specs.Cty.{Cty}
 use Rattle.custard.specs.Decl.{
-  Field,
-  Ctor,
-  Dtype,
-  CtorLayout,
   NewtypeLayout,
-  Layout,
   L-newtype,
-  L-opaque,
   TypeInfo,
-  Origin,
   here,
   imported,
   Decl,
@@ -39,9 +31,9 @@ use Rattle.custard.specs.Decl.{
 }
 use Rattle.custard.specs.Erasure.{cty-erased, marked, rule, start, erasure-fixpoint}
 use Rattle.custard.specs.Reach.{Reach}
-use Rattle.custard.specs.Layout.{slots, kept, ctor-layout, ctor-layouts, guard-next}
+use Rattle.custard.specs.Layout.{ctor-layouts, guard-next}
 use Rattle.custard.specs.Resolve.{stays, resolve, ok, resolve-checked}
-use Rattle.custard.specs.Run.{fuel, info, run, layouts-of, resolves, decl-fault, returns}
+use Rattle.custard.specs.Run.{fuel, run, layouts-of, resolves, decl-fault, returns}
 use Rattle.custard.specs.Program.{type-line, program}
 use Rattle.custard.specs.Output.{verdict-lines, left-lines}
 use Rattle.custard.specs.Answer.{Answer, verdict-sheet, left-sheet, answered, answer, after}
@@ -56,8 +48,8 @@ use Rattle.custard.specs.Laws.Run.{lay, layout-of-decl, left-at, info-at, getD-
 use Rattle.custard.specs.Laws.Locality.{OwnImports, marks-local, layouts-local, info-local, left-local, fault-local, returns-local}
 use Rattle.custard.specs.Laws.Fuel.{fuel-more}
 use Rattle.custard.specs.Laws.Rename.{Injective, rename-decls, SameRenamed, locality-renamed}
-use Rattle.custard.specs.Laws.Answer.{Passes, sheets, passes-build, build-passes, accepted-passes, passes-answer, passes-accepted, Nothing, refused-nothing, after-length, after-past}
-use Rattle.custard.specs.Laws.Left.{Ample, base-ample, pass-no-return, pass-resolved, few-decls, left-sheet-names, verdict-sheet-length}
+use Rattle.custard.specs.Laws.Answer.{Passes, sheets, build-passes, accepted-passes, passes-accepted, Nothing, refused-nothing, after-length, after-past}
+use Rattle.custard.specs.Laws.Left.{Ample, pass-no-return, pass-resolved, few-decls, left-sheet-names, verdict-sheet-length}
 use Rattle.custard.specs.Laws.Build.{Split, split-steps, split-nothing, prefix-verdict, pass-whole}
 use Rattle.custard.specs.Laws.Split.{joined-parts, cut-splits, cut-first, cut-builds}
 use Rattle.claims.specs.Unerased.{unerased}

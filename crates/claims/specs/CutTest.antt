@@ -1,13 +1,13 @@
 -- A test of the cut's conditions, so that a reader can see them met. Assumes nothing.
 use mathlib.Core.Logic.{_⊎_, inl, inr, ⊎-elim}
-use mathlib.Core.Path.{_≡_, refl, sym, _∙_, ap, subst}
+use mathlib.Core.Path.{_≡_, refl, subst}
 use mathlib.Core.List.{List, [], _∷_, _++_, append-assoc, append-nil, List·Memᴰ, List·Memᴰ·not-nil, List·Memᴰ·cases-cons}
 use mathlib.Core.Bool.{Bool, true, false, _&&_, _||_, not}
-use Prim.Native.Nat.{ℕ, zero, suc, _%_, _<_}
+use Prim.Native.Nat.{ℕ, _%_}
 use native.Mathlib.Omega.{arith}
 use lib.Dec.{eqb, ltb}
 use lib.ListN.{length}
-use borrow.Author.Tests.{eqb-true, ltb-true, ltb-false, lt-ltb, le-ltb, not-true}
+use borrow.Author.Tests.{eqb-true, ltb-true, ltb-false, lt-ltb, not-true}
 use Rattle.sheet.specs.Format.{lineBytes}
 use Rattle.sheet.specs.Sheet.{first, count, lines}
 use Rattle.sheet.specs.FirstLaws.{first-le, none-first}
@@ -15,7 +15,7 @@ use Rattle.custard.specs.Decl.{Decl, position}
 use Rattle.custard.specs.Names.{Declared, undeclared}
 use Rattle.custard.specs.Program.{is-head, program}
 use Rattle.custard.specs.Rows.{raw}
-use Rattle.custard.specs.Cut.{join, Whole, Declarations, program-names, Cut}
+use Rattle.custard.specs.Cut.{join, Declarations, program-names, Cut}
 
 -- ---- the test
 -- each name is declared in ds or not in all

@@ -1,6 +1,6 @@
 // Reading numbers in columns.
 ghost use mathlib.Core.Path.{_≡_};
-ghost use Prim.Native.Nat.{ℕ, _≤_, _<_};
+ghost use Prim.Native.Nat.{_≤_, _<_};
 ghost use lib.ListN.{length};
 ghost use Rattle.columns.specs.declared.Scan.the-variants.{Blank};
 ghost use Rattle.columns.specs.Column as col;

@@ -2,18 +2,17 @@
 -- function of the sheet's bytes and the two outputs' lengths (document 01, "What a call returns").
 -- Assumes nothing.
 use mathlib.Core.List.{List, [], _∷_, _++_}
-use mathlib.Core.Bool.{Bool, true, false, _&&_, not}
-use Prim.Native.Nat.{ℕ, zero, suc, _*_}
+use mathlib.Core.Bool.{Bool, true, false, not}
+use Prim.Native.Nat.{ℕ, suc}
 use lib.Dec.{eqb, ltb}
 use lib.ListN.{length, drop}
-use Rattle.columns.specs.Column.{pick}
-use Rattle.sheet.specs.Format.{Format, lineBytes}
+use Rattle.sheet.specs.Format.{Format}
 use Rattle.sheet.specs.Line.{Line, isBad}
 use Rattle.sheet.specs.Sheet.{first, count, line, lines, encodes, row1}
 use Rattle.custard.specs.declared.Refusal.{Refusal}
 use Rattle.custard.specs.declared.Refusal.the-variants.{Accepted, Refused}
-use Rattle.custard.specs.Decl.{Decl, Layout}
-use Rattle.custard.specs.Run.{Ran, run, layouts-of, returns, decl-fault}
+use Rattle.custard.specs.Decl.{Decl}
+use Rattle.custard.specs.Run.{run, layouts-of, returns, decl-fault}
 use Rattle.custard.specs.Program.{is-head, program}
 use Rattle.custard.specs.Rows.{line-at, heads-before, raws, row3, row4, row5, row6, row7}
 use Rattle.custard.specs.Output.{verdict-lines, left-lines}

@@ -1,10 +1,8 @@
 -- Types: `cty` of the source's Syntax file, names as numbers, and the functions that only walk over a
 -- type. Lists of types are a type of their own, since a type holds them. Assumes nothing.
 use mathlib.Core.List.{List, [], _∷_, _++_}
-use mathlib.Core.Bool.{Bool, true, false}
 use Prim.Native.Nat.{ℕ, zero, suc, _+_}
 use lib.Dec.{eqb}
-use lib.ListN.{length}
 use Rattle.columns.specs.Column.{pick}
 
 -- A sign, a width, a float's kind, an effect and a reference's kind are document 01's numbers for them.

@@ -1,12 +1,12 @@
 -- Declarations and verdicts: `dtype`, `layout` and `type_info` of the source's Syntax file.
 -- Assumes nothing.
 use mathlib.Core.List.{List, [], _∷_, map}
-use mathlib.Core.Bool.{Bool, true, false, not}
+use mathlib.Core.Bool.{Bool, true, false}
 use Prim.Native.Nat.{ℕ, zero, suc, _/_, _%_}
 use lib.Dec.{eqb}
-use lib.ListN.{length, getD}
+use lib.ListN.{getD}
 use Rattle.columns.specs.Column.{pick}
-use Rattle.custard.specs.Cty.{Cty, TVar, TAny, TApp, walk, uninline}
+use Rattle.custard.specs.Cty.{Cty, TVar, TAny, TApp, walk}
 
 -- ---- declarations
 pub record Field : Type 0 where

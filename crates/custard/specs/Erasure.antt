@@ -6,7 +6,7 @@ use lib.Dec.{eqb}
 use lib.ListN.{length, getD, set}
 use Rattle.columns.specs.Column.{pick}
 use Rattle.custard.specs.Cty.{Cty, Ctys, TUnit, TAny, TExn, TVar, TInt, TFloat, TConst, TArrow, TApp, TTuple, TBuf, TRef, TInline, nil, cons}
-use Rattle.custard.specs.Decl.{Field, Ctor, Body, TAbstract, TAbbrev, TRecord, TVariant, Dtype, Erased, Realized, has-flag, Origin, here, imported, Decl, dtype-at, origin-at, position}
+use Rattle.custard.specs.Decl.{Field, Body, TAbstract, TAbbrev, TRecord, TVariant, Dtype, Erased, Realized, has-flag, Origin, here, imported, Decl, dtype-at, origin-at, position}
 
 -- Syntax's `is_pure`: ghost is 0, pure 1, impure 2
 abbrev pub is-pure : ℕ → Bool

@@ -1,11 +1,11 @@
 -- From the lines of a sheet to the program that they declare (document 01, "Sheets"). Total on every
 -- list of lines, and meant for those that pass rows 2 to 7. Assumes nothing.
 use mathlib.Core.List.{List, [], _∷_, _++_, map}
-use mathlib.Core.Bool.{Bool, true, false, _||_, not}
+use mathlib.Core.Bool.{Bool, _||_, not}
 use mathlib.Core.Option.{Option, none, some}
 use Prim.Native.Nat.{ℕ, zero, suc, _+_}
 use lib.Dec.{eqb}
-use lib.ListN.{length, getD}
+use lib.ListN.{getD}
 use Rattle.columns.specs.Column.{pick, _⇒_∥_}
 use Rattle.sheet.specs.Line.{Line, bad, letter, number}
 use Rattle.custard.specs.Cty.{Cty, Ctys, TUnit, TAny, TExn, TVar, TInt, TFloat, TConst, TArrow, TApp, TTuple, TBuf, TRef, TInline, nil, cons}
@@ -22,12 +22,10 @@ use Rattle.custard.specs.Decl.{
   CtorLayout,
   Layout,
   L-erased,
-  L-newtype,
   L-struct,
   L-abbrev,
   L-opaque,
   TypeInfo,
-  Origin,
   here,
   imported,
   Decl,

@@ -1,13 +1,13 @@
 -- Rows 3 to 7 of document 01's table, each a test on the lines of a sheet: a row's place is the first
 -- line at which its test holds. Assumes nothing.
-use mathlib.Core.List.{List, [], _∷_, _++_, map}
+use mathlib.Core.List.{List, [], _∷_, map}
 use mathlib.Core.Bool.{Bool, true, false, _&&_, _||_, not}
 use Prim.Native.Nat.{ℕ, zero, suc, _+_, _-_}
 use lib.Dec.{eqb, leb, ltb}
 use lib.ListN.{length, getD, take}
 use Rattle.columns.specs.Column.{pick, _⇒_∥_}
 use Rattle.sheet.specs.Format.{Format}
-use Rattle.sheet.specs.Line.{Line, row, bad, cell, value, letter, number, text}
+use Rattle.sheet.specs.Line.{Line, row, bad, cell, value, number, text}
 use Rattle.sheet.specs.Sheet.{first, lineAt, count}
 use Rattle.custard.specs.Decl.{table}
 use Rattle.custard.specs.declared.Due.{Due}

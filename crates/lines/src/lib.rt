@@ -5,7 +5,7 @@ use parts::LINE;
 use parts::NUMBERS;
 use parts::TEXT;
 ghost use mathlib.Core.Path.{_≡_};
-ghost use Prim.Native.Nat.{ℕ, _≤_, _<_};
+ghost use Prim.Native.Nat.{_≤_, _<_};
 ghost use lib.ListN.{length};
 ghost use Rattle.sheet.specs.Line as line;
 ghost use Rattle.lines.specs.Shape as shape;

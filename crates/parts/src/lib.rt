@@ -1,6 +1,6 @@
 // The parts of a sheet of six columns that its readers are lent: the bytes of a line, the columns of a number.
 ghost use mathlib.Core.Path.{_≡_};
-ghost use Prim.Native.Nat.{ℕ, _+_, _*_, _≤_, _<_};
+ghost use Prim.Native.Nat.{_+_, _*_, _≤_, _<_};
 ghost use lib.ListN.{length, take, drop};
 ghost use Rattle.sheet.specs.Sheet.{count, lineAt};
 

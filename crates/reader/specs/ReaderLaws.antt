@@ -5,7 +5,6 @@ use mathlib.Core.List.{List}
 use Prim.Native.Nat.{ℕ, _+_, _*_, _<_}
 use lib.ListN.{getD, take, drop}
 use Rattle.columns.specs.declared.Number.the-variants.{Value}
-use Rattle.columns.specs.Column.{read}
 use Rattle.weights.specs.Weight.{weigh, weigh-read}
 use Rattle.sheet.specs.Line.{cell, number}
 use Rattle.sheet.specs.Sheet.{count, lineAt, line, row2}

@@ -1,15 +1,15 @@
 -- One line of a sheet whose numbers have w columns (document 01, "Sheets"), its decoding and its
 -- encoding. Assumes nothing.
-use mathlib.Core.List.{List, [], _∷_, _++_, map}
-use mathlib.Core.Bool.{Bool, true, false, _&&_, not}
-use Prim.Native.Nat.{ℕ, zero, suc, _+_, _*_, _-_, _<_, _^_}
+use mathlib.Core.List.{List, [], _∷_, _++_}
+use mathlib.Core.Bool.{Bool, true, false, _&&_}
+use Prim.Native.Nat.{ℕ, _+_, _*_, _-_}
 use lib.Dec.{eqb, leb}
 use lib.ListN.{length, take, drop, getD, replicate}
 use Rattle.columns.specs.declared.Number.{Number}
 use Rattle.columns.specs.declared.Number.the-variants.{Value, Bad}
 use Rattle.columns.specs.Column.{pick, read, write}
 pub use Rattle.columns.specs.Column.{isValue}
-use Rattle.sheet.specs.Format.{lineBytes, textBytes}
+use Rattle.sheet.specs.Format.{textBytes}
 
 -- An N line: its number, and its text without the spaces after it. Any other line: its letter and
 -- five numbers. Or what no line may be.

@@ -1,19 +1,16 @@
 -- What an output holds while its parts are written one after the other, for parts of any length, and for lines of any number of columns.
 -- Assumes nothing.
-use mathlib.Core.Path.{_≡_, refl, ap, sym, _∙_}
+use mathlib.Core.Path.{_≡_, ap, sym, _∙_}
 use mathlib.Core.List.{List, [], _∷_, _++_, append-assoc, append-nil}
 use Prim.Native.Nat.{ℕ, suc, _+_, _*_, _-_, _≤_, _<_}
 use native.Mathlib.Omega.{arith}
-use native.Mathlib.Numerals.{add-one}
 use native.Mathlib.Nat.{mul-suc, mul-div-right}
-use lib.ListN.{length, take, drop, getD, set, length-append, length-take, length-drop, take-append-drop}
-use lib.Seq.{take-at, drop-at, drop-drop, set-at, drop-cons, take-suc, take-all, drop-append-add, length-take-le}
-use borrow.Rule.Slice.PartMut.{putMid, midOf, post-is}
-use Rattle.columns.specs.Column.{write}
-use Rattle.columns.specs.ColumnLaws.{write-length}
+use lib.ListN.{length, take, drop, set, length-append, length-take, length-drop, take-append-drop}
+use lib.Seq.{take-at, drop-at, drop-drop, set-at, drop-append-add, length-take-le}
+use borrow.Rule.Slice.PartMut.{putMid, post-is}
 use Rattle.sheet.specs.Format.{lineBytes}
-use Rattle.sheet.specs.Line.{Line, row, writes, decode, encode}
-use Rattle.sheet.specs.LineLaws.{Fits, decode-encode, encode-length, length-writes}
+use Rattle.sheet.specs.Line.{Line, decode, encode}
+use Rattle.sheet.specs.LineLaws.{Fits, decode-encode, encode-length}
 use Rattle.sheet.specs.Sheet.{encodes, lines, count}
 use Rattle.sheet.specs.SheetLaws.{AllFit, encodes-append, encodes-one, within-count, length-lines, lines-cons, lines-append}
 use Rattle.sheet.specs.ListLaws.{Every}

@@ -1,19 +1,18 @@
 -- The number that columns hold, by its digits alone: of columns that hold a number, without a test.
 -- Assumes nothing.
-use mathlib.Core.Path.{_≡_, refl, sym, _∙_, ap, subst}
+use mathlib.Core.Path.{_≡_, refl, _∙_, ap, subst}
 use mathlib.Core.List.{List, [], _∷_, _++_, append-assoc}
 use mathlib.Core.Bool.{Bool, true, false}
-use Prim.Native.Nat.{ℕ, zero, suc, _+_, _*_, _-_, _/_, _%_, _^_, _≤_, _<_}
+use Prim.Native.Nat.{ℕ, suc, _+_, _*_, _-_, _/_, _%_, _<_}
 use native.Mathlib.Omega.{arith}
 use native.Mathlib.Numerals.{add-one}
 use lib.Dec.{eqb}
 use lib.ListN.{length, take, getD}
 use lib.Seq.{take-suc, getD-append-seam, getD-append-add}
-use borrow.Author.Tests.{eqb-true, eqb-false}
+use borrow.Author.Tests.{eqb-true}
 use Rattle.columns.specs.declared.Scan.{Scan}
 use Rattle.columns.specs.declared.Scan.the-variants.{Blank, Zero, In, Broken}
-use Rattle.columns.specs.declared.Number.{Number}
-use Rattle.columns.specs.declared.Number.the-variants.{Value, Bad}
+use Rattle.columns.specs.declared.Number.the-variants.{Value}
 use Rattle.columns.specs.Column.{pick, digit, step, scan, told, read, mark, shown, write}
 use Rattle.columns.specs.ColumnLaws.{digit-true, shown-length, write-read}
 

@@ -1,6 +1,6 @@
 // Numbers in columns by their digits alone, where the columns are known to hold one.
 ghost use mathlib.Core.Path.{_≡_};
-ghost use Prim.Native.Nat.{ℕ, _<_};
+ghost use Prim.Native.Nat.{_<_};
 ghost use lib.ListN.{length};
 ghost use Rattle.columns.specs.declared.Number.the-variants.{Value};
 ghost use Rattle.columns.specs.Column as col;

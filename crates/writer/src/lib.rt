@@ -1,6 +1,6 @@
 // Writes lines of a letter and five numbers into the parts of an output that hold them.
 ghost use mathlib.Core.Path.{_≡_};
-ghost use Prim.Native.Nat.{ℕ, suc, _*_, _≤_};
+ghost use Prim.Native.Nat.{suc, _*_, _≤_};
 ghost use lib.ListN.{length};
 ghost use Rattle.sheet.specs.Line.{row, encode};
 ghost use Rattle.sheet.specs.Output.{putAt};

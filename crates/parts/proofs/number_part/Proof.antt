@@ -1,9 +1,7 @@
 -- `parts::number_part` meets its contract: the part has the columns of number k. Assumes nothing.
-use mathlib.Core.Path.{_≡_, _∙_}
-use Prim.Native.Nat.{_+_, _*_}
 use native.Mathlib.Nat.{add-sub-cancel-left}
 use native.Mathlib.Omega.{arith}
-use lib.ListN.{length, take, drop, length-take, length-drop}
+use lib.ListN.{length-take, length-drop}
 use borrow.Author.Needs.{needs}
 use Rattle.parts.proofs.number_part.Statement.{statement}
 use Rattle.parts.proofs.number_part.Tie as tie

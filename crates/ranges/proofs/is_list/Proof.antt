@@ -3,7 +3,7 @@ use mathlib.Core.Path.{_≡_, refl, sym}
 use Prim.Native.Nat.{_≤_, _-_}
 use native.Mathlib.Omega.{arith}
 use borrow.Author.Needs.{needs}
-use Rattle.sheet.specs.Sheet.{first, lines, line}
+use Rattle.sheet.specs.Sheet.{first, lines}
 use Rattle.ranges.specs.Ranges.{types-of}
 use Rattle.ranges.specs.RangesLaws.{too-high, list-empty, list-past, list-found, list-all, list-more, args-length, arg-type-from, names-le, args-le}
 use Rattle.ranges.proofs.is_list.Statement.{statement}
