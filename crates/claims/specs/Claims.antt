@@ -3,7 +3,7 @@
 --
 -- A sheet b is a list of bytes. v and l are the lengths of the outputs that are lent for the verdict sheet
 -- and the left sheet. f is the format; `base` is document 01's own, and `Ample f` says that its limits do
--- not outgrow its columns and the fuel, which `base-ample` shows of it. Assumes nothing.
+-- not outgrow its columns and the fuel, which `base-ample` of `Laws.Left` shows of it. Assumes nothing.
 use mathlib.Core.Logic.{_↔_}
 use mathlib.Core.Path.{_≡_, sym, _∙_, ap, subst}
 use mathlib.Core.List.{List, [], _∷_, _++_, map, append-nil, List·Memᴰ}

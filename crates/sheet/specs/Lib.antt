@@ -3,6 +3,7 @@ pub mod Line
 pub mod Sheet
 pub mod ListLaws
 pub mod FirstLaws
+pub mod LetterLaws
 pub mod LineLaws
 pub mod SheetLaws
 pub mod Output

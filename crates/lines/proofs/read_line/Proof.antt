@@ -8,8 +8,9 @@ use lib.ListN.{getD}
 use borrow.Author.Needs.{needs}
 use Rattle.sheet.specs.Line.{lettered}
 use Rattle.lines.specs.Shape.{shapeOf}
+use Rattle.sheet.specs.LetterLaws.{lettered-single, lettered-range, lettered-none}
 use Rattle.sheet.specs.LineLaws.{decode-short}
-use Rattle.lines.specs.ShapeLaws.{decode-last, decode-named, decode-row, decode-unknown, lettered-single, lettered-range, lettered-none}
+use Rattle.lines.specs.ShapeLaws.{decode-last, decode-named, decode-row, decode-unknown}
 use Rattle.lines.proofs.read_line.Statement.{statement}
 use Rattle.lines.proofs.read_line.Tie as tie
 
