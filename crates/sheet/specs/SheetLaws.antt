@@ -14,7 +14,7 @@ use Rattle.columns.specs.Column.{pick}
 use Rattle.sheet.specs.Format.{lineBytes, textBytes}
 use Rattle.sheet.specs.Line.{Line, named, row, bad, spelling, decode, encode, letter, text, isBad}
 use Rattle.sheet.specs.Sheet.{lineAt, count, line, linesFrom, lines, encodes, row2, textOf, nameText}
-use Rattle.sheet.specs.FirstLaws.{first-le, none-first}
+use Rattle.sheet.specs.FirstLaws.{none-first}
 use Rattle.sheet.specs.LineLaws.{Fits, spelling-take, spelling-le, decode-encode, encode-decode, encode-length, decode-fits, decode-short, letter-decode, Decoded, as-named, as-row, as-bad, decoded}
 use Rattle.sheet.specs.ListLaws.{length-nil, Every, every-append}
 
@@ -152,14 +152,6 @@ getD-lines w b i = go (ltb i (count w b)) refl
         List·getD-eq-default (lines w b) bad {n = i} (omega (arith, length-lines w b)) ∙ sym (line-past w b i k)
 
 -- ---- row 2
-pub row2-le : (w : ℕ) (b : List ℕ) → row2 w b ≤ count w b
-unfolding row2
-row2-le w b = first-le (λ i. isBad (line w b i)) (count w b)
-
--- a place that is no line: row 2 passed the sheet
-pub row2-passed : (w : ℕ) (b : List ℕ) (r : ℕ) → r ≡ row2 w b → count w b ≤ r → row2 w b ≡ count w b
-row2-passed w b r e h = omega (arith, row2-le w b)
-
 -- a sheet that row 2 passed
 module _ (w : ℕ) (b : List ℕ) (good : row2 w b ≡ count w b) where
   pub line-good : (i : ℕ) → i < count w b → isBad (line w b i) ≡ false
