@@ -1,4 +1,5 @@
 // Copies lines into the parts of an output that hold them.
+use parts::LINE;
 ghost use mathlib.Core.Path.{_≡_};
 ghost use Prim.Native.Nat.{suc, _*_, _≤_};
 ghost use lib.ListN.{length};
@@ -19,6 +20,6 @@ pub fn line_at(out: &mut [u8], i: usize, line: &[u8])
     requires { ⌜ (32 * suc i ≤ length (now out)) × (length (now line) ≡ 32) ⌝ }
     ensures { λ _. ⌜ now (out .exit) ≡ putAt 6 (now (out .entry)) i (now (line .entry)) ⌝ }
 {
-    let start = i * 32;
-    copy_line(&mut out[start..start + 32], line);
+    let start = i * LINE;
+    copy_line(&mut out[start..start + LINE], line);
 }

@@ -5,7 +5,7 @@ ghost use lib.ListN.{length, take, drop};
 ghost use Rattle.sheet.specs.Sheet.{count, lineAt};
 
 // The columns of a number.
-const COLUMNS: usize = 6;
+pub const COLUMNS: usize = 6;
 
 // The numbers of a line.
 pub const NUMBERS: usize = 5;

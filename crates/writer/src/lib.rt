@@ -5,6 +5,10 @@ ghost use lib.ListN.{length};
 ghost use Rattle.sheet.specs.Line.{row, encode};
 ghost use Rattle.sheet.specs.Output.{putAt};
 use digits::write_number;
+use parts::COLUMNS;
+use parts::LAST;
+use parts::LINE;
+use parts::NUMBERS;
 
 // A line of a letter and five numbers, into the 32 bytes that hold it.
 pub fn put_row(out: &mut [u8], letter: u8, numbers: [u32; 5])
@@ -13,12 +17,12 @@ pub fn put_row(out: &mut [u8], letter: u8, numbers: [u32; 5])
 {
     out[0] = letter;
     let mut at: usize = 1;
-    for i in 0..5 {
-        let end = at + 6;
+    for i in 0..NUMBERS {
+        let end = at + COLUMNS;
         write_number(&mut out[at..end], numbers[i]);
         at = end;
     }
-    out[31] = 10;
+    out[LAST] = 10;
 }
 
 // A line of a letter and five numbers, as line i of a larger output.
@@ -26,6 +30,6 @@ pub fn row_at(out: &mut [u8], i: usize, letter: u8, numbers: [u32; 5])
     requires { ⌜ 32 * suc i ≤ length (now out) ⌝ }
     ensures { λ _. ⌜ now (out .exit) ≡ putAt 6 (now (out .entry)) i (encode 6 (row letter numbers)) ⌝ }
 {
-    let at = i * 32;
-    put_row(&mut out[at..at + 32], letter, numbers);
+    let at = i * LINE;
+    put_row(&mut out[at..at + LINE], letter, numbers);
 }
