@@ -16,8 +16,8 @@ use lib.ListN.{length, getD, drop, List·getD-append}
 use Rattle.sheet.specs.Format.{Format}
 use Rattle.sheet.specs.Line.{Line, letter, number}
 use Rattle.sheet.specs.Sheet.{lines, encodes}
-use Rattle.custard.specs.Cty.{Cty}
-use Rattle.custard.specs.Decl.{
+use Rattle.model.specs.Cty.{Cty}
+use Rattle.model.specs.Decl.{
   NewtypeLayout,
   L-newtype,
   TypeInfo,
@@ -29,29 +29,29 @@ use Rattle.custard.specs.Decl.{
   position,
   ctors-of-tydef,
 }
-use Rattle.custard.specs.Erasure.{cty-erased, marked, rule, start, erasure-fixpoint}
-use Rattle.custard.specs.Reach.{Reach}
-use Rattle.custard.specs.Layout.{ctor-layouts, guard-next}
-use Rattle.custard.specs.Resolve.{stays, resolve, ok, resolve-checked}
-use Rattle.custard.specs.Run.{fuel, run, layouts-of, resolves, decl-fault, returns}
-use Rattle.custard.specs.Program.{type-line, program}
-use Rattle.custard.specs.Output.{verdict-lines, left-lines}
-use Rattle.custard.specs.Answer.{Answer, verdict-sheet, left-sheet, answered, answer, after}
-use Rattle.custard.specs.Names.{Declared, Agree}
-use Rattle.custard.specs.Cut.{Sheets, build, builds, join, Cut}
-use Rattle.custard.specs.Laws.Rounds.{Made}
-use Rattle.custard.specs.Laws.Erasure.{locals, erasure-solves, erasure-least, erasure-made, erasure-rounds}
-use Rattle.custard.specs.Laws.Layout.{Candidate, candidates-of}
-use Rattle.custard.specs.Laws.Layout as layouts
-use Rattle.custard.specs.Laws.Cty.{every-mem}
-use Rattle.custard.specs.Laws.Run.{lay, layout-of-decl, left-at, info-at, getD-infos}
-use Rattle.custard.specs.Laws.Locality.{OwnImports, marks-local, layouts-local, info-local, left-local, fault-local, returns-local}
-use Rattle.custard.specs.Laws.Fuel.{fuel-more}
-use Rattle.custard.specs.Laws.Rename.{Injective, rename-decls, SameRenamed, locality-renamed}
-use Rattle.custard.specs.Laws.Answer.{Passes, sheets, build-passes, accepted-passes, passes-accepted, Nothing, refused-nothing, after-length, after-past}
-use Rattle.custard.specs.Laws.Left.{Ample, pass-no-return, pass-resolved, few-decls, left-sheet-names, verdict-sheet-length}
-use Rattle.custard.specs.Laws.Build.{Split, split-steps, split-nothing, prefix-verdict, pass-whole}
-use Rattle.custard.specs.Laws.Split.{joined-parts, cut-splits, cut-first, cut-builds}
+use Rattle.model.specs.Erasure.{cty-erased, marked, rule, start, erasure-fixpoint}
+use Rattle.model.specs.Reach.{Reach}
+use Rattle.model.specs.Layout.{ctor-layouts, guard-next}
+use Rattle.model.specs.Resolve.{stays, resolve, ok, resolve-checked}
+use Rattle.model.specs.Run.{fuel, run, layouts-of, resolves, decl-fault, returns}
+use Rattle.meaning.specs.Program.{type-line, program}
+use Rattle.meaning.specs.Output.{verdict-lines, left-lines}
+use Rattle.answer.specs.Answer.{Answer, verdict-sheet, left-sheet, answered, answer, after}
+use Rattle.model.specs.Names.{Declared, Agree}
+use Rattle.answer.specs.Cut.{Sheets, build, builds, join, Cut}
+use Rattle.model.specs.Laws.Rounds.{Made}
+use Rattle.model.specs.Laws.Erasure.{locals, erasure-solves, erasure-least, erasure-made, erasure-rounds}
+use Rattle.model.specs.Laws.Layout.{Candidate, candidates-of}
+use Rattle.model.specs.Laws.Layout as layouts
+use Rattle.model.specs.Laws.Cty.{every-mem}
+use Rattle.model.specs.Laws.Run.{lay, layout-of-decl, left-at, info-at, getD-infos}
+use Rattle.locality.specs.Laws.Locality.{OwnImports, marks-local, layouts-local, info-local, left-local, fault-local, returns-local}
+use Rattle.locality.specs.Laws.Fuel.{fuel-more}
+use Rattle.locality.specs.Laws.Rename.{Injective, rename-decls, SameRenamed, locality-renamed}
+use Rattle.answer.specs.Laws.Answer.{Passes, sheets, build-passes, accepted-passes, passes-accepted, Nothing, refused-nothing, after-length, after-past}
+use Rattle.answer.specs.Laws.Left.{Ample, pass-no-return, pass-resolved, few-decls, left-sheet-names, verdict-sheet-length}
+use Rattle.answer.specs.Laws.Build.{Split, split-steps, split-nothing, prefix-verdict, pass-whole}
+use Rattle.answer.specs.Laws.Split.{joined-parts, cut-splits, cut-first, cut-builds}
 use Rattle.claims.specs.Unerased.{unerased}
 use Rattle.claims.specs.ClaimsLaws.{
   true-of,

@@ -10,17 +10,17 @@ use lib.ListN.{getD}
 use Rattle.columns.specs.Column.{pick}
 use Rattle.sheet.specs.Format.{Format}
 use Rattle.sheet.specs.Sheet.{lines}
-use Rattle.custard.specs.Cty.{Cty}
-use Rattle.custard.specs.Decl.{Field, Ctor, CtorLayout, TypeInfo, Origin, here, imported, Decl, dtype-at, origin-at}
-use Rattle.custard.specs.Erasure.{cty-erased, marked, erasure-fixpoint}
-use Rattle.custard.specs.Layout.{slots, kept, ctor-layout, ctor-layouts}
-use Rattle.custard.specs.Run.{info, run}
-use Rattle.custard.specs.Program.{program}
-use Rattle.custard.specs.Answer.{Answer, verdict-sheet, left-sheet, answered, answer}
-use Rattle.custard.specs.Cut.{Sheets, build}
-use Rattle.custard.specs.Laws.Run.{info-at, left-at, layout-of-decl}
-use Rattle.custard.specs.Laws.Answer.{sheets, passes-build, build-passes, accepted-passes, passes-answer}
-use Rattle.custard.specs.Laws.Build.{Split, split-steps}
+use Rattle.model.specs.Cty.{Cty}
+use Rattle.model.specs.Decl.{Field, Ctor, CtorLayout, TypeInfo, Origin, here, imported, Decl, dtype-at, origin-at}
+use Rattle.model.specs.Erasure.{cty-erased, marked, erasure-fixpoint}
+use Rattle.model.specs.Layout.{slots, kept, ctor-layout, ctor-layouts}
+use Rattle.model.specs.Run.{info, run}
+use Rattle.meaning.specs.Program.{program}
+use Rattle.answer.specs.Answer.{Answer, verdict-sheet, left-sheet, answered, answer}
+use Rattle.answer.specs.Cut.{Sheets, build}
+use Rattle.model.specs.Laws.Run.{info-at, left-at, layout-of-decl}
+use Rattle.answer.specs.Laws.Answer.{sheets, passes-build, build-passes, accepted-passes, passes-answer}
+use Rattle.answer.specs.Laws.Build.{Split, split-steps}
 use Rattle.claims.specs.Unerased.{unerased}
 
 pub true-of : (b : Bool) → T b → b ≡ true

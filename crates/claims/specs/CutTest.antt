@@ -11,11 +11,11 @@ use borrow.Author.Tests.{eqb-true, ltb-true, ltb-false, lt-ltb, not-true}
 use Rattle.sheet.specs.Format.{lineBytes}
 use Rattle.sheet.specs.Sheet.{first, count, lines}
 use Rattle.sheet.specs.FirstLaws.{first-le, none-first}
-use Rattle.custard.specs.Decl.{Decl, position}
-use Rattle.custard.specs.Names.{Declared, undeclared}
-use Rattle.custard.specs.Program.{is-head, program}
-use Rattle.custard.specs.Rows.{raw}
-use Rattle.custard.specs.Cut.{join, Declarations, program-names, Cut}
+use Rattle.model.specs.Decl.{Decl, position}
+use Rattle.model.specs.Names.{Declared, undeclared}
+use Rattle.meaning.specs.Program.{is-head, program}
+use Rattle.meaning.specs.Rows.{raw}
+use Rattle.answer.specs.Cut.{join, Declarations, program-names, Cut}
 
 -- ---- the test
 -- each name is declared in ds or not in all

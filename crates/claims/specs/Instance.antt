@@ -9,13 +9,13 @@ use Rattle.columns.specs.Column.{step, scan, read}
 use Rattle.sheet.specs.Format.{base}
 use Rattle.sheet.specs.Line.{decode, decodeNamed, decodeRow, cell, spelling, spaces, proper, lettered}
 use Rattle.sheet.specs.Sheet.{first, lineAt, line, linesFrom, lines}
-use Rattle.custard.specs.Cty.{walk, gather, names-of-cty}
-use Rattle.custard.specs.Decl.{table, position, member, close, close-field, close-body, close-fields}
-use Rattle.custard.specs.Names.{fields-names, ctors-names, body-names, dtype-names, undeclared}
-use Rattle.custard.specs.Program.{select, before, groups, list-of, tree, trees-after, trees, field-of, ctor-of, body-of, dtype-of, decl-of, program}
-use Rattle.custard.specs.Rows.{raw}
-use Rattle.custard.specs.Cases.{Case, summary, codes, pad, bytes, joined, given, expected}
-use Rattle.custard.specs.Cut.{build, builds, join, program-names}
+use Rattle.model.specs.Cty.{walk, gather, names-of-cty}
+use Rattle.model.specs.Decl.{table, position, member, close, close-field, close-body, close-fields}
+use Rattle.model.specs.Names.{fields-names, ctors-names, body-names, dtype-names, undeclared}
+use Rattle.meaning.specs.Program.{select, before, groups, list-of, tree, trees-after, trees, field-of, ctor-of, body-of, dtype-of, decl-of, program}
+use Rattle.meaning.specs.Rows.{raw}
+use Rattle.answer.specs.Cases.{Case, summary, codes, pad, bytes, joined, given, expected}
+use Rattle.answer.specs.Cut.{build, builds, join, program-names}
 use Rattle.claims.specs.CutTest.{names-test, unit-test, units-test, cut-test, cut-met}
 use Rattle.claims.specs.Claims.{cut}
 

@@ -3,8 +3,8 @@ use mathlib.Core.List.{List, [], _∷_}
 use mathlib.Core.Bool.{Bool}
 use Prim.Native.Nat.{ℕ}
 use Rattle.columns.specs.Column.{pick}
-use Rattle.custard.specs.Decl.{Field}
-use Rattle.custard.specs.Erasure.{cty-erased}
+use Rattle.model.specs.Decl.{Field}
+use Rattle.model.specs.Erasure.{cty-erased}
 
 -- the fields whose types are not erased, in order
 unfoldable pub unerased : (ℕ → Bool) → List Field → List Field

@@ -5,8 +5,8 @@ use Prim.Native.Nat.{ℕ, zero, suc, _+_}
 use lib.Dec.{eqb}
 use Rattle.columns.specs.Column.{_⇒_∥_}
 use Rattle.sheet.specs.Line.{Line, number}
-use Rattle.custard.specs.Program.{param-line, ctor-line, field-line, is, is-head}
-use Rattle.custard.specs.Rows.{some-below, line-at, count-before, heads-before, is-ctor, same-decl, same-ctor}
+use Rattle.meaning.specs.Program.{param-line, ctor-line, field-line, is, is-head}
+use Rattle.meaning.specs.Rows.{some-below, line-at, count-before, heads-before, is-ctor, same-decl, same-ctor}
 use Rattle.limits.specs.Limits.{head-letter}
 use Rattle.distinct.specs.declared.Way.{Way}
 use Rattle.distinct.specs.declared.Way.the-variants.{Declared, Parameters, Fields, Constructors}

@@ -16,8 +16,8 @@ use Rattle.sheet.specs.Sheet.{first, count, line, lines}
 use Rattle.sheet.specs.SheetLaws.{length-lines, getD-lines}
 use Rattle.sheet.specs.FirstLaws.{first-congr, none-first}
 use Rattle.sheet.specs.ListLaws.{both}
-use Rattle.custard.specs.Program.{name-line, param-line, ctor-line, field-line, is, is-head, select}
-use Rattle.custard.specs.Rows.{
+use Rattle.meaning.specs.Program.{name-line, param-line, ctor-line, field-line, is, is-head, select}
+use Rattle.meaning.specs.Rows.{
   some-below,
   line-at,
   count-of,

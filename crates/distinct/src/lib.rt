@@ -5,8 +5,8 @@ ghost use mathlib.Core.Path.{_≡_};
 ghost use Prim.Native.Nat.{_+_, _<_, min};
 ghost use Rattle.columns.specs.Column.{pick};
 ghost use Rattle.sheet.specs.Sheet as sheet;
-ghost use Rattle.custard.specs.Program.{name-line};
-ghost use Rattle.custard.specs.Rows as rows;
+ghost use Rattle.meaning.specs.Program.{name-line};
+ghost use Rattle.meaning.specs.Rows as rows;
 ghost use Rattle.spellings.specs.Spellings.{Ranged};
 ghost use Rattle.distinct.specs.Ways as ways;
 

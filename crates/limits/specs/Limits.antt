@@ -9,8 +9,8 @@ use Rattle.columns.specs.Column.{_⇒_∥_}
 use Rattle.sheet.specs.Format.{Format, base}
 use Rattle.sheet.specs.Line.{Line}
 use Rattle.sheet.specs.Sheet.{first, count, lines, row1, row2}
-use Rattle.custard.specs.Decl.{table}
-use Rattle.custard.specs.Program.{
+use Rattle.model.specs.Decl.{table}
+use Rattle.meaning.specs.Program.{
   name-line,
   arg-line,
   type-line,
@@ -20,7 +20,7 @@ use Rattle.custard.specs.Program.{
   ctor-line,
   field-line,
 }
-use Rattle.custard.specs.Rows.{count-of, count-before, heads-before, params-after, row4}
+use Rattle.meaning.specs.Rows.{count-of, count-before, heads-before, params-after, row4}
 use Rattle.limits.specs.declared.Tally.{Tally}
 use Rattle.limits.specs.declared.Counts.{Counts}
 

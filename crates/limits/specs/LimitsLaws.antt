@@ -17,13 +17,13 @@ use Rattle.sheet.specs.Line.{Line, letter}
 use Rattle.sheet.specs.Sheet.{first, count, line, lines, row1}
 use Rattle.sheet.specs.SheetLaws.{length-lines, getD-lines}
 use Rattle.sheet.specs.FirstLaws.{Place, first-place, first-le-at, first-found, first-none, none-first}
-use Rattle.custard.specs.Decl.{table}
-use Rattle.custard.specs.Program.{name-line, arg-line, type-line, param-line, ctor-line, field-line, is, is-head, select}
-use Rattle.custard.specs.Rows.{line-at, count-before, heads-before, params-after, row4}
+use Rattle.model.specs.Decl.{table}
+use Rattle.meaning.specs.Program.{name-line, arg-line, type-line, param-line, ctor-line, field-line, is, is-head, select}
+use Rattle.meaning.specs.Rows.{line-at, count-before, heads-before, params-after, row4}
 use Rattle.order.specs.StepLaws.{count-before-step, heads-before-step, params-after-suc, count-before-le, heads-before-le, params-after-le, heads-before-mono}
 use Rattle.limits.specs.declared.Tally.{Tally}
 use Rattle.limits.specs.Limits.{head-letter, none, tally-before, counted, past, Small, start, starts-of, counts-of, Kept}
-use Rattle.custard.specs.Laws.Lists.{length-table, getD-table}
+use Rattle.model.specs.Laws.Lists.{length-table, getD-table}
 
 -- ---- letters
 -- a letter by the kind of its lines

@@ -4,7 +4,7 @@ use parts::LINE;
 ghost use mathlib.Core.Path.{_≡_};
 ghost use Rattle.sheet.specs.Format.{base};
 ghost use Rattle.sheet.specs.Sheet as sheet;
-ghost use Rattle.custard.specs.Rows as rows;
+ghost use Rattle.meaning.specs.Rows as rows;
 ghost use Rattle.limits.specs.Limits as limits;
 
 // Document 01's limits.

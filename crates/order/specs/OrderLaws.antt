@@ -14,11 +14,11 @@ use Rattle.sheet.specs.Line.{Line, letter, number}
 use Rattle.sheet.specs.Sheet.{first, count, line, lines, row2}
 use Rattle.sheet.specs.FirstLaws.{first-congr}
 use Rattle.sheet.specs.SheetLaws.{length-lines, getD-lines, line-good}
-use Rattle.custard.specs.declared.Due.{Due}
-use Rattle.custard.specs.declared.Due.the-variants.{Header, Within, Broken}
-use Rattle.custard.specs.Rows.{line-at, raws, announced, due-header, due, due-after, is-broken, is-within, row3}
+use Rattle.meaning.specs.declared.Due.{Due}
+use Rattle.meaning.specs.declared.Due.the-variants.{Header, Within, Broken}
+use Rattle.meaning.specs.Rows.{line-at, raws, announced, due-header, due, due-after, is-broken, is-within, row3}
 use Rattle.order.specs.StepLaws.{due-after-suc}
-use Rattle.custard.specs.Laws.Rows.{row3-inside, row3-past, row3-raws}
+use Rattle.meaning.specs.Laws.Rows.{row3-inside, row3-past, row3-raws}
 
 less : (n : ℕ) → suc n - 1 ≡ n
 less n = omega arith

@@ -10,9 +10,9 @@ use lib.Seq.{take-suc}
 use borrow.Author.Tests.{eqb-true, leb-true, leb-false}
 use Rattle.columns.specs.Column.{pick}
 use Rattle.sheet.specs.Line.{Line, bad, letter, number}
-use Rattle.custard.specs.declared.Due.{Due}
-use Rattle.custard.specs.Program.{local-line, import-line, param-line, field-line, is, is-head, select}
-use Rattle.custard.specs.Rows.{
+use Rattle.meaning.specs.declared.Due.{Due}
+use Rattle.meaning.specs.Program.{local-line, import-line, param-line, field-line, is, is-head, select}
+use Rattle.meaning.specs.Rows.{
   line-at,
   count-of,
   count-before,
@@ -23,8 +23,8 @@ use Rattle.custard.specs.Rows.{
   last-head,
   kept-after,
 }
-use Rattle.custard.specs.Laws.Program.{select-append}
-use Rattle.custard.specs.Laws.Rows.{due-after-append, last-head-append, kept-after-append}
+use Rattle.meaning.specs.Laws.Program.{select-append}
+use Rattle.meaning.specs.Laws.Rows.{due-after-append, last-head-append, kept-after-append}
 
 -- ---- how many lines of a letter
 one : (x : ℕ) (l : Line) → count-of x (l ∷ []) ≡ pick (is x l) 1 0

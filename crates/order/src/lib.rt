@@ -1,12 +1,12 @@
 // Row 3: the order of a sheet's lines and their counts, of a sheet that row 2 passed.
-use custard::Due;
+use meaning::Due;
 use parts::LINE;
 ghost use mathlib.Core.Path.{_≡_};
 ghost use Prim.Native.Nat.{suc};
 ghost use lib.Dec.{leb};
 ghost use Rattle.columns.specs.Column.{pick};
 ghost use Rattle.sheet.specs.Sheet as sheet;
-ghost use Rattle.custard.specs.Rows as rows;
+ghost use Rattle.meaning.specs.Rows as rows;
 
 // What a D or I line announces, by its body kind, count of parameters and last number.
 fn announced(kind: u32, params: u32, last: u32) -> Due

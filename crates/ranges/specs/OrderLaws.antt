@@ -14,13 +14,13 @@ use Rattle.sheet.specs.Line.{Line, bad, letter, number}
 use Rattle.sheet.specs.Sheet.{first, count, line, linesFrom, lines, row2}
 use Rattle.sheet.specs.FirstLaws.{none-first}
 use Rattle.sheet.specs.ListLaws.{false-true}
-use Rattle.custard.specs.declared.Due.{Due}
-use Rattle.custard.specs.declared.Due.the-variants.{Header, Within, Broken}
-use Rattle.custard.specs.Decl.{table}
-use Rattle.custard.specs.Program.{name-line, arg-line, type-line, param-line, field-line, ctor-line, verdict-line, is, select}
-use Rattle.custard.specs.Rows.{count-of, count-before, raw, raws, announced, due-header, due, due-after, is-broken, row3}
+use Rattle.meaning.specs.declared.Due.{Due}
+use Rattle.meaning.specs.declared.Due.the-variants.{Header, Within, Broken}
+use Rattle.model.specs.Decl.{table}
+use Rattle.meaning.specs.Program.{name-line, arg-line, type-line, param-line, field-line, ctor-line, verdict-line, is, select}
+use Rattle.meaning.specs.Rows.{count-of, count-before, raw, raws, announced, due-header, due, due-after, is-broken, row3}
 use Rattle.sheet.specs.SheetLaws.{letter-good}
-use Rattle.custard.specs.Laws.Lists.{length-table}
+use Rattle.model.specs.Laws.Lists.{length-table}
 
 -- ---- order
 -- a letter's place in a sheet: N, A, Y, and then declarations

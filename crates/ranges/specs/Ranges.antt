@@ -7,8 +7,8 @@ use lib.Dec.{eqb, ltb}
 use Rattle.columns.specs.Column.{_⇒_∥_}
 use Rattle.sheet.specs.Line.{Line, number}
 use Rattle.sheet.specs.Sheet.{first, count, lines, row2}
-use Rattle.custard.specs.Program.{name-line, arg-line, type-line, select}
-use Rattle.custard.specs.Rows.{count-of, raws, row3}
+use Rattle.meaning.specs.Program.{name-line, arg-line, type-line, select}
+use Rattle.meaning.specs.Rows.{count-of, raws, row3}
 
 -- The bytes passed rows 2 and 3, and have so many N, A and Y lines.
 pub record Counted (b : List ℕ) (names args types : ℕ) : Type 0 where

@@ -11,8 +11,8 @@ use Rattle.sheet.specs.Line.{Line, bad, letter, number}
 use Rattle.sheet.specs.Sheet.{first, count, line, lines}
 use Rattle.sheet.specs.FirstLaws.{first-none, none-first, first-le-at, first-more}
 use Rattle.sheet.specs.SheetLaws.{length-lines, getD-lines}
-use Rattle.custard.specs.Program.{name-line, arg-line, type-line, select}
-use Rattle.custard.specs.Rows.{some-below, count-before, zeros-from, is-list, good-type}
+use Rattle.meaning.specs.Program.{name-line, arg-line, type-line, select}
+use Rattle.meaning.specs.Rows.{some-below, count-before, zeros-from, is-list, good-type}
 use Rattle.ranges.specs.Ranges.{Counted, types-of}
 use Rattle.ranges.specs.OrderLaws.{ordered-lines, arg-at, name-before, type-before, count-of-le}
 

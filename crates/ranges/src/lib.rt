@@ -5,7 +5,7 @@ ghost use mathlib.Core.Path.{_≡_};
 ghost use mathlib.Core.Bool.{_&&_};
 ghost use Prim.Native.Nat.{_<_};
 ghost use Rattle.sheet.specs.Sheet as sheet;
-ghost use Rattle.custard.specs.Rows as rows;
+ghost use Rattle.meaning.specs.Rows as rows;
 ghost use Rattle.ranges.specs.Ranges.{Counted, types-of, good-last};
 
 // The flags' sum is at most this.

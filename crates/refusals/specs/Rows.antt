@@ -7,10 +7,10 @@ use lib.ListN.{replicate}
 use Rattle.sheet.specs.Format.{Format, base}
 use Rattle.sheet.specs.Line.{Line, isBad}
 use Rattle.sheet.specs.Sheet.{first, count, line, lines, row1, row2}
-use Rattle.custard.specs.declared.Refusal.{Refusal}
-use Rattle.custard.specs.declared.Refusal.the-variants.{Accepted, Refused}
-use Rattle.custard.specs.Rows.{raws, row3, row4, row5, row6, row7}
-use Rattle.custard.specs.Answer.{Row, line-row, whole-row, refusal}
+use Rattle.answer.specs.declared.Refusal.{Refusal}
+use Rattle.answer.specs.declared.Refusal.the-variants.{Accepted, Refused}
+use Rattle.meaning.specs.Rows.{raws, row3, row4, row5, row6, row7}
+use Rattle.answer.specs.Answer.{Row, line-row, whole-row, refusal}
 use Rattle.limits.specs.declared.Counts.{Counts}
 use Rattle.limits.specs.Limits.{counts-of}
 use Rattle.refusals.specs.declared.Checked.{Checked}

@@ -1,5 +1,5 @@
 // Rows 1 to 7 of document 01's table, in the order in which they are tested, of any bytes.
-use custard::Refusal;
+use answer::Refusal;
 use limits::Counts;
 use parts::LINE;
 ghost use mathlib.Core.Path.{_≡_};

@@ -1,7 +1,7 @@
 // Tests rows 1 to 7 on each sheet that an argument names, and writes a line R with the code and the
 // place; where no row applies, a line with the counts of N, A and Y lines and of declarations, and
 // the line at which the last declaration begins.
-use custard::Refusal;
+use answer::Refusal;
 use libc::STDOUT_FILENO;
 
 fn shown(n: usize) -> u32 {

@@ -7,7 +7,7 @@ use lib.Dec.{ltb}
 use borrow.Author.Tests.{lt-ltb, le-ltb, ltb-true, ltb-false}
 use Rattle.sheet.specs.Sheet.{first}
 use Rattle.sheet.specs.FirstLaws.{Place, first-place, place-unique, first-congr, first-found}
-use Rattle.custard.specs.Rows.{some-below}
+use Rattle.meaning.specs.Rows.{some-below}
 
 -- ---- tests of some number below n
 pub some-zero : (p : ℕ → Bool) → some-below p 0 ≡ false

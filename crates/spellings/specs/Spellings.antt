@@ -7,8 +7,8 @@ use lib.ListN.{take, drop}
 use Rattle.sheet.specs.Format.{base, textBytes}
 use Rattle.sheet.specs.Line.{Line, text}
 use Rattle.sheet.specs.Sheet.{first, count, lineAt, lines, row1, row2}
-use Rattle.custard.specs.Program.{name-line, is}
-use Rattle.custard.specs.Rows.{some-below, line-at, raws, row3, row4, row5, equal}
+use Rattle.meaning.specs.Program.{name-line, is}
+use Rattle.meaning.specs.Rows.{some-below, line-at, raws, row3, row4, row5, equal}
 
 -- the bytes passed rows 1 to 5
 pub record Ranged (b : List ℕ) : Type 0 where

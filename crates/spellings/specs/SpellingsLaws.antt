@@ -16,8 +16,8 @@ use Rattle.sheet.specs.Line.{Line, named, row, bad, lettered, padded, encode, l
 use Rattle.sheet.specs.LineLaws.{Graphic, Fits, length-padded, decode-fits}
 use Rattle.sheet.specs.Sheet.{first, count, lineAt, line, lines}
 use Rattle.sheet.specs.SheetLaws.{length-lines, getD-lines, encode-line, line-good}
-use Rattle.custard.specs.Program.{name-line, is}
-use Rattle.custard.specs.Rows.{some-below, line-at, count-of, count-before, equal}
+use Rattle.meaning.specs.Program.{name-line, is}
+use Rattle.meaning.specs.Rows.{some-below, line-at, count-of, count-before, equal}
 use Rattle.sheet.specs.FirstLaws.{none-first, first-none}
 use Rattle.order.specs.StepLaws.{count-before-step, count-before-le, count-before-mono}
 use Rattle.ranges.specs.OrderLaws.{Ordered, ordered-lines, name-before}

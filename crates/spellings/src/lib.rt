@@ -4,8 +4,8 @@ use parts::TEXT;
 ghost use mathlib.Core.Path.{_≡_};
 ghost use Prim.Native.Nat.{_<_};
 ghost use Rattle.sheet.specs.Sheet as sheet;
-ghost use Rattle.custard.specs.Program.{name-line};
-ghost use Rattle.custard.specs.Rows as rows;
+ghost use Rattle.meaning.specs.Program.{name-line};
+ghost use Rattle.meaning.specs.Rows as rows;
 ghost use Rattle.spellings.specs.Spellings.{Ranged, textAt, spelled-before};
 ghost use Rattle.spellings.specs.Spellings as spellings;
 

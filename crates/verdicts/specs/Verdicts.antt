@@ -4,8 +4,8 @@ use Prim.Native.Nat.{ℕ, suc}
 use lib.Dec.{eqb, leb}
 use Rattle.columns.specs.Column.{pick, _⇒_∥_}
 use Rattle.sheet.specs.Line.{Line, number}
-use Rattle.custard.specs.Program.{import-line, field-line, verdict-line, is, is-head}
-use Rattle.custard.specs.Rows.{good-verdict}
+use Rattle.meaning.specs.Program.{import-line, field-line, verdict-line, is, is-head}
+use Rattle.meaning.specs.Rows.{good-verdict}
 
 -- a record, or a variant of one constructor, by body kind and last number
 abbrev pub one-ctor : ℕ → ℕ → Bool

@@ -14,10 +14,10 @@ use Rattle.columns.specs.Column.{pick, _⇒_∥_}
 use Rattle.sheet.specs.Line.{Line, bad, number}
 use Rattle.sheet.specs.Sheet.{count, line, lines}
 use Rattle.sheet.specs.SheetLaws.{length-lines, getD-lines, line-past}
-use Rattle.custard.specs.Program.{import-line, field-line, verdict-line, is, is-head}
-use Rattle.custard.specs.Rows.{last-head, kept-after, good-verdicts, row7}
+use Rattle.meaning.specs.Program.{import-line, field-line, verdict-line, is, is-head}
+use Rattle.meaning.specs.Rows.{last-head, kept-after, good-verdicts, row7}
 use Rattle.verdicts.specs.Verdicts.{has-ctors, good-line, kept-at}
-use Rattle.custard.specs.Laws.Rows.{last-head-append, kept-after-append}
+use Rattle.meaning.specs.Laws.Rows.{last-head-append, kept-after-append}
 
 -- ---- body kinds
 pub ctors-within : (k : ℕ) → 2 ≤ k → k < 4 → has-ctors k ≡ true

@@ -6,8 +6,8 @@ ghost use Prim.Native.Nat.{_<_};
 ghost use lib.ListN.{length};
 ghost use Rattle.columns.specs.Column.{pick};
 ghost use Rattle.sheet.specs.Sheet as sheet;
-ghost use Rattle.custard.specs.Program as letters;
-ghost use Rattle.custard.specs.Rows as rows;
+ghost use Rattle.meaning.specs.Program as letters;
+ghost use Rattle.meaning.specs.Rows as rows;
 ghost use Rattle.verdicts.specs.Verdicts as verdicts;
 
 fn both(a: bool, b: bool) -> bool

@@ -7,7 +7,7 @@ use lib.ListN.{length}
 use borrow.Author.Needs.{needs}
 use Rattle.sheet.specs.Format.{base}
 use Rattle.sheet.specs.Sheet.{first, lines}
-use Rattle.custard.specs.Rows.{row4}
+use Rattle.meaning.specs.Rows.{row4}
 use Rattle.sheet.specs.FirstLaws.{first-more, first-found}
 use Rattle.limits.specs.Limits.{tally-before}
 use Rattle.limits.specs.LimitsLaws.{tally-zero, tally-next, row4-next, small-next}

@@ -7,8 +7,8 @@ use native.Mathlib.Numerals.{add-one}
 use borrow.Author.Needs.{needs}
 use Rattle.sheet.specs.Format.{base}
 use Rattle.sheet.specs.Sheet.{lines}
-use Rattle.custard.specs.Program.{select}
-use Rattle.custard.specs.Rows.{heads-before}
+use Rattle.meaning.specs.Program.{select}
+use Rattle.meaning.specs.Rows.{heads-before}
 use Rattle.limits.specs.LimitsLaws.{Found, short-bytes, found-begin, found-end, decl-kept, heads-head, heads-other, found-head-next, found-other-next}
 use Rattle.limits.proofs.starts_of.Statement.{statement}
 use Rattle.limits.proofs.starts_of.Tie as tie

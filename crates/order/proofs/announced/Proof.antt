@@ -2,7 +2,7 @@
 use Prim.Native.Nat.{_≤_}
 use native.Mathlib.Omega.{arith}
 use borrow.Author.Tests.{le-leb, lt-leb, ne-eqb}
-use Rattle.custard.specs.Rows.{announced}
+use Rattle.meaning.specs.Rows.{announced}
 use Rattle.order.proofs.announced.Statement.{statement}
 use Rattle.order.proofs.announced.Tie as tie
 

@@ -1,6 +1,6 @@
 -- `order::due` meets its contract, by what was due. Assumes nothing.
 use borrow.Author.Needs.{needs}
-use Rattle.custard.specs.Rows.{due}
+use Rattle.meaning.specs.Rows.{due}
 use Rattle.order.proofs.due.Statement.{statement}
 use Rattle.order.proofs.due.Tie as tie
 

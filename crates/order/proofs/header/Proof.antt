@@ -5,7 +5,7 @@ use borrow.Author.Needs.{needs}
 use borrow.Author.Tests.{ne-eqb}
 use Rattle.sheet.specs.Line.{letter}
 use Rattle.sheet.specs.Sheet.{line}
-use Rattle.custard.specs.Rows.{due-header}
+use Rattle.meaning.specs.Rows.{due-header}
 use Rattle.order.specs.OrderLaws.{due-head}
 use Rattle.order.proofs.header.Statement.{statement}
 use Rattle.order.proofs.header.Tie as tie

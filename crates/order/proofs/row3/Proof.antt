@@ -6,8 +6,8 @@ use native.Mathlib.Numerals.{add-one}
 use lib.ListN.{length, take}
 use borrow.Author.Needs.{needs}
 use Rattle.sheet.specs.Sheet.{first, lines}
-use Rattle.custard.specs.declared.Due.the-variants.{Header}
-use Rattle.custard.specs.Rows.{due-after, is-broken, row3}
+use Rattle.meaning.specs.declared.Due.the-variants.{Header}
+use Rattle.meaning.specs.Rows.{due-after, is-broken, row3}
 use Rattle.sheet.specs.FirstLaws.{first-more, first-found}
 use Rattle.order.specs.OrderLaws.{first-row3, row3-step, row3-stop, due-next}
 use Rattle.order.proofs.row3.Statement.{statement}

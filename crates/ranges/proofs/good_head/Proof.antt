@@ -1,5 +1,5 @@
 -- `ranges::good_head` meets its contract, part by part. Assumes nothing.
-use Rattle.custard.specs.Rows.{good-head}
+use Rattle.meaning.specs.Rows.{good-head}
 use borrow.Author.Needs.{needs}
 use Rattle.ranges.proofs.good_head.Statement.{statement}
 use Rattle.ranges.proofs.good_head.Tie as tie

@@ -6,8 +6,8 @@ use native.Mathlib.Omega.{arith}
 use borrow.Author.Tests.{ne-eqb}
 use Rattle.sheet.specs.Sheet.{lines}
 use Rattle.sheet.specs.SheetLaws.{getD-lines}
-use Rattle.custard.specs.Program.{type-line}
-use Rattle.custard.specs.Rows.{count-before, good-numbers}
+use Rattle.meaning.specs.Program.{type-line}
+use Rattle.meaning.specs.Rows.{count-before, good-numbers}
 use Rattle.ranges.specs.RangesLaws.{name-place, type-place}
 use borrow.Author.Needs.{needs}
 use Rattle.ranges.proofs.good_numbers.Statement.{statement}

@@ -5,7 +5,7 @@ use Prim.Native.Nat.{_≤_}
 use native.Mathlib.Omega.{arith}
 use borrow.Author.Tests.{le-leb}
 use Rattle.sheet.specs.Sheet.{lines, line}
-use Rattle.custard.specs.Rows.{good-type}
+use Rattle.meaning.specs.Rows.{good-type}
 use Rattle.ranges.specs.Ranges.{types-of}
 use Rattle.ranges.specs.RangesLaws.{past, type-over}
 use borrow.Author.Needs.{needs}

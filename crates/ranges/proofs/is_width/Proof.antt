@@ -1,6 +1,6 @@
 -- `ranges::is_width` meets its contract: each width is one of the six. Assumes nothing.
 use borrow.Author.Tests.{ne-eqb}
-use Rattle.custard.specs.Rows.{is-width}
+use Rattle.meaning.specs.Rows.{is-width}
 use Rattle.ranges.proofs.is_width.Statement.{statement}
 use Rattle.ranges.proofs.is_width.Tie as tie
 

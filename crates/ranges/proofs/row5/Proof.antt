@@ -7,7 +7,7 @@ use lib.ListN.{length}
 use borrow.Author.Needs.{needs}
 use Rattle.sheet.specs.Sheet.{first, lines}
 use Rattle.sheet.specs.FirstLaws.{first-more, first-found}
-use Rattle.custard.specs.Rows.{row5}
+use Rattle.meaning.specs.Rows.{row5}
 use Rattle.ranges.proofs.row5.Statement.{statement}
 use Rattle.ranges.proofs.row5.Tie as tie
 

@@ -6,7 +6,7 @@ use native.Mathlib.Omega.{arith}
 use borrow.Author.Needs.{needs}
 use Rattle.sheet.specs.Format.{base}
 use Rattle.sheet.specs.Sheet.{first, count, lines, row1, row2}
-use Rattle.custard.specs.Rows.{raws, row3, row4, row5, row6, row7}
+use Rattle.meaning.specs.Rows.{raws, row3, row4, row5, row6, row7}
 use Rattle.limits.specs.declared.Counts.{Counts}
 use Rattle.limits.specs.Limits.{Limited, counts-of}
 use Rattle.ranges.specs.Ranges.{Counted}

@@ -5,8 +5,8 @@ use native.Mathlib.Omega.{arith}
 use lib.ListN.{length}
 use borrow.Author.Needs.{needs}
 use Rattle.sheet.specs.Sheet.{first, lines}
-use Rattle.custard.specs.Program.{name-line}
-use Rattle.custard.specs.Rows.{count-of}
+use Rattle.meaning.specs.Program.{name-line}
+use Rattle.meaning.specs.Rows.{count-of}
 use Rattle.sheet.specs.FirstLaws.{first-more, first-found}
 use Rattle.spellings.specs.Spellings.{respelled}
 use Rattle.spellings.specs.SpellingsLaws.{name-counted, respelled-at, respelled-none}

@@ -5,7 +5,7 @@ use native.Mathlib.Omega.{arith}
 use native.Mathlib.Numerals.{add-one}
 use lib.ListN.{length, drop}
 use borrow.Author.Needs.{needs}
-use Rattle.custard.specs.Rows.{equal}
+use Rattle.meaning.specs.Rows.{equal}
 use Rattle.spellings.specs.SpellingsLaws.{equal-length, equal-next, equal-differ, equal-end}
 use Rattle.spellings.proofs.same.Statement.{statement}
 use Rattle.spellings.proofs.same.Tie as tie

@@ -6,7 +6,7 @@ use native.Mathlib.Omega.{arith}
 use mathlib.Core.List.{List}
 use borrow.Author.Needs.{needs}
 use Rattle.sheet.specs.Sheet.{first}
-use Rattle.custard.specs.Rows.{equal}
+use Rattle.meaning.specs.Rows.{equal}
 use Rattle.sheet.specs.FirstLaws.{first-more}
 use Rattle.spellings.specs.Spellings.{textAt, spelled-before}
 use Rattle.spellings.specs.SomeLaws.{some-found, some-clear}

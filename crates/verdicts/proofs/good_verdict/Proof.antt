@@ -1,6 +1,6 @@
 -- `verdicts::good_verdict` meets its contract, by the layout. Assumes nothing.
 use borrow.Author.Tests.{ne-eqb, le-leb, lt-leb}
-use Rattle.custard.specs.Rows.{good-verdict}
+use Rattle.meaning.specs.Rows.{good-verdict}
 use borrow.Author.Needs.{needs}
 use Rattle.verdicts.proofs.good_verdict.Statement.{statement}
 use Rattle.verdicts.proofs.good_verdict.Tie as tie

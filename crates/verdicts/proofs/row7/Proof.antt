@@ -8,7 +8,7 @@ use borrow.Author.Needs.{needs}
 use Rattle.sheet.specs.Line.{bad}
 use Rattle.sheet.specs.Sheet.{first, line, lines}
 use Rattle.sheet.specs.FirstLaws.{first-more, first-found}
-use Rattle.custard.specs.Rows.{last-head, kept-after, row7}
+use Rattle.meaning.specs.Rows.{last-head, kept-after, row7}
 use Rattle.verdicts.specs.VerdictsLaws.{head-none, kept-none, head-more, kept-more, kept-at-le, row7-line}
 use Rattle.verdicts.proofs.row7.Statement.{statement}
 use Rattle.verdicts.proofs.row7.Tie as tie

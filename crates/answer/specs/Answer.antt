@@ -1,0 +1,103 @@
+-- The answer that the build owes: code, place, rounds and what is written to each output, as a
+-- function of the sheet's bytes and the two outputs' lengths (document 01, "What a call returns").
+-- Assumes nothing.
+use mathlib.Core.List.{List, [], _∷_, _++_}
+use mathlib.Core.Bool.{Bool, true, false, not}
+use Prim.Native.Nat.{ℕ, suc}
+use lib.Dec.{eqb, ltb}
+use lib.ListN.{length, drop}
+use Rattle.sheet.specs.Format.{Format}
+use Rattle.sheet.specs.Line.{Line, isBad}
+use Rattle.sheet.specs.Sheet.{first, count, line, lines, encodes, row1}
+use Rattle.answer.specs.declared.Refusal.{Refusal}
+use Rattle.answer.specs.declared.Refusal.the-variants.{Accepted, Refused}
+use Rattle.model.specs.Decl.{Decl}
+use Rattle.model.specs.Run.{run, layouts-of, returns, decl-fault}
+use Rattle.meaning.specs.Program.{is-head, program}
+use Rattle.meaning.specs.Rows.{line-at, heads-before, raws, row3, row4, row5, row6, row7}
+use Rattle.meaning.specs.Output.{verdict-lines, left-lines}
+
+-- One or more rows of document 01's table that share a pass: the first number below the bound at
+-- which the test holds gives the code and the place.
+pub record Row : Type 0 where
+  pub bound : ℕ
+  pub test : ℕ → Bool
+  pub code : ℕ → ℕ
+  pub place : ℕ → ℕ
+
+-- a row whose place is a line
+abbrev pub line-row : ℕ → ℕ → (ℕ → Bool) → Row
+line-row code bound test = record { bound = bound; test = test; code = λ i. code; place = λ i. i }
+
+-- a row of the whole sheet
+abbrev pub whole-row : ℕ → ℕ → Bool → Row
+whole-row code place test = record { bound = 1; test = λ i. test; code = λ i. code; place = λ i. place }
+
+-- ---- the rows of an accepted program
+-- line i begins a declaration of which the test holds
+abbrev pub at-head : List Line → (ℕ → Bool) → ℕ → Bool
+at-head ls p i = elim (is-head (line-at ls i)) [ true ↦ p (heads-before ls i) | false ↦ false ]
+
+unfoldable pub row8 : List Decl → List Line → ℕ → Bool
+row8 ds ls = at-head ls (returns ds (layouts-of ds))
+
+-- rows 9 and 10 share one pass: the code of the fault that the declaration at line i meets first
+unfoldable pub fault-at : Format → List Decl → List Line → ℕ → ℕ
+fault-at f ds ls i = decl-fault (f .nodes) ds (layouts-of ds) (heads-before ls i)
+
+unfoldable pub row9 : Format → List Decl → List Line → ℕ → Bool
+row9 f ds ls = at-head ls (λ k. not (eqb (decl-fault (f .nodes) ds (layouts-of ds) k) 0))
+
+-- ---- the sheets
+unfoldable pub verdict-sheet : Format → List Line → List ℕ
+verdict-sheet f ls = encodes (f .columns) (verdict-lines ls (run (program ls) .infos))
+
+unfoldable pub left-sheet : Format → List Line → List ℕ
+left-sheet f ls = encodes (f .columns) (left-lines ls (run (program ls) .program))
+
+-- ---- the answer
+-- All rows, in the order in which they are tested; v and l are the outputs' lengths.
+unfoldable pub rows : Format → List ℕ → ℕ → ℕ → List Row
+rows f b v l =
+    let ls : List Line = lines (f .columns) b in
+    let n : ℕ = count (f .columns) b in
+    let ds : List Decl = program ls in
+    whole-row 1 0 (row1 f b)
+    ∷ line-row 2 n (λ i. isBad (line (f .columns) b i))
+    ∷ line-row 3 (suc n) (row3 (raws (f .columns) b))
+    ∷ line-row 4 n (row4 f ls)
+    ∷ line-row 5 n (row5 ls)
+    ∷ line-row 6 n (row6 ls)
+    ∷ line-row 7 n (row7 ls)
+    ∷ line-row 8 n (row8 ds ls)
+    ∷ record { bound = n; test = row9 f ds ls; code = fault-at f ds ls; place = λ i. i }
+    ∷ record { bound = 1; test = λ i. ltb v (length b); code = λ i. 11; place = λ i. length b }
+    ∷ record { bound = 1; test = λ i. ltb l (length (left-sheet f ls)); code = λ i. 12; place = λ i. length (left-sheet f ls) }
+    ∷ []
+
+-- the code and place of the first row that applies, or that none does
+unfoldable pub refusal : List Row → Refusal
+refusal [] = Accepted
+refusal (r ∷ rs) =
+    let i : ℕ = first (r .test) (r .bound) in
+    elim (ltb i (r .bound)) [ true ↦ Refused (r .code i) (r .place i) | false ↦ refusal rs ]
+
+pub record Answer : Type 0 where
+  pub code : ℕ
+  pub place : ℕ
+  pub rounds : ℕ
+  pub verdict : List ℕ
+  pub left : List ℕ
+
+unfoldable pub answered : Format → List ℕ → Refusal → Answer
+answered f b (Refused code place) = record { code = code; place = place; rounds = 0; verdict = []; left = [] }
+answered f b Accepted =
+    let ls : List Line = lines (f .columns) b in
+    record { code = 0; place = 0; rounds = run (program ls) .rounds; verdict = verdict-sheet f ls; left = left-sheet f ls }
+
+unfoldable pub answer : Format → List ℕ → ℕ → ℕ → Answer
+answer f b v l = answered f b (refusal (rows f b v l))
+
+-- an output after the call: what is written, and then its bytes as they were
+abbrev pub after : List ℕ → List ℕ → List ℕ
+after written old = written ++ drop (length written) old

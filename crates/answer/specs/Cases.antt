@@ -1,0 +1,629 @@
+-- Document 01's starred cases: what the definitions answer to these sheets, in one table under one
+-- claim, and further cases for rules that no starred case tells apart. Assumes nothing.
+use mathlib.Core.Path.{_≡_, refl}
+use mathlib.Core.List.{List, [], _∷_, _++_, map}
+use mathlib.Core.Bool.{Bool, not}
+use Prim.Native.Nat.{ℕ, zero, suc, min}
+use Prim.Native.String as S
+use Prim.Native.String.{String}
+use Prim.Native.Char.{code}
+use lib.Dec.{eqb}
+use lib.ListN.{getD}
+use Rattle.columns.specs.Column.{pick, step, scan, read, shown, write}
+use Rattle.sheet.specs.Format.{base}
+use Rattle.sheet.specs.Line.{row, encode, decode, decodeNamed, decodeRow, cell, spelling, spaces, proper, padded, lettered, writes}
+use Rattle.sheet.specs.Sheet.{first, lineAt, count, line, linesFrom, lines, encodes, row1}
+use Rattle.model.specs.Cty.{TUnit, TApp, TTuple, TBuf, nil, cons, lengths, append, firsts, others, walk, gather, names-of-cty, cty-vars, size, uninline, zip, look, subst-cty}
+use Rattle.model.specs.Decl.{has-flag, ctors-of, layout-number, table, position, member, close, close-field, close-body, close-fields}
+use Rattle.model.specs.Erasure.{cty-erased, fields-erased, body-erased, dtype-erased, marked, rule-of, rule, update, sweep, same, settle, start-of, start, erasure-fixpoint}
+use Rattle.model.specs.Reach.{go, cyclic}
+use Rattle.model.specs.Layout.{slots, kept, ctor-layout, ctor-layouts, first-kept, newtype-of-ctor, newtype-of, candidate, candidates, positions, payload-names, guard-next, dropped, collapse, layout-of-body, layout-of, compute-layouts}
+use Rattle.model.specs.Resolve.{abbreviation, fault, unfold-body, unfold-dtype, unfold-of, unfolds, unfold-name, attach, instance, applied, resolve, bind, sized, within, surplus, checked-applied, checked, resolve-checked}
+use Rattle.model.specs.Run.{all-in, collapsed-abbrev, resolved-field, resolved-ctor, struct-body, rw-decl, record-body, record-verdict, record-of, info, somes, layouts-of, run, unfold-names, unfold-next, returns, field-types, resolves, fault-code, decl-fault}
+use Rattle.meaning.specs.Program.{name-line, verdict-line, select, before, groups, list-of, tree, trees-after, trees, field-of, ctor-of, body-of, dtype-of, keeps, keeps-of, ctor-layouts-by, layout-by, info-of, decl-of, program}
+use Rattle.meaning.specs.Rows.{announced, due-header, due, due-after, raw, raws, row3, params-after, row4, zeros-from, is-width, is-list, good-type, good-head, good-numbers, row5, equal, repeats, row6, last-head, kept-after, good-verdict, good-verdicts, row7}
+use Rattle.meaning.specs.Output.{fill-keeps, fill-verdict, all-slots, fill, fill-all, verdict-lines, put, emit, field-lines, ctor-lines, decl-frame, decl-lines, program-lines, left-lines}
+use Rattle.answer.specs.Answer.{Answer, row8, fault-at, row9, verdict-sheet, left-sheet, rows, refusal, answered, answer}
+
+-- ---- cases
+-- The lines that a case tells: all of the program's output, or line R, the V lines of the verdict
+-- sheet, and the lines of the left sheet after its N lines.
+pub data View : Type 0 where
+  whole summary : View
+
+-- a case's number, its sheet, and what the program writes to it; spaces at a line's end are not shown
+pub record Case : Type 0 where
+  pub number : ℕ
+  pub view : View
+  pub sheet : List String
+  pub told : List String
+
+-- ---- lines of text
+unfoldable pub codes : String → List ℕ
+codes S.[] = []
+codes (S._∷_ c s) = code c ∷ codes s
+
+-- the first n bytes with spaces for those that are missing, and then byte 10
+unfoldable pub pad : ℕ → List ℕ → List ℕ
+pad zero bs = 10 ∷ []
+pad (suc n) [] = 32 ∷ pad n []
+pad (suc n) (b ∷ bs) = b ∷ pad n bs
+
+abbrev pub bytes : String → List ℕ
+bytes s = pad 31 (codes s)
+
+unfoldable pub joined : List (List ℕ) → List ℕ
+joined [] = []
+joined (l ∷ ls) = l ++ joined ls
+
+-- the lines of a sheet as bytes
+unfoldable pub split : List ℕ → List (List ℕ)
+split b = table (lineAt 6 b) (count 6 b)
+
+-- those whose letter passes
+unfoldable pub lettered-by : (ℕ → Bool) → List (List ℕ) → List (List ℕ)
+lettered-by p [] = []
+lettered-by p (l ∷ ls) = let r : List (List ℕ) = lettered-by p ls in pick (p (getD l 0 0)) (l ∷ r) r
+
+-- ---- what is written
+-- line R
+unfoldable pub line-r : Answer → List ℕ
+line-r a = encode 6 (row 82 (a .code ∷ min (a .place) 999999 ∷ a .rounds ∷ 0 ∷ 0 ∷ []))
+
+unfoldable pub seen : View → Answer → List (List ℕ)
+seen whole a = line-r a ∷ split (a .verdict) ++ split (a .left)
+seen summary a =
+    line-r a
+    ∷ lettered-by (λ x. eqb x verdict-line) (split (a .verdict))
+    ++ lettered-by (λ x. not (eqb x name-line)) (split (a .left))
+
+-- what the definitions give for a case's sheet, with outputs of 65,536 bytes
+unfoldable pub given : Case → List (List ℕ)
+unfolding codes pad joined split lettered-by line-r seen encode decode decodeNamed decodeRow cell spelling spaces proper padded lettered writes first lineAt line linesFrom lines encodes row1 step scan read shown write lengths append firsts others walk gather names-of-cty cty-vars size uninline zip look subst-cty has-flag ctors-of layout-number table position member close close-field close-body close-fields cty-erased fields-erased body-erased dtype-erased marked rule-of rule update sweep same settle start-of start erasure-fixpoint go cyclic slots kept ctor-layout ctor-layouts first-kept newtype-of-ctor newtype-of candidate candidates positions payload-names guard-next dropped collapse layout-of-body layout-of compute-layouts unfold-body unfold-dtype unfold-of unfolds unfold-name attach instance applied resolve bind sized within surplus checked-applied checked resolve-checked all-in collapsed-abbrev resolved-field resolved-ctor struct-body rw-decl record-body record-verdict record-of info somes layouts-of run unfold-names unfold-next returns field-types resolves fault-code decl-fault select before groups list-of tree trees-after trees field-of ctor-of body-of dtype-of keeps keeps-of ctor-layouts-by layout-by info-of decl-of program announced due-header due due-after raw raws row3 params-after row4 zeros-from is-width is-list good-type good-head good-numbers row5 equal repeats row6 last-head kept-after good-verdict good-verdicts row7 fill-keeps fill-verdict all-slots fill fill-all verdict-lines put emit field-lines ctor-lines decl-frame decl-lines program-lines left-lines row8 fault-at row9 verdict-sheet left-sheet rows refusal answered answer
+given c = seen (c .view) (answer base (joined (map bytes (c .sheet))) 65536 65536)
+
+unfoldable pub expected : Case → List (List ℕ)
+unfolding codes pad
+expected c = map bytes (c .told)
+
+-- ---- the starred cases
+unfoldable pub starred : List Case
+starred =
+    -- *1 no bytes: code 0, rounds 1
+    record {
+      number = 1;
+      view = whole;
+      sheet = [];
+      told =
+          "R     0     0     1     0     0"
+          ∷ [];
+    }
+    -- *2 every byte of its output
+    ∷ record {
+      number = 2;
+      view = whole;
+      sheet =
+          "N     0Lap"
+          ∷ "N     1MkLap"
+          ∷ "N     2ms"
+          ∷ "N     3note"
+          ∷ "Y     4     0    32     0     0"
+          ∷ "Y     0     0     0     0     0"
+          ∷ "D     0     0     3     0     1"
+          ∷ "C     1     2     0     0     0"
+          ∷ "F     2     0     0     0     0"
+          ∷ "F     3     1     0     0     0"
+          ∷ "V     0     0     0     0     0"
+          ∷ [];
+      told =
+          "R     0     0     1     0     0"
+          ∷ "N     0Lap"
+          ∷ "N     1MkLap"
+          ∷ "N     2ms"
+          ∷ "N     3note"
+          ∷ "Y     4     0    32     0     0"
+          ∷ "Y     0     0     0     0     0"
+          ∷ "I     0     0     3     0     1"
+          ∷ "C     1     2     0     0     0"
+          ∷ "F     2     0     1     0     0"
+          ∷ "F     3     1     0     0     0"
+          ∷ "V     0     1     0     0     0"
+          ∷ "N     0Lap"
+          ∷ "N     1MkLap"
+          ∷ "N     2ms"
+          ∷ "N     3note"
+          ∷ "Y     4     0    32     0     0"
+          ∷ "D     0     0     1     0     0"
+          ∷ "V     0     0     0     0     0"
+          ∷ [];
+    }
+    -- *3 `t = C of t`: kept, struct, record 1
+    ∷ record {
+      number = 3;
+      view = summary;
+      sheet =
+          "N     0t"
+          ∷ "N     1C"
+          ∷ "N     2f"
+          ∷ "Y     8     0     0     0     0"
+          ∷ "D     0     0     3     0     1"
+          ∷ "C     1     1     0     0     0"
+          ∷ "F     2     0     0     0     0"
+          ∷ "V     0     0     0     0     0"
+          ∷ [];
+      told =
+          "R     0     0     1     0     0"
+          ∷ "V     0     2     1     0     0"
+          ∷ "Y     8     0     0     0     0"
+          ∷ "D     0     0     3     0     1"
+          ∷ "C     1     1     0     0     0"
+          ∷ "F     2     0     0     0     0"
+          ∷ "V     0     0     0     0     0"
+          ∷ [];
+    }
+    -- *4 a variant of no constructor: erased, rounds 2
+    ∷ record {
+      number = 4;
+      view = summary;
+      sheet =
+          "N     0t"
+          ∷ "D     0     0     3     0     0"
+          ∷ "V     0     0     0     0     0"
+          ∷ [];
+      told =
+          "R     0     0     2     0     0"
+          ∷ "V     1     0     0     0     0"
+          ∷ [];
+    }
+    -- *5 `A | B` without fields: kept,
+    ∷ record {
+      number = 5;
+      view = summary;
+      sheet =
+          "N     0t"
+          ∷ "N     1A"
+          ∷ "N     2B"
+          ∷ "D     0     0     3     0     2"
+          ∷ "C     1     0     0     0     0"
+          ∷ "C     2     0     0     0     0"
+          ∷ "V     0     0     0     0     0"
+          ∷ [];
+      told =
+          "R     0     0     1     0     0"
+          ∷ "V     0     2     0     0     0"
+          ∷ "D     0     0     3     0     2"
+          ∷ "C     1     0     0     0     0"
+          ∷ "C     2     0     0     0     0"
+          ∷ "V     0     0     0     0     0"
+          ∷ [];
+    }
+    -- and with `Erased`: erased
+    ∷ record {
+      number = 5;
+      view = summary;
+      sheet =
+          "N     0t"
+          ∷ "N     1A"
+          ∷ "N     2B"
+          ∷ "D     0     1     3     0     2"
+          ∷ "C     1     0     0     0     0"
+          ∷ "C     2     0     0     0     0"
+          ∷ "V     0     0     0     0     0"
+          ∷ [];
+      told =
+          "R     0     0     2     0     0"
+          ∷ "V     1     0     0     0     0"
+          ∷ [];
+    }
+    -- *6 `w = W of u`, then `u = unit`: both erased, rounds 3,
+    ∷ record {
+      number = 6;
+      view = summary;
+      sheet =
+          "N     0u"
+          ∷ "N     1w"
+          ∷ "N     2W"
+          ∷ "N     3f"
+          ∷ "Y     8     0     0     0     0"
+          ∷ "Y     0     0     0     0     0"
+          ∷ "D     1     0     3     0     1"
+          ∷ "C     2     1     0     0     0"
+          ∷ "F     3     0     0     0     0"
+          ∷ "V     0     0     0     0     0"
+          ∷ "D     0     0     1     0     1"
+          ∷ "V     0     0     0     0     0"
+          ∷ [];
+      told =
+          "R     0     0     3     0     0"
+          ∷ "V     1     0     0     0     0"
+          ∷ "V     1     0     0     0     0"
+          ∷ [];
+    }
+    -- and `u` first: rounds 2
+    ∷ record {
+      number = 6;
+      view = summary;
+      sheet =
+          "N     0u"
+          ∷ "N     1w"
+          ∷ "N     2W"
+          ∷ "N     3f"
+          ∷ "Y     0     0     0     0     0"
+          ∷ "Y     8     0     0     0     0"
+          ∷ "D     0     0     1     0     0"
+          ∷ "V     0     0     0     0     0"
+          ∷ "D     1     0     3     0     1"
+          ∷ "C     2     1     0     0     0"
+          ∷ "F     3     1     0     0     0"
+          ∷ "V     0     0     0     0     0"
+          ∷ [];
+      told =
+          "R     0     0     2     0     0"
+          ∷ "V     1     0     0     0     0"
+          ∷ "V     1     0     0     0     0"
+          ∷ [];
+    }
+    -- *7 `a = A of b`, `b = B of a`: both struct
+    ∷ record {
+      number = 7;
+      view = summary;
+      sheet =
+          "N     0b"
+          ∷ "N     1a"
+          ∷ "N     2A"
+          ∷ "N     3f"
+          ∷ "N     4B"
+          ∷ "N     5g"
+          ∷ "Y     8     0     0     0     0"
+          ∷ "Y     8     1     0     0     0"
+          ∷ "D     1     0     3     0     1"
+          ∷ "C     2     1     0     0     0"
+          ∷ "F     3     0     0     0     0"
+          ∷ "V     0     0     0     0     0"
+          ∷ "D     0     0     3     0     1"
+          ∷ "C     4     1     0     0     0"
+          ∷ "F     5     1     0     0     0"
+          ∷ "V     0     0     0     0     0"
+          ∷ [];
+      told =
+          "R     0     0     1     0     0"
+          ∷ "V     0     2     1     0     0"
+          ∷ "V     0     2     1     0     0"
+          ∷ "Y     8     0     0     0     0"
+          ∷ "Y     8     1     0     0     0"
+          ∷ "D     1     0     3     0     1"
+          ∷ "C     2     1     0     0     0"
+          ∷ "F     3     0     0     0     0"
+          ∷ "V     0     0     0     0     0"
+          ∷ "D     0     0     3     0     1"
+          ∷ "C     4     1     0     0     0"
+          ∷ "F     5     1     0     0     0"
+          ∷ "V     0     0     0     0     0"
+          ∷ [];
+    }
+    -- *8 `t = C of ab`, `ab = t`: code 8 at `t`
+    ∷ record {
+      number = 8;
+      view = summary;
+      sheet =
+          "N     0ab"
+          ∷ "N     1t"
+          ∷ "N     2C"
+          ∷ "N     3f"
+          ∷ "Y     8     0     0     0     0"
+          ∷ "Y     8     1     0     0     0"
+          ∷ "D     1     0     3     0     1"
+          ∷ "C     2     1     0     0     0"
+          ∷ "F     3     0     0     0     0"
+          ∷ "V     0     0     0     0     0"
+          ∷ "D     0     0     1     0     1"
+          ∷ "V     0     0     0     0     0"
+          ∷ [];
+      told =
+          "R     8     6     0     0     0"
+          ∷ [];
+    }
+    -- *9 `Realized`, one constructor, one kept field: newtype all the same
+    ∷ record {
+      number = 9;
+      view = summary;
+      sheet =
+          "N     0t"
+          ∷ "N     1C"
+          ∷ "N     2f"
+          ∷ "Y     4     0    32     0     0"
+          ∷ "D     0     2     3     0     1"
+          ∷ "C     1     1     0     0     0"
+          ∷ "F     2     0     0     0     0"
+          ∷ "V     0     0     0     0     0"
+          ∷ [];
+      told =
+          "R     0     0     1     0     0"
+          ∷ "V     0     1     0     0     0"
+          ∷ "Y     4     0    32     0     0"
+          ∷ "D     0     2     1     0     0"
+          ∷ "V     0     0     0     0     0"
+          ∷ [];
+    }
+    -- *10 `p` binds one parameter and abbreviates it, `q = p`: code 9 at `q`
+    ∷ record {
+      number = 10;
+      view = summary;
+      sheet =
+          "N     0a"
+          ∷ "N     1p"
+          ∷ "N     2q"
+          ∷ "Y     3     0     0     0     0"
+          ∷ "Y     8     1     0     0     0"
+          ∷ "D     1     0     1     1     0"
+          ∷ "P     0     0     0     0     0"
+          ∷ "V     0     0     0     0     0"
+          ∷ "D     2     0     1     0     1"
+          ∷ "V     0     0     0     0     0"
+          ∷ [];
+      told =
+          "R     9     8     0     0     0"
+          ∷ [];
+    }
+    -- *11 `n 'a = N of` a 32-bit integer: newtype, no left declaration
+    ∷ record {
+      number = 11;
+      view = summary;
+      sheet =
+          "N     0n"
+          ∷ "N     1a"
+          ∷ "N     2N"
+          ∷ "N     3f"
+          ∷ "Y     4     0    32     0     0"
+          ∷ "D     0     0     3     1     1"
+          ∷ "P     1     0     0     0     0"
+          ∷ "C     2     1     0     0     0"
+          ∷ "F     3     0     0     0     0"
+          ∷ "V     0     0     0     0     0"
+          ∷ [];
+      told =
+          "R     0     0     1     0     0"
+          ∷ "V     0     1     0     0     0"
+          ∷ [];
+    }
+    -- *12 a record of one `unit` field, `Realized` and `SourceRecord`: struct, record 1
+    ∷ record {
+      number = 12;
+      view = summary;
+      sheet =
+          "N     0r"
+          ∷ "N     1f"
+          ∷ "Y     0     0     0     0     0"
+          ∷ "D     0    18     2     0     1"
+          ∷ "F     1     0     0     0     0"
+          ∷ "V     0     0     0     0     0"
+          ∷ [];
+      told =
+          "R     0     0     1     0     0"
+          ∷ "V     0     2     1     0     0"
+          ∷ "D     0    18     2     0     0"
+          ∷ "V     0     0     0     0     0"
+          ∷ [];
+    }
+    ∷ []
+
+-- Each starred case is answered as document 01 says.
+pub starred-cases : map given starred ≡ map expected starred
+unfolding given expected starred
+starred-cases = refl
+
+-- ---- further cases
+-- not document 01's, and numbered on from them
+unfoldable pub further : List Case
+further =
+    -- A variable that the declaration does not bind becomes `TAny`.
+    record {
+      number = 13;
+      view = summary;
+      sheet =
+          "N     0p"
+          ∷ "N     1a"
+          ∷ "N     2b"
+          ∷ "N     3x"
+          ∷ "N     4y"
+          ∷ "Y     3     1     0     0     0"
+          ∷ "Y     3     2     0     0     0"
+          ∷ "D     0     0     2     1     2"
+          ∷ "P     1     0     0     0     0"
+          ∷ "F     3     0     0     0     0"
+          ∷ "F     4     1     0     0     0"
+          ∷ "V     0     0     0     0     0"
+          ∷ [];
+      told =
+          "R     0     0     1     0     0"
+          ∷ "V     0     2     0     0     0"
+          ∷ "Y     3     1     0     0     0"
+          ∷ "Y     1     0     0     0     0"
+          ∷ "D     0     0     2     1     2"
+          ∷ "P     1     0     0     0     0"
+          ∷ "F     3     0     0     0     0"
+          ∷ "F     4     1     0     0     0"
+          ∷ "V     0     0     0     0     0"
+          ∷ [];
+    }
+    -- An arrow is erased by its effect and its result alone: `f` is; `g`, impure, and `h`, whose result is kept, are not.
+    ∷ record {
+      number = 14;
+      view = summary;
+      sheet =
+          "N     0f"
+          ∷ "N     1g"
+          ∷ "N     2h"
+          ∷ "Y     4     0    32     0     0"
+          ∷ "Y     0     0     0     0     0"
+          ∷ "Y     7     0     1     1     0"
+          ∷ "Y     7     0     2     1     0"
+          ∷ "Y     7     1     1     0     0"
+          ∷ "D     0     0     1     0     2"
+          ∷ "V     0     0     0     0     0"
+          ∷ "D     1     0     1     0     3"
+          ∷ "V     0     0     0     0     0"
+          ∷ "D     2     0     1     0     4"
+          ∷ "V     0     0     0     0     0"
+          ∷ [];
+      told =
+          "R     0     0     2     0     0"
+          ∷ "V     1     0     0     0     0"
+          ∷ "V     0     3     0     0     0"
+          ∷ "V     0     3     0     0     0"
+          ∷ "Y     4     0    32     0     0"
+          ∷ "Y     0     0     0     0     0"
+          ∷ "Y     7     0     2     1     0"
+          ∷ "Y     0     0     0     0     0"
+          ∷ "Y     4     0    32     0     0"
+          ∷ "Y     7     3     1     4     0"
+          ∷ "D     1     0     1     0     2"
+          ∷ "V     0     0     0     0     0"
+          ∷ "D     2     0     1     0     5"
+          ∷ "V     0     0     0     0     0"
+          ∷ [];
+    }
+    -- Imports have their verdicts: an integer erased, and a newtype, which `t = T of e, w` unfolds.
+    ∷ record {
+      number = 15;
+      view = summary;
+      sheet =
+          "N     0e"
+          ∷ "N     1w"
+          ∷ "N     2W"
+          ∷ "N     3f"
+          ∷ "N     4t"
+          ∷ "N     5T"
+          ∷ "N     6g"
+          ∷ "N     7h"
+          ∷ "Y     4     0    32     0     0"
+          ∷ "Y     8     0     0     0     0"
+          ∷ "Y     8     1     0     0     0"
+          ∷ "I     0     0     1     0     0"
+          ∷ "V     1     0     0     0     0"
+          ∷ "I     1     0     3     0     1"
+          ∷ "C     2     1     0     0     0"
+          ∷ "F     3     0     1     0     0"
+          ∷ "V     0     1     0     0     0"
+          ∷ "D     4     0     3     0     1"
+          ∷ "C     5     2     0     0     0"
+          ∷ "F     6     1     0     0     0"
+          ∷ "F     7     2     0     0     0"
+          ∷ "V     0     0     0     0     0"
+          ∷ [];
+      told =
+          "R     0     0     1     0     0"
+          ∷ "V     1     0     0     0     0"
+          ∷ "V     0     1     0     0     0"
+          ∷ "V     0     1     0     0     0"
+          ∷ "Y     4     0    32     0     0"
+          ∷ "Y     4     0    32     0     0"
+          ∷ "D     1     0     1     0     0"
+          ∷ "V     0     0     0     0     0"
+          ∷ "D     4     0     1     0     1"
+          ∷ "V     0     0     0     0     0"
+          ∷ [];
+    }
+    -- A newtype's payload is its field's type less one outer `TInline`.
+    ∷ record {
+      number = 16;
+      view = summary;
+      sheet =
+          "N     0t"
+          ∷ "N     1T"
+          ∷ "N     2f"
+          ∷ "Y     4     0    32     0     0"
+          ∷ "Y    12     0     0     0     0"
+          ∷ "Y    12     1     0     0     0"
+          ∷ "D     0     0     3     0     1"
+          ∷ "C     1     1     0     0     0"
+          ∷ "F     2     2     0     0     0"
+          ∷ "V     0     0     0     0     0"
+          ∷ [];
+      told =
+          "R     0     0     1     0     0"
+          ∷ "V     0     1     0     0     0"
+          ∷ "Y     4     0    32     0     0"
+          ∷ "Y    12     0     0     0     0"
+          ∷ "D     0     0     1     0     1"
+          ∷ "V     0     0     0     0     0"
+          ∷ [];
+    }
+    -- `p 'a = 'a`, `q = p (l u)` with `l` foreign and `u` erased: `q` is left as `l unit`.
+    ∷ record {
+      number = 17;
+      view = summary;
+      sheet =
+          "N     0u"
+          ∷ "N     1p"
+          ∷ "N     2a"
+          ∷ "N     3l"
+          ∷ "N     4q"
+          ∷ "A     2     0     0     0     0"
+          ∷ "A     3     0     0     0     0"
+          ∷ "Y     0     0     0     0     0"
+          ∷ "Y     3     2     0     0     0"
+          ∷ "Y     8     0     0     0     0"
+          ∷ "Y     8     3     0     1     0"
+          ∷ "Y     8     1     1     1     0"
+          ∷ "D     0     0     1     0     0"
+          ∷ "V     0     0     0     0     0"
+          ∷ "D     1     0     1     1     1"
+          ∷ "P     2     0     0     0     0"
+          ∷ "V     0     0     0     0     0"
+          ∷ "D     4     0     1     0     4"
+          ∷ "V     0     0     0     0     0"
+          ∷ [];
+      told =
+          "R     0     0     2     0     0"
+          ∷ "V     1     0     0     0     0"
+          ∷ "V     0     3     0     0     0"
+          ∷ "V     0     3     0     0     0"
+          ∷ "A     1     0     0     0     0"
+          ∷ "Y     3     2     0     0     0"
+          ∷ "Y     0     0     0     0     0"
+          ∷ "Y     8     3     0     1     0"
+          ∷ "D     1     0     1     1     0"
+          ∷ "P     2     0     0     0     0"
+          ∷ "V     0     0     0     0     0"
+          ∷ "D     4     0     1     0     2"
+          ∷ "V     0     0     0     0     0"
+          ∷ [];
+    }
+    -- `p` with `NoUnfold` stays in `q = p`.
+    ∷ record {
+      number = 18;
+      view = summary;
+      sheet =
+          "N     0p"
+          ∷ "N     1q"
+          ∷ "Y     4     0    32     0     0"
+          ∷ "Y     8     0     0     0     0"
+          ∷ "D     0     8     1     0     0"
+          ∷ "V     0     0     0     0     0"
+          ∷ "D     1     0     1     0     1"
+          ∷ "V     0     0     0     0     0"
+          ∷ [];
+      told =
+          "R     0     0     1     0     0"
+          ∷ "V     0     3     0     0     0"
+          ∷ "V     0     3     0     0     0"
+          ∷ "Y     4     0    32     0     0"
+          ∷ "Y     8     0     0     0     0"
+          ∷ "D     0     8     1     0     0"
+          ∷ "V     0     0     0     0     0"
+          ∷ "D     1     0     1     0     1"
+          ∷ "V     0     0     0     0     0"
+          ∷ [];
+    }
+    ∷ []
+
+pub further-cases : map given further ≡ map expected further
+unfolding given expected further
+further-cases = refl
+
+-- Types are also measured where they are returned: under a limit of 4 nodes a pair of `l`, which abbreviates a buffer of
+-- `unit`, is called with 3 nodes and each `l` is unfolded to 2, but the pair has 5 then.
+pub result-size : resolve-checked 4 (λ n. abbreviation [] (TBuf TUnit)) 2 (TTuple (cons (TApp 0 nil) (cons (TApp 0 nil) nil))) ≡ fault 10
+unfolding resolve-checked checked checked-applied surplus within sized bind size lengths firsts others instance subst-cty walk zip look
+result-size = refl

@@ -1,0 +1,7 @@
+pub mod Answer
+pub mod Pass
+pub mod Left
+pub mod Step
+pub mod Build
+pub mod Split
+pub mod Cut

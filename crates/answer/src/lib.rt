@@ -1,0 +1,7 @@
+// The type that the definitions in specs/ and the contracts of the build share.
+
+// Whether a row of document 01's table applies: its code and place.
+pub enum Refusal {
+    Accepted,
+    Refused { code: u32, place: usize },
+}

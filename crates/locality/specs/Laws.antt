@@ -1,0 +1,5 @@
+pub mod Own
+pub mod Locality
+pub mod Rename
+pub mod Pinning
+pub mod Fuel

@@ -1,0 +1,1 @@
+// What a type's layout depends on.

@@ -1,0 +1,4 @@
+pub mod Program
+pub mod Rows
+pub mod Output
+pub mod Laws

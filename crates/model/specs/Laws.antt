@@ -1,0 +1,9 @@
+pub mod Lists
+pub mod Names
+pub mod Cty
+pub mod Rounds
+pub mod Erasure
+pub mod Reach
+pub mod Layout
+pub mod Resolve
+pub mod Run

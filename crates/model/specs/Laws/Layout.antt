@@ -1,0 +1,546 @@
+-- Laws of the layouts: what each entry of the tables is, where the steps of the two searches lead, when
+-- a declaration becomes a newtype, and what the layouts depend on. Assumes nothing.
+use mathlib.Core.Logic.{_⊎_, inl, inr, ⊎-elim, _↔_}
+use mathlib.Core.Path.{_≡_, refl, ap, sym, _∙_}
+use mathlib.Core.List.{List, [], _∷_, map, List·Memᴰ, List·Memᴰ·head, List·Memᴰ·tail, List·Memᴰ·not-nil, List·Memᴰ·cases-cons, Memᴰ·append-left}
+use mathlib.Core.Bool.{Bool, true, false, _||_}
+use mathlib.Core.Option.{Option, none, some}
+use Prim.Native.Nat.{ℕ, _≤_, _<_}
+use native.Mathlib.Omega.{arith}
+use lib.Dec.{T, ltb, lt→ltb, ltb→lt}
+use lib.ListN.{length, getD}
+use borrow.Author.Tests.{ltb-false}
+use Rattle.columns.specs.Column.{pick}
+use Rattle.sheet.specs.ListLaws.{false-true, same-test}
+use Rattle.model.specs.Cty.{Cty, names-of-cty, uninline}
+use Rattle.model.specs.Decl.{Field, Ctor, Body, TAbstract, TAbbrev, TRecord, TVariant, Dtype, NoNewtype, has-flag, ctors-of, ctors-of-tydef, CtorLayout, NewtypeLayout, Layout, L-erased, L-newtype, L-struct, L-abbrev, L-opaque, Origin, here, imported, Decl, dtype-at, origin-at, position}
+use Rattle.model.specs.Erasure.{marked}
+use Rattle.model.specs.Layout.{
+  slots,
+  kept,
+  ctor-layout,
+  ctor-layouts,
+  first-kept,
+  newtype-of-ctor,
+  newtype-of,
+  candidate,
+  candidates,
+  positions,
+  names-in,
+  payload-names,
+  guard-next,
+  dropped,
+  collapse,
+  layout-of-body,
+  layout-of,
+  compute-layouts,
+}
+use Rattle.model.specs.Resolve.{Unfold, gone, newtype, abbreviation, stays, unfolds}
+use Rattle.model.specs.Run.{unfold-names, unfold-next}
+use Rattle.model.specs.Laws.Erasure.{marked-same, ctor-layouts-local}
+use Rattle.model.specs.Names.{fields-names, ctors-names, dtype-names, Declared, Agree, Pin}
+use Rattle.model.specs.Laws.Names.{position-name, position-same, agree-sym, kept-names, declared-cases, agree-foreign, ctors-own}
+use Rattle.model.specs.Reach.{Reach, one, more}
+use Rattle.model.specs.Laws.Reach.{reach-loop, reach-stays, cyclic-iff}
+use Rattle.model.specs.Laws.Lists.{length-table, getD-table, getD-table-past, table-cong}
+use Rattle.model.specs.Laws.Cty.{uninline-names}
+
+-- ---- tests
+-- ---- tables
+-- ---- entries
+-- what the table of candidates has at place i
+abbrev pub candidate-at : List Decl → (ℕ → Bool) → List Bool → ℕ → Option Layout
+candidate-at ds er s i = candidate (dtype-at ds i) (origin-at ds i) (getD s i false) (ctor-layouts er (dtype-at ds i))
+
+-- the candidates of a program with these marks
+abbrev pub candidates-of : List Decl → List Bool → List (Option Layout)
+candidates-of ds s = candidates ds (marked ds s) s
+
+pub getD-candidates : (ds : List Decl) (er : ℕ → Bool) (s : List Bool) (i : ℕ) (d : Option Layout) → i < length ds → getD (candidates ds er s) i d ≡ candidate-at ds er s i
+unfolding candidates
+getD-candidates ds er s i d h = getD-table (candidate-at ds er s) (length ds) i d h
+
+pub getD-candidates-past : (ds : List Decl) (er : ℕ → Bool) (s : List Bool) (i : ℕ) (d : Option Layout) → length ds ≤ i → getD (candidates ds er s) i d ≡ d
+unfolding candidates
+getD-candidates-past ds er s i d h = getD-table-past (candidate-at ds er s) (length ds) i d h
+
+-- what the table of layouts has at place i
+abbrev pub layout-at : List Decl → List Bool → ℕ → Layout
+layout-at ds s i =
+    layout-of (dtype-at ds i) (origin-at ds i) (getD s i false) (dropped ds (candidates-of ds s) i) (getD (candidates-of ds s) i none) (ctor-layouts (marked ds s) (dtype-at ds i))
+
+pub length-layouts : (ds : List Decl) (s : List Bool) → length (compute-layouts ds s) ≡ length ds
+unfolding compute-layouts
+length-layouts ds s = length-table (layout-at ds s) (length ds)
+
+pub getD-layouts : (ds : List Decl) (s : List Bool) (i : ℕ) (d : Layout) → i < length ds → getD (compute-layouts ds s) i d ≡ layout-at ds s i
+unfolding compute-layouts
+getD-layouts ds s i d h = getD-table (layout-at ds s) (length ds) i d h
+
+pub getD-layouts-past : (ds : List Decl) (s : List Bool) (i : ℕ) (d : Layout) → length ds ≤ i → getD (compute-layouts ds s) i d ≡ d
+unfolding compute-layouts
+getD-layouts-past ds s i d h = getD-table-past (layout-at ds s) (length ds) i d h
+
+-- ---- places of names
+-- j is the place of one of these names
+pub record Placed (ds : List Decl) (ns : List ℕ) (j : ℕ) : Type 0 where
+  pub name : ℕ
+  pub named : List·Memᴰ name ns
+  pub placed : position ds name ≡ j
+  pub below : j < length ds
+
+pub positions-placed : (ds : List Decl) (ns : List ℕ) (j : ℕ) → List·Memᴰ j (positions ds ns) → Placed ds ns j
+unfolding positions
+positions-placed ds [] j m = absurd (List·Memᴰ·not-nil m)
+positions-placed ds (n ∷ ns) j m = by (positions-placed ds ns j) (ltb (position ds n) (length ds)) refl m
+  where
+    later : Placed ds ns j → Placed ds (n ∷ ns) j
+    later p = record { name = p .name; named = List·Memᴰ·tail (p .named); placed = p .placed; below = p .below }
+
+    by : (List·Memᴰ j (positions ds ns) → Placed ds ns j)
+        → (b : Bool)
+        → ltb (position ds n) (length ds) ≡ b
+        → List·Memᴰ j (pick b (position ds n ∷ positions ds ns) (positions ds ns))
+        → Placed ds (n ∷ ns) j
+    by ih true e z =
+        ⊎-elim
+        (λ (u : j ≡ position ds n). record { name = n; named = List·Memᴰ·head refl; placed = sym u; below = rw u (ltb→lt (position ds n) (length ds) (rw e tt)) })
+        (λ u. later (ih u))
+        (List·Memᴰ·cases-cons z)
+    by ih false e z = later (ih z)
+
+pub positions-of : (ds : List Decl) (ns : List ℕ) (n : ℕ) → List·Memᴰ n ns → Declared ds n → List·Memᴰ (position ds n) (positions ds ns)
+unfolding positions
+positions-of ds [] n m h = absurd (List·Memᴰ·not-nil m)
+positions-of ds (k ∷ ns) n m h = by (positions-of ds ns n) (ltb (position ds k) (length ds)) refl (List·Memᴰ·cases-cons m)
+  where
+    by : (List·Memᴰ n ns → Declared ds n → List·Memᴰ (position ds n) (positions ds ns))
+        → (b : Bool)
+        → ltb (position ds k) (length ds) ≡ b
+        → (n ≡ k) ⊎ List·Memᴰ n ns
+        → List·Memᴰ (position ds n) (pick b (position ds k ∷ positions ds ns) (positions ds ns))
+    by ih true e (inl u) = List·Memᴰ·head (ap (position ds) u)
+    by ih true e (inr u) = List·Memᴰ·tail (ih u h)
+    by ih false e (inl u) = let t : T (ltb (position ds k) (length ds)) = lt→ltb (position ds k) (length ds) (rw u at h) in absurd (rw e at t)
+    by ih false e (inr u) = ih u h
+
+-- the same types in the same places: names are declared in the same places
+pub positions-same : (ds ds' : List Decl) → length ds ≡ length ds' → ((i : ℕ) → i < length ds → dtype-at ds i ≡ dtype-at ds' i) → (ns : List ℕ) → positions ds ns ≡ positions ds' ns
+unfolding positions
+positions-same ds ds' e f [] = refl
+positions-same ds ds' e f (n ∷ ns) = rw (position-same ds ds' n e f, positions-same ds ds' e f ns, e)
+
+-- The places that a type names: those of the declared names in it.
+pub names-in-iff : (ds : List Decl) (c : Cty) (j : ℕ) → List·Memᴰ j (names-in ds c) ↔ Placed ds (names-of-cty c) j
+names-in-iff ds c j =
+    (positions-placed ds (names-of-cty c) j, λ p. rw (p .placed) at (positions-of ds (names-of-cty c) (p .name) (p .named) (rw (p .placed) (p .below))))
+
+pub names-in-below : (ds : List Decl) (c : Cty) (j : ℕ) → List·Memᴰ j (names-in ds c) → j < length ds
+names-in-below ds c j m = positions-placed ds (names-of-cty c) j m .below
+
+-- the steps of the guard stay among the declarations
+pub guard-below : (ds : List Decl) (cands : List (Option Layout)) (a b : ℕ) → List·Memᴰ b (guard-next ds cands a) → b < length ds
+unfolding guard-next payload-names
+guard-below ds cands a b m = by (getD cands a none) m
+  where
+    by : (o : Option Layout) → List·Memᴰ b (payload-names ds o) → b < length ds
+    by none z = absurd (List·Memᴰ·not-nil z)
+    by (some L-erased) z = absurd (List·Memᴰ·not-nil z)
+    by (some (L-newtype nt)) z = names-in-below ds (nt .nt-ty) b z
+    by (some (L-struct cls)) z = absurd (List·Memᴰ·not-nil z)
+    by (some (L-abbrev c)) z = absurd (List·Memᴰ·not-nil z)
+    by (some L-opaque) z = absurd (List·Memᴰ·not-nil z)
+
+-- and so do the steps of unfolding
+pub unfold-below : (ds : List Decl) (ls : List Layout) (a b : ℕ) → List·Memᴰ b (unfold-next ds ls a) → b < length ds
+unfolding unfold-next unfold-names
+unfold-below ds ls a b m = by (getD (unfolds ds ls) a stays) m
+  where
+    by : (u : Unfold) → List·Memᴰ b (unfold-names ds u) → b < length ds
+    by gone z = absurd (List·Memᴰ·not-nil z)
+    by (newtype ps c) z = names-in-below ds c b z
+    by (abbreviation ps c) z = names-in-below ds c b z
+    by stays z = absurd (List·Memᴰ·not-nil z)
+
+-- ---- the guard
+-- a step of the guard: a is a candidate, and b the place of a name in its payload
+pub record Step (ds : List Decl) (cands : List (Option Layout)) (a b : ℕ) : Type 0 where
+  pub newtype : NewtypeLayout
+  pub is-candidate : getD cands a none ≡ some (L-newtype newtype)
+  pub place : Placed ds (names-of-cty (newtype .nt-ty)) b
+
+pub guard-step : (ds : List Decl) (cands : List (Option Layout)) (a b : ℕ) → List·Memᴰ b (guard-next ds cands a) → Step ds cands a b
+unfolding guard-next payload-names
+guard-step ds cands a b m = by (getD cands a none) refl m
+  where
+    by : (o : Option Layout) → getD cands a none ≡ o → List·Memᴰ b (payload-names ds o) → Step ds cands a b
+    by none e z = absurd (List·Memᴰ·not-nil z)
+    by (some L-erased) e z = absurd (List·Memᴰ·not-nil z)
+    by (some (L-newtype nt)) e z = record { newtype = nt; is-candidate = e; place = names-in-iff ds (nt .nt-ty) b .0 z }
+    by (some (L-struct cls)) e z = absurd (List·Memᴰ·not-nil z)
+    by (some (L-abbrev c)) e z = absurd (List·Memᴰ·not-nil z)
+    by (some L-opaque) e z = absurd (List·Memᴰ·not-nil z)
+
+pub step-guard : (ds : List Decl) (cands : List (Option Layout)) (a b : ℕ) → Step ds cands a b → List·Memᴰ b (guard-next ds cands a)
+unfolding guard-next payload-names
+step-guard ds cands a b p = rw (p .is-candidate) (names-in-iff ds (p .newtype .nt-ty) b .1 (p .place))
+
+-- The guard drops what reaches itself.
+pub dropped-iff : (ds : List Decl) (cands : List (Option Layout)) (i : ℕ) → (dropped ds cands i ≡ true) ↔ Reach (guard-next ds cands) i i
+unfolding dropped
+dropped-iff ds cands i = cyclic-iff (guard-next ds cands) (length ds) i (guard-below ds cands)
+
+pub not-dropped : (ds : List Decl) (cands : List (Option Layout)) (i : ℕ) → (dropped ds cands i ≡ false) ↔ (Reach (guard-next ds cands) i i → ⊥)
+not-dropped ds cands i =
+    (λ e r. false-true (sym e ∙ dropped-iff ds cands i .1 r), λ n. by n (dropped ds cands i) refl)
+  where
+    by : (Reach (guard-next ds cands) i i → ⊥) → (b : Bool) → dropped ds cands i ≡ b → b ≡ false
+    by n true e = absurd (n (dropped-iff ds cands i .0 e))
+    by n false e = refl
+
+-- ---- candidates
+-- What makes a declaration a candidate for a newtype: it is not erased, has not the flag `NoNewtype`,
+-- and has one constructor (a record counts as one, an abstract type or an abbreviation has none) of
+-- which one field is kept. `e` is its mark, and `nt` the newtype that it can become.
+pub record Candidate (er : ℕ → Bool) (d : Dtype) (e : Bool) (nt : NewtypeLayout) : Type 0 where
+  pub ctor : Ctor
+  pub field : Field
+  pub not-erased : e ≡ false
+  pub allowed : has-flag d NoNewtype ≡ false
+  pub one-ctor : ctors-of-tydef d ≡ ctor ∷ []
+  pub one-kept : kept (slots er (ctor .ct-fields)) (ctor .ct-fields) ≡ field ∷ []
+  pub made :
+      nt ≡ record { nt-ctor = ctor .ct-name; nt-field = field .fd-name; nt-index = first-kept (slots er (ctor .ct-fields)); nt-ty = uninline (field .fd-type) }
+
+module _ (er : ℕ → Bool) (d : Dtype) (e : Bool) (nt : NewtypeLayout) where
+  newtype-is : e ≡ false → has-flag d NoNewtype ≡ false → newtype-of (ctor-layouts er d) ≡ some (L-newtype nt) → Candidate er d e nt
+  unfolding ctor-layouts ctor-layout newtype-of newtype-of-ctor
+  newtype-is p q h = by (ctors-of-tydef d) refl h
+    where
+      on : (c : Ctor) → ctors-of-tydef d ≡ c ∷ [] → (fs : List Field) → kept (slots er (c .ct-fields)) (c .ct-fields) ≡ fs
+          → newtype-of-ctor (c .ct-name) (slots er (c .ct-fields)) fs ≡ some (L-newtype nt) → Candidate er d e nt
+      on c u [] v z = let y : _≡_ {A = ℕ} 0 1 = cc in absurd (omega arith)
+      on c u (f ∷ []) v z =
+          record { ctor = c; field = f; not-erased = p; allowed = q; one-ctor = u; one-kept = v; made = cc }
+      on c u (f ∷ g ∷ fs) v z = let y : _≡_ {A = ℕ} 0 1 = cc in absurd (omega arith)
+
+      by : (cs : List Ctor) → ctors-of-tydef d ≡ cs → newtype-of (map (λ c. ctor-layout c (slots er (c .ct-fields))) cs) ≡ some (L-newtype nt) → Candidate er d e nt
+      by [] u z = let y : _≡_ {A = ℕ} 0 1 = cc in absurd (omega arith)
+      by (c ∷ []) u z = on c u (kept (slots er (c .ct-fields)) (c .ct-fields)) refl z
+      by (c ∷ c₁ ∷ cs) u z = let y : _≡_ {A = ℕ} 0 1 = cc in absurd (omega arith)
+
+  pub candidate-iff : (candidate d here e (ctor-layouts er d) ≡ some (L-newtype nt)) ↔ Candidate er d e nt
+  unfolding candidate ctor-layouts ctor-layout newtype-of newtype-of-ctor
+  candidate-iff = (λ h. by e (has-flag d NoNewtype) refl refl h, λ k. rw (k .not-erased, k .allowed, k .one-ctor, k .one-kept, k .made))
+    where
+      by : (x y : Bool) → e ≡ x → has-flag d NoNewtype ≡ y → pick (x || y) none (newtype-of (ctor-layouts er d)) ≡ some (L-newtype nt) → Candidate er d e nt
+      by true y p q z = let o : _≡_ {A = ℕ} 0 1 = cc in absurd (omega arith)
+      by false true p q z = let o : _≡_ {A = ℕ} 0 1 = cc in absurd (omega arith)
+      by false false p q z = newtype-is p q z
+
+-- ---- newtypes
+collapse-newtype : (drop : Bool) (o : Option Layout) (cls : List CtorLayout) (nt : NewtypeLayout) → collapse drop o cls ≡ L-newtype nt → (o ≡ some (L-newtype nt)) × (drop ≡ false)
+unfolding collapse
+collapse-newtype true o cls nt h = let y : _≡_ {A = ℕ} 0 1 = cc in absurd (omega arith)
+collapse-newtype false none cls nt h = let y : _≡_ {A = ℕ} 0 1 = cc in absurd (omega arith)
+collapse-newtype false (some l) cls nt h = (cc, refl)
+
+body-newtype : (b : Body) (drop : Bool) (o : Option Layout) (cls : List CtorLayout) (nt : NewtypeLayout) → layout-of-body b drop o cls ≡ L-newtype nt → (o ≡ some (L-newtype nt)) × (drop ≡ false)
+unfolding layout-of-body
+body-newtype TAbstract drop o cls nt h = let y : _≡_ {A = ℕ} 0 1 = cc in absurd (omega arith)
+body-newtype (TAbbrev c) drop o cls nt h = let y : _≡_ {A = ℕ} 0 1 = cc in absurd (omega arith)
+body-newtype (TRecord fs) drop o cls nt h = collapse-newtype drop o cls nt h
+body-newtype (TVariant cs) drop o cls nt h = collapse-newtype drop o cls nt h
+
+newtype-body : (n : ℕ) (b : Body) (c : Ctor) (l : Layout) (cls : List CtorLayout) → ctors-of n b ≡ c ∷ [] → layout-of-body b false (some l) cls ≡ l
+unfolding ctors-of layout-of-body collapse
+newtype-body n TAbstract c l cls h = let y : _≡_ {A = ℕ} 0 1 = cc in absurd (omega arith)
+newtype-body n (TAbbrev t) c l cls h = let y : _≡_ {A = ℕ} 0 1 = cc in absurd (omega arith)
+newtype-body n (TRecord fs) c l cls h = refl
+newtype-body n (TVariant cs) c l cls h = refl
+
+-- a declaration's layout is a newtype where it is a candidate and not dropped
+pub layout-newtype : (er : ℕ → Bool) (d : Dtype) (e drop : Bool) (nt : NewtypeLayout)
+    → (layout-of d here e drop (candidate d here e (ctor-layouts er d)) (ctor-layouts er d) ≡ L-newtype nt) ↔ (Candidate er d e nt × (drop ≡ false))
+unfolding layout-of
+layout-newtype er d e drop nt = (by e refl, back)
+  where
+    by : (x : Bool) → e ≡ x → layout-of d here x drop (candidate d here e (ctor-layouts er d)) (ctor-layouts er d) ≡ L-newtype nt → Candidate er d e nt × (drop ≡ false)
+    by true u h = let y : _≡_ {A = ℕ} 0 1 = cc in absurd (omega arith)
+    by false u h = let k = body-newtype (d .dt-body) drop (candidate d here e (ctor-layouts er d)) (ctor-layouts er d) nt h in (candidate-iff er d e nt .0 (k .0), k .1)
+
+    back : Candidate er d e nt × (drop ≡ false) → layout-of d here e drop (candidate d here e (ctor-layouts er d)) (ctor-layouts er d) ≡ L-newtype nt
+    back k =
+        rw (candidate-iff er d e nt .1 (k .0), k .0 .not-erased, k .1) (newtype-body (d .dt-name) (d .dt-body) (k .0 .ctor) (L-newtype nt) (ctor-layouts er d) (k .0 .one-ctor))
+
+-- A local declaration becomes a newtype exactly where it is a candidate and does not reach itself
+-- through the payloads of candidates.
+pub collapsed : (ds : List Decl) (s : List Bool) (i : ℕ)
+    → i < length ds
+    → origin-at ds i ≡ here
+    → (nt : NewtypeLayout)
+    → (getD (compute-layouts ds s) i L-opaque ≡ L-newtype nt) ↔ (Candidate (marked ds s) (dtype-at ds i) (getD s i false) nt × (Reach (guard-next ds (candidates-of ds s)) i i → ⊥))
+collapsed ds s i h o nt =
+    let d : Dtype = dtype-at ds i in
+    let e : Bool = getD s i false in
+    let k = layout-newtype (marked ds s) d e (dropped ds (candidates-of ds s) i) nt in
+    let q : getD (compute-layouts ds s) i L-opaque ≡ layout-of d here e (dropped ds (candidates-of ds s) i) (candidate d here e (ctor-layouts (marked ds s) d)) (ctor-layouts (marked ds s) d) =
+    getD-layouts ds s i L-opaque h ∙ rw (o, getD-candidates ds (marked ds s) s i none h, o) in
+    (λ z. let r = k .0 (sym q ∙ z) in (r .0, not-dropped ds (candidates-of ds s) i .0 (r .1)), λ z. q ∙ k .1 (z .0, not-dropped ds (candidates-of ds s) i .1 (z .1)))
+
+-- A step of the guard from a local candidate leads to the places of the names in its payload.
+pub candidate-next : (ds : List Decl) (s : List Bool) (i : ℕ)
+    → i < length ds
+    → origin-at ds i ≡ here
+    → (nt : NewtypeLayout)
+    → Candidate (marked ds s) (dtype-at ds i) (getD s i false) nt
+    → guard-next ds (candidates-of ds s) i ≡ names-in ds (nt .nt-ty)
+unfolding guard-next payload-names
+candidate-next ds s i h o nt c =
+    rw (getD-candidates ds (marked ds s) s i none h, o, candidate-iff (marked ds s) (dtype-at ds i) (getD s i false) nt .1 c)
+
+-- ---- names of a payload
+-- A candidate's payload names nothing that its declaration does not.
+pub payload-named : (er : ℕ → Bool) (d : Dtype) (e : Bool) (nt : NewtypeLayout) → Candidate er d e nt → (n : ℕ) → List·Memᴰ n (names-of-cty (nt .nt-ty)) → List·Memᴰ n (dtype-names d)
+unfolding dtype-names fields-names ctors-names
+payload-named er d e nt k n m =
+    let q : List·Memᴰ n (names-of-cty (k .field .fd-type)) = rw (k .made, uninline-names) at m in
+    let r : List·Memᴰ n (fields-names (kept (slots er (k .ctor .ct-fields)) (k .ctor .ct-fields))) = rw (k .one-kept) (Memᴰ·append-left [] q) in
+    ctors-own (d .dt-name) (d .dt-body) n (rw (k .one-ctor) (Memᴰ·append-left [] (kept-names (slots er (k .ctor .ct-fields)) (k .ctor .ct-fields) n r)))
+
+-- an entry of the table of candidates is a local declaration that is one
+pub record CandidateAt (ds : List Decl) (er : ℕ → Bool) (s : List Bool) (i : ℕ) (nt : NewtypeLayout) : Type 0 where
+  pub below : i < length ds
+  pub local : origin-at ds i ≡ here
+  pub candidate : Candidate er (dtype-at ds i) (getD s i false) nt
+
+pub candidate-entry : (ds : List Decl) (er : ℕ → Bool) (s : List Bool) (i : ℕ) (nt : NewtypeLayout) → getD (candidates ds er s) i none ≡ some (L-newtype nt) → CandidateAt ds er s i nt
+unfolding candidate
+candidate-entry ds er s i nt e = by (ltb i (length ds)) refl
+  where
+    on : i < length ds → (o : Origin) → origin-at ds i ≡ o → candidate (dtype-at ds i) o (getD s i false) (ctor-layouts er (dtype-at ds i)) ≡ some (L-newtype nt) → CandidateAt ds er s i nt
+    on h here u z = record { below = h; local = u; candidate = candidate-iff er (dtype-at ds i) (getD s i false) nt .0 z }
+    on h (imported ti) u z = let y : _≡_ {A = ℕ} 0 1 = cc in absurd (omega arith)
+
+    by : (b : Bool) → ltb i (length ds) ≡ b → CandidateAt ds er s i nt
+    by true u = let h : i < length ds = ltb→lt i (length ds) (rw u tt) in on h (origin-at ds i) refl (sym (getD-candidates ds er s i none h) ∙ e)
+    by false u =
+        let z : getD (candidates ds er s) i none ≡ none = getD-candidates-past ds er s i none (ltb-false i (length ds) u) in
+        let y : _≡_ {A = ℕ} 0 1 = cc in
+        absurd (omega arith)
+
+-- A step of the guard leads from a declaration to the place of a name in it.
+pub guard-named : (ds : List Decl) (er : ℕ → Bool) (s : List Bool) (a b : ℕ) → List·Memᴰ b (guard-next ds (candidates ds er s) a) → Placed ds (dtype-names (dtype-at ds a)) b
+guard-named ds er s a b m =
+    let p : Step ds (candidates ds er s) a b = guard-step ds (candidates ds er s) a b m in
+    let k : CandidateAt ds er s a (p .newtype) = candidate-entry ds er s a (p .newtype) (p .is-candidate) in
+    record {
+      name = p .place .name;
+      named = payload-named er (dtype-at ds a) (getD s a false) (p .newtype) (k .candidate) (p .place .name) (p .place .named);
+      placed = p .place .placed;
+      below = p .place .below;
+    }
+
+-- and starts among the declarations
+pub guard-from : (ds : List Decl) (er : ℕ → Bool) (s : List Bool) (a b : ℕ) → List·Memᴰ b (guard-next ds (candidates ds er s) a) → a < length ds
+guard-from ds er s a b m =
+    let p : Step ds (candidates ds er s) a b = guard-step ds (candidates ds er s) a b m in
+    candidate-entry ds er s a (p .newtype) (p .is-candidate) .below
+
+-- ---- programs that agree
+-- i and j are the places of one name of S in the two programs
+pub record Places (S : ℕ → Bool) (ds ds' : List Decl) (i j : ℕ) : Type 0 where
+  pub name : ℕ
+  pub member : S name ≡ true
+  pub declared : Declared ds name
+  pub first : position ds name ≡ i
+  pub second : position ds' name ≡ j
+
+-- there is one such place j for i
+pub places-only : (S : ℕ → Bool) (ds ds' : List Decl) (i j k : ℕ) → Places S ds ds' i j → Places S ds ds' i k → k ≡ j
+places-only S ds ds' i j k p q =
+    let e : q .name ≡ p .name =
+    sym (position-name ds (q .name) (q .declared)) ∙ rw (q .first, ← (p .first)) (position-name ds (p .name) (p .declared)) in
+    sym (q .second) ∙ rw e (p .second)
+
+-- Two programs that agree on S, with marks that agree on S.
+pub record Alike (S : ℕ → Bool) (ds ds' : List Decl) (s s' : List Bool) : Type 0 where
+  pub agree : Agree S ds ds'
+  pub marks : (n : ℕ) → S n ≡ true → marked ds s n ≡ marked ds' s' n
+
+pub alike-sym : (S : ℕ → Bool) (ds ds' : List Decl) (s s' : List Bool) → Alike S ds ds' s s' → Alike S ds' ds s' s
+alike-sym S ds ds' s s' a = record { agree = agree-sym S ds ds' (a .agree); marks = λ n h. sym (a .marks n h) }
+
+module _ (S : ℕ → Bool) (ds ds' : List Decl) (s s' : List Bool) (a : Alike S ds ds' s s') where
+  pub mark-same : (n : ℕ) → S n ≡ true → getD s (position ds n) false ≡ getD s' (position ds' n) false
+  unfolding marked
+  mark-same n h = a .marks n h
+
+  -- the same constructor layouts,
+  pub ctor-layouts-same : (n : ℕ) → S n ≡ true → Declared ds n
+      → ctor-layouts (marked ds s) (dtype-at ds (position ds n)) ≡ ctor-layouts (marked ds' s') (dtype-at ds' (position ds' n))
+  ctor-layouts-same n h d =
+      ctor-layouts-local (marked ds s) (marked ds' s') (dtype-at ds (position ds n)) (λ m k. a .marks m (a .agree .closed n h d m k)) ∙ rw (a .agree .same-dtype n h d)
+
+  candidate-cong : (n : ℕ) → S n ≡ true → Declared ds n → candidate-at ds (marked ds s) s (position ds n) ≡ candidate-at ds' (marked ds' s') s' (position ds' n)
+  candidate-cong n h d = rw (ctor-layouts-same n h d, a .agree .same-dtype n h d, a .agree .same-origin n h d, mark-same n h)
+
+  -- the same candidates,
+  pub candidate-same : (n : ℕ) → S n ≡ true → Declared ds n
+      → getD (candidates-of ds s) (position ds n) none ≡ getD (candidates-of ds' s') (position ds' n) none
+  candidate-same n h d =
+      getD-candidates ds (marked ds s) s (position ds n) none d
+      ∙ candidate-cong n h d
+      ∙ sym (getD-candidates ds' (marked ds' s') s' (position ds' n) none (a .agree .declared n h .0 d))
+
+  guard-match : (i i' j : ℕ) → Places S ds ds' i i' → List·Memᴰ j (guard-next ds (candidates-of ds s) i) → (j' : ℕ) × List·Memᴰ j' (guard-next ds' (candidates-of ds' s') i') × Places S ds ds' j j'
+  guard-match i i' j p m =
+      let q : Step ds (candidates-of ds s) i j = guard-step ds (candidates-of ds s) i j m in
+      let k : CandidateAt ds (marked ds s) s i (q .newtype) = candidate-entry ds (marked ds s) s i (q .newtype) (q .is-candidate) in
+      let n : ℕ = q .place .name in
+      let named : List·Memᴰ n (dtype-names (dtype-at ds i)) = payload-named (marked ds s) (dtype-at ds i) (getD s i false) (q .newtype) (k .candidate) n (q .place .named) in
+      let inside : S n ≡ true = a .agree .closed (p .name) (p .member) (p .declared) n (rw (p .first) named) in
+      let decl : Declared ds n = rw (q .place .placed) (q .place .below) in
+      let decl' : Declared ds' n = a .agree .declared n inside .0 decl in
+      let cand : getD (candidates-of ds' s') i' none ≡ some (L-newtype (q .newtype)) =
+      rw (← (p .second)) (sym (candidate-same (p .name) (p .member) (p .declared)) ∙ rw (p .first) (q .is-candidate)) in
+      let step : Step ds' (candidates-of ds' s') i' (position ds' n) =
+      record { newtype = q .newtype; is-candidate = cand; place = record { name = n; named = q .place .named; placed = refl; below = decl' } } in
+      (position ds' n, step-guard ds' (candidates-of ds' s') i' (position ds' n) step, record { name = n; member = inside; declared = decl; first = q .place .placed; second = refl })
+
+  loop-same : (n : ℕ) → S n ≡ true → Declared ds n → dropped ds (candidates-of ds s) (position ds n) ≡ true → dropped ds' (candidates-of ds' s') (position ds' n) ≡ true
+  loop-same n h d e =
+      let p : Places S ds ds' (position ds n) (position ds' n) = record { name = n; member = h; declared = d; first = refl; second = refl } in
+      dropped-iff ds' (candidates-of ds' s') (position ds' n) .1
+      (reach-loop (guard-next ds (candidates-of ds s)) (guard-next ds' (candidates-of ds' s')) (Places S ds ds') guard-match (position ds n) (position ds' n) p (λ j r. places-only S ds ds' (position ds n) (position ds' n) j p r) (dropped-iff ds (candidates-of ds s) (position ds n) .0 e))
+
+-- the same candidates dropped,
+pub dropped-same : (S : ℕ → Bool) (ds ds' : List Decl) (s s' : List Bool)
+    → Alike S ds ds' s s'
+    → (n : ℕ)
+    → S n ≡ true
+    → Declared ds n
+    → dropped ds (candidates-of ds s) (position ds n) ≡ dropped ds' (candidates-of ds' s') (position ds' n)
+dropped-same S ds ds' s s' a n h d =
+    same-test
+    (dropped ds (candidates-of ds s) (position ds n))
+    (dropped ds' (candidates-of ds' s') (position ds' n))
+    (loop-same S ds ds' s s' a n h d)
+    (loop-same S ds' ds s' s (alike-sym S ds ds' s s' a) n h (a .agree .declared n h .0 d))
+
+-- and the same layouts: two programs that agree on a set of names closed under what is declared there,
+-- and whose marks agree there, give a name of the set the same layout.
+pub layout-same : (S : ℕ → Bool) (ds ds' : List Decl) (s s' : List Bool)
+    → Alike S ds ds' s s'
+    → (n : ℕ)
+    → S n ≡ true
+    → (l : Layout)
+    → getD (compute-layouts ds s) (position ds n) l ≡ getD (compute-layouts ds' s') (position ds' n) l
+layout-same S ds ds' s s' a n h l =
+    ⊎-elim
+    (λ d. getD-layouts ds s (position ds n) l d ∙ inner d ∙ sym (getD-layouts ds' s' (position ds' n) l (a .agree .declared n h .0 d)))
+    (λ e. getD-layouts-past ds s (position ds n) l (omega arith) ∙ sym (getD-layouts-past ds' s' (position ds' n) l (omega (arith, agree-foreign S ds ds' (a .agree) n h e))))
+    (declared-cases ds n)
+  where
+    inner : Declared ds n → layout-at ds s (position ds n) ≡ layout-at ds' s' (position ds' n)
+    inner d =
+        rw (ctor-layouts-same S ds ds' s s' a n h d, candidate-same S ds ds' s s' a n h d, dropped-same S ds ds' s s' a n h d, a .agree .same-dtype n h d, a .agree .same-origin n h d, mark-same S ds ds' s s' a n h)
+
+-- ---- programs with pinned declarations
+-- ds' is ds with the declarations at the places of B pinned to layouts that ds itself gives them, where
+-- a declaration at a place of B names only places of B.
+pub record PinnedLayouts (B : ℕ → Bool) (ds ds' : List Decl) (s : List Bool) : Type 0 where
+  pub same-length : length ds ≡ length ds'
+  pub same-dtypes : (i : ℕ) → i < length ds → dtype-at ds i ≡ dtype-at ds' i
+  pub others : (i : ℕ) → i < length ds → B i ≡ false → origin-at ds i ≡ origin-at ds' i
+  pub pins : (i : ℕ) → i < length ds → B i ≡ true → Pin (λ ti. ti .ti-layout ≡ getD (compute-layouts ds s) i L-opaque) ds' i
+  pub closed : (i j : ℕ) → i < length ds → B i ≡ true → Placed ds (dtype-names (dtype-at ds i)) j → B j ≡ true
+
+module _ (B : ℕ → Bool) (ds ds' : List Decl) (s : List Bool) (p : PinnedLayouts B ds ds' s) where
+  ctor-layouts-pinned : (i : ℕ) → i < length ds → ctor-layouts (marked ds s) (dtype-at ds i) ≡ ctor-layouts (marked ds' s) (dtype-at ds' i)
+  ctor-layouts-pinned i h = ctor-layouts-local (marked ds s) (marked ds' s) (dtype-at ds i) (λ n m. marked-same ds ds' (p .same-length) (p .same-dtypes) s n) ∙ rw (p .same-dtypes i h)
+
+  -- a place outside B has the same candidate,
+  candidate-other : (i : ℕ) → i < length ds → B i ≡ false → getD (candidates-of ds s) i none ≡ getD (candidates-of ds' s) i none
+  candidate-other i h b =
+      getD-candidates ds (marked ds s) s i none h ∙ inner ∙ sym (getD-candidates ds' (marked ds' s) s i none (rw (p .same-length) at h))
+    where
+      inner : candidate-at ds (marked ds s) s i ≡ candidate-at ds' (marked ds' s) s i
+      inner = rw (ctor-layouts-pinned i h, p .same-dtypes i h, p .others i h b)
+
+  -- and one in B is no candidate any more
+  candidate-pinned : (i : ℕ) → i < length ds → B i ≡ true → getD (candidates-of ds' s) i none ≡ none
+  unfolding candidate
+  candidate-pinned i h b = getD-candidates ds' (marked ds' s) s i none (rw (p .same-length) at h) ∙ rw (p .pins i h b .pinned)
+
+  -- a step of the guard from outside B is one in the other program too,
+  step-to : (a b : ℕ) → B a ≡ false → List·Memᴰ b (guard-next ds (candidates-of ds s) a) → List·Memᴰ b (guard-next ds' (candidates-of ds' s) a)
+  unfolding guard-next payload-names
+  step-to a b e m =
+      let h : a < length ds = guard-from ds (marked ds s) s a b m in
+      let q : Step ds (candidates-of ds s) a b = guard-step ds (candidates-of ds s) a b m in
+      let r : getD (candidates-of ds' s) a none ≡ some (L-newtype (q .newtype)) = sym (candidate-other a h e) ∙ q .is-candidate in
+      rw (r, ← (positions-same ds ds' (p .same-length) (p .same-dtypes) (names-of-cty (q .newtype .nt-ty)))) (rw (q .is-candidate) at m)
+
+  -- and no step is new
+  step-from : (a b : ℕ) → List·Memᴰ b (guard-next ds' (candidates-of ds' s) a) → List·Memᴰ b (guard-next ds (candidates-of ds s) a)
+  unfolding guard-next payload-names
+  step-from a b m = by (B a) refl
+    where
+      q : Step ds' (candidates-of ds' s) a b
+      q = guard-step ds' (candidates-of ds' s) a b m
+
+      h : a < length ds
+      h = rw (p .same-length) (guard-from ds' (marked ds' s) s a b m)
+
+      by : (x : Bool) → B a ≡ x → List·Memᴰ b (guard-next ds (candidates-of ds s) a)
+      by true e =
+          let z : none ≡ some (L-newtype (q .newtype)) = sym (candidate-pinned a h e) ∙ q .is-candidate in
+          let y : _≡_ {A = ℕ} 0 1 = cc in
+          absurd (omega arith)
+      by false e =
+          let r : getD (candidates-of ds s) a none ≡ some (L-newtype (q .newtype)) = candidate-other a h e ∙ q .is-candidate in
+          rw (r, positions-same ds ds' (p .same-length) (p .same-dtypes) (names-of-cty (q .newtype .nt-ty))) (rw (q .is-candidate) at m)
+
+  -- B is not left
+  step-inside : (a b : ℕ) → B a ≡ true → List·Memᴰ b (guard-next ds (candidates-of ds s) a) → B b ≡ true
+  step-inside a b e m = p .closed a b (guard-from ds (marked ds s) s a b m) e (guard-named ds (marked ds s) s a b m)
+
+  -- so a walk that ends outside B never was in it
+  walk-to : {a c : ℕ} → B c ≡ false → Reach (guard-next ds (candidates-of ds s)) a c → Reach (guard-next ds' (candidates-of ds' s)) a c
+  walk-to e (one {a} {b} m) = one (step-to a b (by (B a) refl) m)
+    where
+      by : (x : Bool) → B a ≡ x → x ≡ false
+      by true z = false-true (sym e ∙ step-inside a b z m)
+      by false z = refl
+  walk-to {c = c} e (more {a} {b} m r) = more (step-to a b (by (B a) refl) m) (walk-to e r)
+    where
+      by : (x : Bool) → B a ≡ x → x ≡ false
+      by true z =
+          false-true (sym e ∙ reach-stays (guard-next ds (candidates-of ds s)) (λ (i : ℕ). B i ≡ true) step-inside r (step-inside a b z m))
+      by false z = refl
+
+  walk-from : {a c : ℕ} → Reach (guard-next ds' (candidates-of ds' s)) a c → Reach (guard-next ds (candidates-of ds s)) a c
+  walk-from (one {a} {b} m) = one (step-from a b m)
+  walk-from (more {a} {b} m r) = more (step-from a b m) (walk-from r)
+
+  dropped-other : (i : ℕ) → B i ≡ false → dropped ds (candidates-of ds s) i ≡ dropped ds' (candidates-of ds' s) i
+  dropped-other i e =
+      same-test
+      (dropped ds (candidates-of ds s) i)
+      (dropped ds' (candidates-of ds' s) i)
+      (λ z. dropped-iff ds' (candidates-of ds' s) i .1 (walk-to e (dropped-iff ds (candidates-of ds s) i .0 z)))
+      (λ z. dropped-iff ds (candidates-of ds s) i .1 (walk-from (dropped-iff ds' (candidates-of ds' s) i .0 z)))
+
+  layout-pinned : (i : ℕ) → i < length ds → layout-at ds s i ≡ layout-at ds' s i
+  unfolding layout-of
+  layout-pinned i h = by (B i) refl
+    where
+      by : (x : Bool) → B i ≡ x → layout-at ds s i ≡ layout-at ds' s i
+      by true e = sym (getD-layouts ds s i L-opaque h) ∙ sym (p .pins i h e .holds) ∙ rw (p .pins i h e .pinned)
+      by false e = rw (ctor-layouts-pinned i h, candidate-other i h e, dropped-other i e, p .same-dtypes i h, p .others i h e)
+
+  -- Pinning a closed part of a program to the layouts that the program gives it changes no layout.
+  pub pinned-layouts : compute-layouts ds s ≡ compute-layouts ds' s
+  unfolding compute-layouts
+  pinned-layouts = rw (← (p .same-length)) (table-cong (layout-at ds s) (layout-at ds' s) (length ds) layout-pinned)

@@ -1,0 +1,92 @@
+-- What `run` gives, declaration by declaration, and what it depends on. Assumes nothing.
+use mathlib.Core.Path.{_≡_, refl, sym, _∙_, ap, ap₂, fun-ext}
+use mathlib.Core.List.{List}
+use mathlib.Core.Bool.{false}
+use mathlib.Core.Option.{Option, none}
+use Prim.Native.Nat.{ℕ, _<_}
+use lib.ListN.{length, getD}
+use Rattle.model.specs.Decl.{Dtype, Layout, L-opaque, TypeInfo, Decl, dtype-at, origin-at, table}
+use Rattle.model.specs.Erasure.{marked, erasure-fixpoint}
+use Rattle.model.specs.Reach.{cyclic}
+use Rattle.model.specs.Resolve.{Unfold, gone, newtype, abbreviation, stays, unfold-of, unfolds, unfold-name, resolve, resolve-checked}
+use Rattle.model.specs.Run.{fuel, rw-decl, info, layouts-of, somes, run, unfold-names, unfold-next, returns, resolves, fault-code, decl-fault}
+use Rattle.model.specs.Laws.Names.{position-same}
+use Rattle.model.specs.Laws.Layout.{positions-same}
+use Rattle.model.specs.Laws.Lists.{length-table, getD-table, table-cong}
+
+-- ---- one declaration
+-- what the names of a program become
+abbrev pub lay : List Decl → ℕ → Unfold
+lay ds = unfold-name ds (layouts-of ds)
+
+abbrev pub layout-of-decl : List Decl → ℕ → Layout
+layout-of-decl ds i = getD (layouts-of ds) i L-opaque
+
+-- the left declaration of declaration i
+unfoldable pub left-at : List Decl → ℕ → Option Dtype
+left-at ds i = rw-decl (resolve (lay ds) fuel) (dtype-at ds i) (layout-of-decl ds i)
+
+-- the verdict of declaration i
+unfoldable pub info-at : List Decl → ℕ → TypeInfo
+info-at ds i =
+    info (marked ds (erasure-fixpoint ds .marks)) (dtype-at ds i) (origin-at ds i) (getD (erasure-fixpoint ds .marks) i false) (layout-of-decl ds i) (left-at ds i)
+
+pub run-program : (ds : List Decl) → run ds .program ≡ somes (table (left-at ds) (length ds))
+unfolding run layouts-of left-at
+run-program ds = refl
+
+pub run-infos : (ds : List Decl) → run ds .infos ≡ table (info-at ds) (length ds)
+unfolding run layouts-of left-at info-at
+run-infos ds =
+    table-cong _ _ (length ds) (λ i h. ap (info (marked ds (erasure-fixpoint ds .marks)) (dtype-at ds i) (origin-at ds i) (getD (erasure-fixpoint ds .marks) i false) (layout-of-decl ds i)) (getD-table _ (length ds) i none h))
+
+pub getD-infos : (ds : List Decl) (i : ℕ) (d : TypeInfo) → i < length ds → getD (run ds .infos) i d ≡ info-at ds i
+getD-infos ds i d h = rw run-infos (getD-table (info-at ds) (length ds) i d h)
+
+pub length-infos : (ds : List Decl) → length (run ds .infos) ≡ length ds
+length-infos ds = rw run-infos (length-table (info-at ds) (length ds))
+
+-- ---- the same types and layouts
+-- Origins apart, all but the verdicts follows from the declarations' types and the layouts.
+module _ (ds ds' : List Decl) (e : length ds ≡ length ds') (t : (i : ℕ) → i < length ds → dtype-at ds i ≡ dtype-at ds' i) where
+  module _ (q : layouts-of ds ≡ layouts-of ds') where
+    unfolds-same : unfolds ds (layouts-of ds) ≡ unfolds ds' (layouts-of ds')
+    unfolding unfolds
+    unfolds-same =
+        table-cong _ _ (length ds) (λ i h. ap₂ (λ (d : Dtype) (l : List Layout). unfold-of d (getD l i L-opaque)) (t i h) q)
+        ∙ ap (table (λ i. unfold-of (dtype-at ds' i) (getD (layouts-of ds') i L-opaque))) e
+
+    pub lay-same : lay ds ≡ lay ds'
+    unfolding unfold-name
+    lay-same = fun-ext (λ n. ap₂ (λ (us : List Unfold) (i : ℕ). getD us i stays) unfolds-same (position-same ds ds' n e t))
+
+    pub left-same : (i : ℕ) → i < length ds → left-at ds i ≡ left-at ds' i
+    unfolding left-at
+    left-same i h =
+        ap₂ (λ (u : ℕ → Unfold) (d : Dtype). rw-decl (resolve u fuel) d (layout-of-decl ds i)) lay-same (t i h)
+        ∙ ap (λ (l : List Layout). rw-decl (resolve (lay ds') fuel) (dtype-at ds' i) (getD l i L-opaque)) q
+
+    pub program-same : run ds .program ≡ run ds' .program
+    program-same =
+        run-program ds
+        ∙ (ap somes (table-cong (left-at ds) (left-at ds') (length ds) left-same ∙ ap (table (left-at ds')) e)
+        ∙ sym (run-program ds'))
+
+    pub fault-same : (limit i : ℕ) → decl-fault limit ds (layouts-of ds) i ≡ decl-fault limit ds' (layouts-of ds') i
+    unfolding decl-fault
+    fault-same limit i =
+        ap₂ (λ (u : ℕ → Unfold) (l : List Layout). fault-code (resolve-checked limit u fuel) (resolves (getD l i L-opaque))) lay-same q
+
+    unfold-names-same : (u : Unfold) → unfold-names ds u ≡ unfold-names ds' u
+    unfolding unfold-names
+    unfold-names-same gone = refl
+    unfold-names-same (newtype ps c) = positions-same ds ds' e t _
+    unfold-names-same (abbreviation ps c) = positions-same ds ds' e t _
+    unfold-names-same stays = refl
+
+    pub returns-same : (i : ℕ) → returns ds (layouts-of ds) i ≡ returns ds' (layouts-of ds') i
+    unfolding returns unfold-next
+    returns-same i =
+        ap₂ (λ (next : ℕ → List ℕ) (n : ℕ). cyclic next n i)
+        (fun-ext (λ j. unfold-names-same (getD (unfolds ds (layouts-of ds)) j stays) ∙ ap (λ (us : List Unfold). unfold-names ds' (getD us j stays)) unfolds-same))
+        e

@@ -1,0 +1,134 @@
+-- Constructor layouts and newtype collapse: section 5.2 of the source's Layout file.
+-- Assumes nothing.
+use mathlib.Core.List.{List, [], _∷_, map}
+use mathlib.Core.Bool.{Bool, true, false, _||_, not}
+use mathlib.Core.Option.{Option, none, some}
+use Prim.Native.Nat.{ℕ, suc}
+use lib.Dec.{ltb}
+use lib.ListN.{length, getD}
+use Rattle.columns.specs.Column.{pick}
+use Rattle.model.specs.Cty.{Cty, uninline, names-of-cty}
+use Rattle.model.specs.Decl.{
+  Field,
+  Ctor,
+  Body,
+  TAbstract,
+  TAbbrev,
+  TRecord,
+  TVariant,
+  Dtype,
+  NoNewtype,
+  has-flag,
+  ctors-of-tydef,
+  CtorLayout,
+  Layout,
+  L-erased,
+  L-newtype,
+  L-struct,
+  L-abbrev,
+  L-opaque,
+  Origin,
+  here,
+  imported,
+  Decl,
+  dtype-at,
+  origin-at,
+  table,
+  position,
+}
+use Rattle.model.specs.Erasure.{cty-erased, marked}
+use Rattle.model.specs.Reach.{cyclic}
+
+-- ---- ctor_layouts
+unfoldable pub slots : (ℕ → Bool) → List Field → List Bool
+slots er fs = map (λ f. not (cty-erased er (f .fd-type))) fs
+
+unfoldable pub kept : List Bool → List Field → List Field
+kept [] fs = []
+kept (b ∷ bs) [] = []
+kept (b ∷ bs) (f ∷ fs) = let gs : List Field = kept bs fs in pick b (f ∷ gs) gs
+
+unfoldable pub ctor-layout : Ctor → List Bool → CtorLayout
+ctor-layout c bs = record { cl-name = c .ct-name; cl-slots = bs; cl-fields = kept bs (c .ct-fields) }
+
+-- Layout's `ctor_layouts`
+unfoldable pub ctor-layouts : (ℕ → Bool) → Dtype → List CtorLayout
+ctor-layouts er d = map (λ c. ctor-layout c (slots er (c .ct-fields))) (ctors-of-tydef d)
+
+-- ---- newtypes
+-- the place of the first kept field
+unfoldable pub first-kept : List Bool → ℕ
+first-kept [] = 0
+first-kept (true ∷ bs) = 0
+first-kept (false ∷ bs) = suc (first-kept bs)
+
+-- The newtype that one constructor with one kept field can become; its payload is that field's type less one outer `TInline`.
+unfoldable pub newtype-of-ctor : ℕ → List Bool → List Field → Option Layout
+newtype-of-ctor n bs [] = none
+newtype-of-ctor n bs (f ∷ []) =
+    some (L-newtype (record { nt-ctor = n; nt-field = f .fd-name; nt-index = first-kept bs; nt-ty = uninline (f .fd-type) }))
+newtype-of-ctor n bs (f ∷ g ∷ fs) = none
+
+unfoldable pub newtype-of : List CtorLayout → Option Layout
+newtype-of [] = none
+newtype-of (cl ∷ []) = newtype-of-ctor (cl .cl-name) (cl .cl-slots) (cl .cl-fields)
+newtype-of (cl ∷ cm ∷ cls) = none
+
+-- a candidate: local, not erased, without `NoNewtype`
+unfoldable pub candidate : Dtype → Origin → Bool → List CtorLayout → Option Layout
+candidate d (imported ti) e cls = none
+candidate d here e cls = pick (e || has-flag d NoNewtype) none (newtype-of cls)
+
+-- er: which names are erased; s: the same, by declaration
+unfoldable pub candidates : List Decl → (ℕ → Bool) → List Bool → List (Option Layout)
+candidates ds er s =
+    table (λ i. candidate (dtype-at ds i) (origin-at ds i) (getD s i false) (ctor-layouts er (dtype-at ds i))) (length ds)
+
+-- ---- acyclic_candidates
+unfoldable pub positions : List Decl → List ℕ → List ℕ
+positions ds [] = []
+positions ds (n ∷ ns) = let is : List ℕ = positions ds ns in pick (ltb (position ds n) (length ds)) (position ds n ∷ is) is
+
+-- the declarations that a type names
+abbrev pub names-in : List Decl → Cty → List ℕ
+names-in ds c = positions ds (names-of-cty c)
+
+-- from a candidate to the declarations that its payload names
+unfoldable pub payload-names : List Decl → Option Layout → List ℕ
+payload-names ds none = []
+payload-names ds (some L-erased) = []
+payload-names ds (some (L-newtype nt)) = names-in ds (nt .nt-ty)
+payload-names ds (some (L-struct cls)) = []
+payload-names ds (some (L-abbrev c)) = []
+payload-names ds (some L-opaque) = []
+
+unfoldable pub guard-next : List Decl → List (Option Layout) → ℕ → List ℕ
+guard-next ds cands i = payload-names ds (getD cands i none)
+
+-- Layout's `acyclic_candidates`: whether candidate i is dropped
+unfoldable pub dropped : List Decl → List (Option Layout) → ℕ → Bool
+dropped ds cands i = cyclic (guard-next ds cands) (length ds) i
+
+-- ---- compute_layouts
+unfoldable pub collapse : Bool → Option Layout → List CtorLayout → Layout
+collapse true cand cls = L-struct cls
+collapse false none cls = L-struct cls
+collapse false (some l) cls = l
+
+unfoldable pub layout-of-body : Body → Bool → Option Layout → List CtorLayout → Layout
+layout-of-body TAbstract drop cand cls = L-opaque
+layout-of-body (TAbbrev c) drop cand cls = L-abbrev c
+layout-of-body (TRecord fs) drop cand cls = collapse drop cand cls
+layout-of-body (TVariant cs) drop cand cls = collapse drop cand cls
+
+unfoldable pub layout-of : Dtype → Origin → Bool → Bool → Option Layout → List CtorLayout → Layout
+layout-of d (imported ti) e drop cand cls = ti .ti-layout
+layout-of d here true drop cand cls = L-erased
+layout-of d here false drop cand cls = layout-of-body (d .dt-body) drop cand cls
+
+-- Layout's `compute_layouts`
+unfoldable pub compute-layouts : List Decl → List Bool → List Layout
+compute-layouts ds s =
+    let er : ℕ → Bool = marked ds s in
+    let cands : List (Option Layout) = candidates ds er s in
+    table (λ i. layout-of (dtype-at ds i) (origin-at ds i) (getD s i false) (dropped ds cands i) (getD cands i none) (ctor-layouts er (dtype-at ds i))) (length ds)

@@ -1,0 +1,9 @@
+pub mod Cty
+pub mod Decl
+pub mod Erasure
+pub mod Reach
+pub mod Layout
+pub mod Resolve
+pub mod Run
+pub mod Names
+pub mod Laws

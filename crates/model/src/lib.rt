@@ -1,0 +1,1 @@
+// The model of the source's pass.
