@@ -1,8 +1,7 @@
 -- From the lines of a sheet to the program that they declare (document 01, "Sheets"). Total on every
 -- list of lines, and meant for those that pass rows 2 to 7. Assumes nothing.
 use mathlib.Core.List.{List, [], _∷_, _++_, map}
-use mathlib.Core.Bool.{Bool, _||_, not}
-use mathlib.Core.Option.{Option, none, some}
+use mathlib.Core.Bool.{Bool, false, _||_, not}
 use Prim.Native.Nat.{ℕ, zero, suc, _+_}
 use lib.Dec.{eqb}
 use lib.ListN.{getD}
@@ -31,7 +30,7 @@ use Rattle.model.specs.Decl.{
   Decl,
   close-fields,
 }
-use Rattle.model.specs.Layout.{ctor-layout, newtype-of}
+use Rattle.model.specs.Layout.{ctor-layout, newtype-of, collapse}
 
 -- ---- letters
 abbrev pub name-line : ℕ
@@ -172,15 +171,11 @@ abbreviated (TAbbrev c) = L-abbrev c
 abbreviated (TRecord fs) = L-opaque
 abbreviated (TVariant cs) = L-opaque
 
-abbrev pub or-struct : Option Layout → List CtorLayout → Layout
-or-struct none cls = L-struct cls
-or-struct (some l) cls = l
-
 -- the layout that a V line's second number stands for; a newtype's payload is found as a candidate's is
 unfoldable pub layout-by : ℕ → Body → List CtorLayout → Layout
 layout-by n b cls =
     eqb n 0 ⇒ L-erased ∥
-    eqb n 1 ⇒ or-struct (newtype-of cls) cls ∥
+    eqb n 1 ⇒ collapse false (newtype-of cls) cls ∥
     eqb n 2 ⇒ L-struct cls ∥
     eqb n 3 ⇒ abbreviated b ∥
     L-opaque

@@ -21,6 +21,7 @@ use Rattle.model.specs.Decl.{
   has-flag,
   ctors-of-tydef,
   CtorLayout,
+  NewtypeLayout,
   Layout,
   L-erased,
   L-newtype,
@@ -63,24 +64,24 @@ first-kept (true ∷ bs) = 0
 first-kept (false ∷ bs) = suc (first-kept bs)
 
 -- The newtype that one constructor with one kept field can become; its payload is that field's type less one outer `TInline`.
-unfoldable pub newtype-of-ctor : ℕ → List Bool → List Field → Option Layout
+unfoldable pub newtype-of-ctor : ℕ → List Bool → List Field → Option NewtypeLayout
 newtype-of-ctor n bs [] = none
 newtype-of-ctor n bs (f ∷ []) =
-    some (L-newtype (record { nt-ctor = n; nt-field = f .fd-name; nt-index = first-kept bs; nt-ty = uninline (f .fd-type) }))
+    some (record { nt-ctor = n; nt-field = f .fd-name; nt-index = first-kept bs; nt-ty = uninline (f .fd-type) })
 newtype-of-ctor n bs (f ∷ g ∷ fs) = none
 
-unfoldable pub newtype-of : List CtorLayout → Option Layout
+unfoldable pub newtype-of : List CtorLayout → Option NewtypeLayout
 newtype-of [] = none
 newtype-of (cl ∷ []) = newtype-of-ctor (cl .cl-name) (cl .cl-slots) (cl .cl-fields)
 newtype-of (cl ∷ cm ∷ cls) = none
 
 -- a candidate: local, not erased, without `NoNewtype`
-unfoldable pub candidate : Dtype → Origin → Bool → List CtorLayout → Option Layout
+unfoldable pub candidate : Dtype → Origin → Bool → List CtorLayout → Option NewtypeLayout
 candidate d (imported ti) e cls = none
 candidate d here e cls = pick (e || has-flag d NoNewtype) none (newtype-of cls)
 
 -- er: which names are erased; s: the same, by declaration
-unfoldable pub candidates : List Decl → (ℕ → Bool) → List Bool → List (Option Layout)
+unfoldable pub candidates : List Decl → (ℕ → Bool) → List Bool → List (Option NewtypeLayout)
 candidates ds er s =
     table (λ i. candidate (dtype-at ds i) (origin-at ds i) (getD s i false) (ctor-layouts er (dtype-at ds i))) (length ds)
 
@@ -93,35 +94,40 @@ positions ds (n ∷ ns) = let is : List ℕ = positions ds ns in pick (ltb (posi
 abbrev pub names-in : List Decl → Cty → List ℕ
 names-in ds c = positions ds (names-of-cty c)
 
--- from a candidate to the declarations that its payload names
-unfoldable pub payload-names : List Decl → Option Layout → List ℕ
-payload-names ds none = []
-payload-names ds (some L-erased) = []
-payload-names ds (some (L-newtype nt)) = names-in ds (nt .nt-ty)
-payload-names ds (some (L-struct cls)) = []
-payload-names ds (some (L-abbrev c)) = []
-payload-names ds (some L-opaque) = []
+unfoldable pub type-names : List Decl → Option Cty → List ℕ
+type-names ds none = []
+type-names ds (some c) = names-in ds c
 
-unfoldable pub guard-next : List Decl → List (Option Layout) → ℕ → List ℕ
-guard-next ds cands i = payload-names ds (getD cands i none)
+-- From declaration i to those that the type named by it is gone on through names: `through` says
+-- which type that is, if any.
+unfoldable pub steps : List Decl → (ℕ → Option Cty) → ℕ → List ℕ
+steps ds through i = type-names ds (through i)
+
+unfoldable pub payload : Option NewtypeLayout → Option Cty
+payload none = none
+payload (some nt) = some (nt .nt-ty)
+
+-- the guard goes on through the payloads of candidates
+unfoldable pub guard-next : List Decl → List (Option NewtypeLayout) → ℕ → List ℕ
+guard-next ds cands = steps ds (λ i. payload (getD cands i none))
 
 -- Layout's `acyclic_candidates`: whether candidate i is dropped
-unfoldable pub dropped : List Decl → List (Option Layout) → ℕ → Bool
+unfoldable pub dropped : List Decl → List (Option NewtypeLayout) → ℕ → Bool
 dropped ds cands i = cyclic (guard-next ds cands) (length ds) i
 
 -- ---- compute_layouts
-unfoldable pub collapse : Bool → Option Layout → List CtorLayout → Layout
+unfoldable pub collapse : Bool → Option NewtypeLayout → List CtorLayout → Layout
 collapse true cand cls = L-struct cls
 collapse false none cls = L-struct cls
-collapse false (some l) cls = l
+collapse false (some nt) cls = L-newtype nt
 
-unfoldable pub layout-of-body : Body → Bool → Option Layout → List CtorLayout → Layout
+unfoldable pub layout-of-body : Body → Bool → Option NewtypeLayout → List CtorLayout → Layout
 layout-of-body TAbstract drop cand cls = L-opaque
 layout-of-body (TAbbrev c) drop cand cls = L-abbrev c
 layout-of-body (TRecord fs) drop cand cls = collapse drop cand cls
 layout-of-body (TVariant cs) drop cand cls = collapse drop cand cls
 
-unfoldable pub layout-of : Dtype → Origin → Bool → Bool → Option Layout → List CtorLayout → Layout
+unfoldable pub layout-of : Dtype → Origin → Bool → Bool → Option NewtypeLayout → List CtorLayout → Layout
 layout-of d (imported ti) e drop cand cls = ti .ti-layout
 layout-of d here true drop cand cls = L-erased
 layout-of d here false drop cand cls = layout-of-body (d .dt-body) drop cand cls
@@ -130,5 +136,5 @@ layout-of d here false drop cand cls = layout-of-body (d .dt-body) drop cand cls
 unfoldable pub compute-layouts : List Decl → List Bool → List Layout
 compute-layouts ds s =
     let er : ℕ → Bool = marked ds s in
-    let cands : List (Option Layout) = candidates ds er s in
+    let cands : List (Option NewtypeLayout) = candidates ds er s in
     table (λ i. layout-of (dtype-at ds i) (origin-at ds i) (getD s i false) (dropped ds cands i) (getD cands i none) (ctor-layouts er (dtype-at ds i))) (length ds)

@@ -2,6 +2,7 @@
 -- and 10 of document 01 speak of. Assumes nothing.
 use mathlib.Core.List.{List, []}
 use mathlib.Core.Bool.{Bool, true, false, _||_}
+use mathlib.Core.Option.{Option, none, some}
 use Prim.Native.Nat.{ℕ, zero, suc}
 use lib.Dec.{eqb, leb, ltb}
 use lib.ListN.{length, getD}
@@ -62,6 +63,13 @@ pub data Unfold : Type 0 where
   newtype : List ℕ → Cty → Unfold
   abbreviation : List ℕ → Cty → Unfold
   stays : Unfold
+
+-- the type that a name is replaced by
+unfoldable pub unfolded : Unfold → Option Cty
+unfolded gone = none
+unfolded (newtype ps c) = some c
+unfolded (abbreviation ps c) = some c
+unfolded stays = none
 
 unfoldable pub unfold-body : List ℕ → Body → Unfold
 unfold-body ps TAbstract = stays

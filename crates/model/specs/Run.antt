@@ -37,7 +37,7 @@ use Rattle.model.specs.Decl.{
   member,
 }
 use Rattle.model.specs.Erasure.{Settled, marked, erasure-fixpoint}
-use Rattle.model.specs.Layout.{ctor-layouts, compute-layouts, names-in}
+use Rattle.model.specs.Layout.{ctor-layouts, compute-layouts, steps}
 use Rattle.model.specs.Reach.{cyclic}
 use Rattle.model.specs.Resolve.{
   Unfold,
@@ -45,6 +45,7 @@ use Rattle.model.specs.Resolve.{
   newtype,
   abbreviation,
   stays,
+  unfolded,
   unfolds,
   unfold-name,
   resolve,
@@ -149,15 +150,9 @@ run ds =
     }
 
 -- ---- what rows 8, 9 and 10 look at
--- from an unfolded declaration to those that its body or payload names
-unfoldable pub unfold-names : List Decl → Unfold → List ℕ
-unfold-names ds gone = []
-unfold-names ds (newtype ps c) = names-in ds c
-unfold-names ds (abbreviation ps c) = names-in ds c
-unfold-names ds stays = []
-
+-- row 8 goes on through the bodies and payloads of unfolded names
 unfoldable pub unfold-next : List Decl → List Layout → ℕ → List ℕ
-unfold-next ds ls i = unfold-names ds (getD (unfolds ds ls) i stays)
+unfold-next ds ls = steps ds (λ i. unfolded (getD (unfolds ds ls) i stays))
 
 -- row 8: an unfolded name reaches itself
 unfoldable pub returns : List Decl → List Layout → ℕ → Bool

@@ -19,7 +19,7 @@ use Rattle.sheet.specs.Sheet.{count, lines, row1}
 use Rattle.sheet.specs.SheetLaws.{AllFit, length-lines, within-count, fit-lines}
 use Rattle.sheet.specs.ListLaws.{false-true, both, one-of, Every, mem-every, every-map}
 use Rattle.model.specs.Cty.{Cty, size}
-use Rattle.model.specs.Decl.{
+use Rattle.model.specs.Decl.{NewtypeLayout, 
   Field,
   Body,
   TAbstract,
@@ -45,7 +45,7 @@ use Rattle.model.specs.Decl.{
   close-fields,
 }
 use Rattle.model.specs.Erasure.{marked, erasure-fixpoint}
-use Rattle.model.specs.Layout.{ctor-layouts, newtype-of-ctor, newtype-of, dropped, layout-of}
+use Rattle.model.specs.Layout.{collapse, ctor-layouts, newtype-of-ctor, newtype-of, dropped, layout-of}
 use Rattle.model.specs.Resolve.{stays, resolve, resolve-checked}
 use Rattle.model.specs.Run.{fuel, layouts-of, run, returns, resolves, decl-fault}
 use Rattle.meaning.specs.Program.{
@@ -67,7 +67,6 @@ use Rattle.meaning.specs.Program.{
   keeps-of,
   ctor-layouts-by,
   abbreviated,
-  or-struct,
   layout-by,
   info-of,
   verdict-of,
@@ -86,7 +85,7 @@ use Rattle.meaning.specs.Laws.Output.{verdict-bytes, verdict-round, columns-pos
 use Rattle.meaning.specs.Laws.Written.{left-program-read}
 use Rattle.meaning.specs.Laws.Numbers.{sheet-round, left-sheet-normal}
 use Rattle.meaning.specs.Laws.Program.{None, heads, head-cases, length-groups, length-program, program-at, HeadAt, head-at, body-number, body-of-number, close-number}
-use Rattle.model.specs.Laws.Resolve.{StructMatches, OpaqueMatches, Matches, Newtype, candidate-newtype, layout-matches, Unspent, Normal, Resolved, decl-resolved, LeftTypes, left-types}
+use Rattle.model.specs.Laws.Resolve.{StructMatches, OpaqueMatches, Matches, layout-matches, Unspent, Normal, Resolved, decl-resolved, LeftTypes, left-types}
 use Rattle.model.specs.Laws.Layout.{candidates-of, getD-candidates, getD-layouts}
 use Rattle.model.specs.Laws.Run.{lay, layout-of-decl, left-at, length-infos}
 use Rattle.answer.specs.Laws.Build.{row1-small, whole-length, pass-whole}
@@ -100,12 +99,12 @@ by-matches n (TAbbrev c) ls h = absurd (omega arith)
 by-matches n (TRecord fs) ls h = tt
 by-matches n (TVariant cs) ls h = tt
 
-newtype-matches : (b : Body) (cls : List CtorLayout) → StructMatches b cls → Matches b (or-struct (newtype-of cls) cls)
-unfolding newtype-of newtype-of-ctor
+newtype-matches : (b : Body) (cls : List CtorLayout) → StructMatches b cls → Matches b (collapse false (newtype-of cls) cls)
+unfolding newtype-of newtype-of-ctor collapse
 newtype-matches b [] m = m
 newtype-matches b (cl ∷ []) m = go (cl .cl-fields)
   where
-    go : (fs : List Field) → Matches b (or-struct (newtype-of-ctor (cl .cl-name) (cl .cl-slots) fs) (cl ∷ []))
+    go : (fs : List Field) → Matches b (collapse false (newtype-of-ctor (cl .cl-name) (cl .cl-slots) fs) (cl ∷ []))
     go [] = m
     go (f ∷ []) = tt
     go (f ∷ g ∷ fs) = m
@@ -149,7 +148,7 @@ verdict-matches h v kept b cls n m e =
         (x0 ⇒ eqb (number v 0) 1 ∥
         eqb (number v 0) 0
         && (x1 ⇒ one-ctor h && eqb kept 1 ∥ x2 ⇒ eqb k 2 || eqb k 3 ∥ x3 ⇒ eqb k 1 ∥ x4 ⇒ eqb k 0 ∥ false)) ≡ true →
-        Matches b (x0 ⇒ L-erased ∥ x1 ⇒ or-struct (newtype-of cls) cls ∥ x2 ⇒ L-struct cls ∥ x3 ⇒ abbreviated b ∥ L-opaque)
+        Matches b (x0 ⇒ L-erased ∥ x1 ⇒ collapse false (newtype-of cls) cls ∥ x2 ⇒ L-struct cls ∥ x3 ⇒ abbreviated b ∥ L-opaque)
     go true x1 x2 x3 x4 p = tt
     go false true x2 x3 x4 p = newtype-matches b cls (one (both (eqb (number v 0) 0) (one-ctor h && eqb kept 1) p .1))
     go false false true x3 x4 p = ⊎-elim two three (one-of (eqb k 2) (eqb k 3) (both (eqb (number v 0) 0) (eqb k 2 || eqb k 3) p .1))
@@ -279,14 +278,11 @@ module _ (ls : List Line) (pass : Clear (length ls) (row7 ls)) where
       s : List Bool
       s = erasure-fixpoint ds .marks
 
-      cand : Option Layout
+      cand : Option NewtypeLayout
       cand = getD (candidates-of ds s) i none
 
-      newtype-cand : Newtype cand
-      newtype-cand = rw (getD-candidates ds (marked ds s) s i none h) (candidate-newtype (dtype-at ds i) (origin-at ds i) (getD s i false) (ctor-layouts (marked ds s) (dtype-at ds i)))
-
       go : (o : Origin) → origin-at ds i ≡ o → Matches (dtype-at ds i .dt-body) (layout-of (dtype-at ds i) o (getD s i false) (dropped ds (candidates-of ds s) i) cand (ctor-layouts (marked ds s) (dtype-at ds i)))
-      go here e = layout-matches (marked ds s) (dtype-at ds i) (getD s i false) (dropped ds (candidates-of ds s) i) cand newtype-cand
+      go here e = layout-matches (marked ds s) (dtype-at ds i) (getD s i false) (dropped ds (candidates-of ds s) i) cand
       go (imported ti) e =
           let r : HeadAt ls i = head-at ls i (omega (arith, length-program ls)) in
           let q = ap (λ (k : ℕ). getD ds k no-decl) (sym (r .passed)) ∙ program-at ls (r .place) no-decl (r .inside) (r .heads-it) in

@@ -9,10 +9,10 @@ use native.Mathlib.Omega.{arith}
 use lib.ListN.{length}
 use Rattle.model.specs.Cty.{Cty, names-of-cty}
 use Rattle.model.specs.Decl.{Decl, position}
-use Rattle.model.specs.Layout.{names-in}
+use Rattle.model.specs.Layout.{type-names, steps, names-in}
 use Rattle.model.specs.Reach.{Reach}
-use Rattle.model.specs.Resolve.{Unfold, gone, newtype, abbreviation, stays, unfold-name, resolve, resolve-checked}
-use Rattle.model.specs.Run.{layouts-of, unfold-names, unfold-next, returns}
+use Rattle.model.specs.Resolve.{unfolded, Unfold, gone, newtype, abbreviation, stays, unfold-name, resolve, resolve-checked}
+use Rattle.model.specs.Run.{layouts-of, unfold-next, returns}
 use Rattle.model.specs.Names.{Declared}
 use Rattle.model.specs.Laws.Reach.{cyclic-complete, rank, rank-less, rank-bound}
 use Rattle.model.specs.Laws.Layout.{names-in-iff, unfold-below}
@@ -46,21 +46,21 @@ module _ (ds : List Decl) (clear : NoReturn ds) where
   unfolds-declared n u = ⊎-elim (λ d. d) (λ e. absurd (subst Unfolds (lay-foreign ds n (omega arith)) u)) (declared-cases ds n)
 
   -- an unfolded name in the body of another has a lower rank
-  lower : (n m : ℕ) (c : Cty) → unfold-names ds (lay ds n) ≡ names-in ds c → List·Memᴰ m (names-of-cty c) → Unfolds (lay ds m) → rank-of m < rank-of n
-  unfolding rank-of unfold-next unfold-name
+  lower : (n m : ℕ) (c : Cty) → type-names ds (unfolded (lay ds n)) ≡ names-in ds c → List·Memᴰ m (names-of-cty c) → Unfolds (lay ds m) → rank-of m < rank-of n
+  unfolding rank-of unfold-next steps unfold-name
   lower n m c e k u =
       let d : Declared ds m = unfolds-declared m u in
       let p : List·Memᴰ (position ds m) (names-in ds c) = names-in-iff ds c (position ds m) .1 (record { name = m; named = k; placed = refl; below = d }) in
       rank-less next (length ds) (unfold-below ds (layouts-of ds)) (position ds n) (position ds m) (rw e p) (no-loop (position ds m) d)
 
   pub ranked : Ranked (lay ds) rank-of
-  unfolding unfold-names
+  unfolding unfolded type-names
   ranked n = go (lay ds n) refl
     where
       go : (u : Unfold) → lay ds n ≡ u → BodyAll (Under (lay ds) rank-of (rank-of n)) u
       go gone e = tt
-      go (newtype ps c) e = names-all (Under (lay ds) rank-of (rank-of n)) c (λ m k u. lower n m c (ap (unfold-names ds) e) k u)
-      go (abbreviation ps c) e = names-all (Under (lay ds) rank-of (rank-of n)) c (λ m k u. lower n m c (ap (unfold-names ds) e) k u)
+      go (newtype ps c) e = names-all (Under (lay ds) rank-of (rank-of n)) c (λ m k u. lower n m c (ap (λ (u : Unfold). type-names ds (unfolded u)) e) k u)
+      go (abbreviation ps c) e = names-all (Under (lay ds) rank-of (rank-of n)) c (λ m k u. lower n m c (ap (λ (u : Unfold). type-names ds (unfolded u)) e) k u)
       go stays e = tt
 
   pub under-all : (c : Cty) → All (Under (lay ds) rank-of (length ds)) c

@@ -24,6 +24,7 @@ use Rattle.model.specs.Decl.{
   NoUnfold,
   has-flag,
   CtorLayout,
+  NewtypeLayout,
   Layout,
   L-erased,
   L-newtype,
@@ -40,15 +41,14 @@ use Rattle.model.specs.Decl.{
   position,
 }
 use Rattle.model.specs.Erasure.{marked, erasure-fixpoint}
-use Rattle.model.specs.Layout.{ctor-layouts, candidate, dropped, names-in, layout-of}
-use Rattle.model.specs.Resolve.{Unfold, gone, newtype, abbreviation, stays, unfold-body, unfold-dtype, unfold-of, unfolds, unfold-name, resolve}
+use Rattle.model.specs.Layout.{steps, type-names, ctor-layouts, candidate, dropped, names-in, layout-of}
+use Rattle.model.specs.Resolve.{unfolded, Unfold, gone, newtype, abbreviation, stays, unfold-body, unfold-dtype, unfold-of, unfolds, unfold-name, resolve}
 use Rattle.model.specs.Run.{
   fuel,
   rw-decl,
   record-of,
   info,
   layouts-of,
-  unfold-names,
   unfold-next,
   returns,
   resolves,
@@ -93,11 +93,11 @@ layouts-own ds own i h =
     er : ℕ → Bool
     er = marked ds s
 
-    go : (drop : Bool) (cand : Option Layout) (o : Origin) → origin-at ds i ≡ o
+    go : (drop : Bool) (cand : Option NewtypeLayout) (o : Origin) → origin-at ds i ≡ o
         → cand ≡ candidate (dtype-at ds i) (origin-at ds i) (getD s i false) (ctor-layouts er (dtype-at ds i))
         → Among (layout-names (layout-of (dtype-at ds i) o (getD s i false) drop cand (ctor-layouts er (dtype-at ds i)))) (dtype-names (dtype-at ds i))
     go drop cand here e c =
-        subst (λ (x : Option Layout). Among (layout-names (layout-of (dtype-at ds i) here (getD s i false) drop x (ctor-layouts er (dtype-at ds i)))) (dtype-names (dtype-at ds i)))
+        subst (λ (x : Option NewtypeLayout). Among (layout-names (layout-of (dtype-at ds i) here (getD s i false) drop x (ctor-layouts er (dtype-at ds i)))) (dtype-names (dtype-at ds i)))
         (sym (c ∙ ap (λ (x : Origin). candidate (dtype-at ds i) x (getD s i false) (ctor-layouts er (dtype-at ds i))) e))
         (layout-own er (dtype-at ds i) (getD s i false) drop)
     go drop cand (imported ti) e c = own i ti h e
@@ -243,8 +243,8 @@ module _ (S : ℕ → Bool) (ds ds' : List Decl) (agree : Agree S ds ds') (own :
         record { name = n; member = h; declared = d; first = q .placed; second = refl },
       )
 
-  unfold-names-match : (u : Unfold) → BodyAll In u → (j : ℕ) → List·Memᴰ j (unfold-names ds u) → (j' : ℕ) × List·Memᴰ j' (unfold-names ds' u) × Places S ds ds' j j'
-  unfolding unfold-names
+  unfold-names-match : (u : Unfold) → BodyAll In u → (j : ℕ) → List·Memᴰ j (type-names ds (unfolded u)) → (j' : ℕ) × List·Memᴰ j' (type-names ds' (unfolded u)) × Places S ds ds' j j'
+  unfolding type-names unfolded
   unfold-names-match gone a j m = absurd (List·Memᴰ·not-nil m)
   unfold-names-match (newtype ps c) a j m = names-match c a j m
   unfold-names-match (abbreviation ps c) a j m = names-match c a j m
@@ -253,9 +253,9 @@ module _ (S : ℕ → Bool) (ds ds' : List Decl) (agree : Agree S ds ds') (own :
   -- a step of unfolding from a name of S
   unfold-match : (i i' j : ℕ) → Places S ds ds' i i' → List·Memᴰ j (unfold-next ds (layouts-of ds) i)
       → (j' : ℕ) × List·Memᴰ j' (unfold-next ds' (layouts-of ds') i') × Places S ds ds' j j'
-  unfolding unfold-next unfold-name
+  unfolding unfold-next steps unfold-name
   unfold-match i i' j p m =
-      let k : List·Memᴰ j (unfold-names ds (lay ds (p .name))) = rw (p .first) m in
+      let k : List·Memᴰ j (type-names ds (unfolded (lay ds (p .name)))) = rw (p .first) m in
       let r = unfold-names-match (lay ds (p .name)) (lay-closed (p .name) (p .member)) j k in
       let e : getD (unfolds ds' (layouts-of ds')) i' stays ≡ lay ds (p .name) = sym (lay-local (p .name) (p .member) ∙ rw (p .second)) in
       (r .0, rw e (r .1), r .2)

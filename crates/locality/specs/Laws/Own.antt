@@ -20,6 +20,7 @@ use Rattle.model.specs.Decl.{
   has-flag,
   NoNewtype,
   CtorLayout,
+  NewtypeLayout,
   Layout,
   L-erased,
   L-newtype,
@@ -62,19 +63,19 @@ unfolding ctor-layouts dtype-names
 ctor-layouts-own er d n m = ctors-own (d .dt-name) (d .dt-body) n (cls-by-map _ (ctors-of-tydef d) n m)
 
 -- ---- newtypes
-abbrev pub OptionNames : List ℕ → Option Layout → Type 0
+abbrev pub OptionNames : List ℕ → Option NewtypeLayout → Type 0
 OptionNames ns none = Unit {0}
-OptionNames ns (some l) = Among (layout-names l) ns
+OptionNames ns (some nt) = Among (names-of-cty (nt .nt-ty)) ns
 
 newtype-ctor-own : (n : ℕ) (bs : List Bool) (fs : List Field) → OptionNames (fields-names fs) (newtype-of-ctor n bs fs)
-unfolding newtype-of-ctor layout-names fields-names
+unfolding newtype-of-ctor fields-names
 newtype-ctor-own n bs [] = tt
 newtype-ctor-own n bs (f ∷ []) = λ k m. Memᴰ·append-left [] (subst (List·Memᴰ k) (uninline-names (f .fd-type)) m)
 newtype-ctor-own n bs (f ∷ g ∷ fs) = tt
 
-pub option-weaken : (ms ns : List ℕ) (o : Option Layout) → Among ms ns → OptionNames ms o → OptionNames ns o
+pub option-weaken : (ms ns : List ℕ) (o : Option NewtypeLayout) → Among ms ns → OptionNames ms o → OptionNames ns o
 option-weaken ms ns none f h = tt
-option-weaken ms ns (some l) f h = λ n m. f n (h n m)
+option-weaken ms ns (some nt) f h = λ n m. f n (h n m)
 
 pub newtype-own : (cls : List CtorLayout) → OptionNames (cls-names cls) (newtype-of cls)
 unfolding newtype-of cls-names
@@ -93,11 +94,11 @@ candidate-own d here e cls = go (e || has-flag d NoNewtype)
     go false = newtype-own cls
 candidate-own d (imported ti) e cls = tt
 
-collapse-own : (ns : List ℕ) (b : Bool) (o : Option Layout) (cls : List CtorLayout) → Among (cls-names cls) ns → OptionNames ns o → Among (layout-names (collapse b o cls)) ns
+pub collapse-own : (ns : List ℕ) (b : Bool) (o : Option NewtypeLayout) (cls : List CtorLayout) → Among (cls-names cls) ns → OptionNames ns o → Among (layout-names (collapse b o cls)) ns
 unfolding collapse layout-names
 collapse-own ns true o cls f h = f
 collapse-own ns false none cls f h = f
-collapse-own ns false (some l) cls f h = h
+collapse-own ns false (some nt) cls f h = h
 
 -- the layout of a local declaration
 pub layout-own : (er : ℕ → Bool) (d : Dtype) (e drop : Bool)
@@ -109,7 +110,7 @@ layout-own er d false drop = go (d .dt-body) refl
     cls : List CtorLayout
     cls = ctor-layouts er d
 
-    cand : Option Layout
+    cand : Option NewtypeLayout
     cand = candidate d here false cls
 
     struct : Among (layout-names (collapse drop cand cls)) (body-names (d .dt-body))

@@ -105,7 +105,7 @@ use Rattle.model.specs.Erasure.{
   start,
   erasure-fixpoint,
 }
-use Rattle.model.specs.Resolve.{
+use Rattle.model.specs.Resolve.{unfolded, 
   Unfold,
   gone,
   newtype,
@@ -146,7 +146,9 @@ use Rattle.model.specs.Layout.{
   candidates,
   positions,
   names-in,
-  payload-names,
+  type-names,
+  steps,
+  payload,
   guard-next,
   dropped,
   collapse,
@@ -172,7 +174,6 @@ use Rattle.model.specs.Run.{
   layouts-of,
   Ran,
   run,
-  unfold-names,
   unfold-next,
   returns,
   field-types,
@@ -287,8 +288,8 @@ module _ (ρ : ℕ → ℕ) where
   rename-binding b = record { param = ρ (b .param); arg = rename-cty (b .arg) }
 
   -- a candidate, and what is left of a declaration
-  abbrev pub rename-candidate : Option Layout → Option Layout
-  rename-candidate = Option·map rename-layout
+  abbrev pub rename-candidate : Option NewtypeLayout → Option NewtypeLayout
+  rename-candidate = Option·map rename-newtype
 
   abbrev pub rename-left : Option Dtype → Option Dtype
   rename-left = Option·map rename-dtype
@@ -660,7 +661,7 @@ module _ (ρ : ℕ → ℕ) where
   unfolding newtype-of-ctor
   newtype-of-ctor-rename n bs [] = refl
   newtype-of-ctor-rename n bs (f ∷ []) =
-      ap (λ (c : Cty). some (L-newtype (record { nt-ctor = ρ n; nt-field = ρ (f .fd-name); nt-index = first-kept bs; nt-ty = c }))) (uninline-rename ρ (f .fd-type))
+      ap (λ (c : Cty). some (record { nt-ctor = ρ n; nt-field = ρ (f .fd-name); nt-index = first-kept bs; nt-ty = c })) (uninline-rename ρ (f .fd-type))
   newtype-of-ctor-rename n bs (f ∷ g ∷ fs) = refl
 
   pub newtype-of-rename : (cls : List CtorLayout) → newtype-of (map (rename-ctor-layout ρ) cls) ≡ rename-candidate ρ (newtype-of cls)
@@ -673,19 +674,19 @@ module _ (ρ : ℕ → ℕ) where
       → candidate (rename-dtype ρ d) (rename-origin ρ o) e (map (rename-ctor-layout ρ) cls) ≡ rename-candidate ρ (candidate d o e cls)
   unfolding candidate has-flag
   candidate-rename d (imported ti) e cls = refl
-  candidate-rename d here e cls = ap (λ (x : Option Layout). pick (e || has-flag d NoNewtype) none x) (newtype-of-rename cls) ∙ go (e || has-flag d NoNewtype)
+  candidate-rename d here e cls = ap (λ (x : Option NewtypeLayout). pick (e || has-flag d NoNewtype) none x) (newtype-of-rename cls) ∙ go (e || has-flag d NoNewtype)
     where
       go : (b : Bool) → pick b none (rename-candidate ρ (newtype-of cls)) ≡ rename-candidate ρ (pick b none (newtype-of cls))
       go true = refl
       go false = refl
 
-  collapse-rename : (drop : Bool) (cand : Option Layout) (cls : List CtorLayout) → collapse drop (rename-candidate ρ cand) (map (rename-ctor-layout ρ) cls) ≡ rename-layout ρ (collapse drop cand cls)
+  collapse-rename : (drop : Bool) (cand : Option NewtypeLayout) (cls : List CtorLayout) → collapse drop (rename-candidate ρ cand) (map (rename-ctor-layout ρ) cls) ≡ rename-layout ρ (collapse drop cand cls)
   unfolding collapse
   collapse-rename true cand cls = refl
   collapse-rename false none cls = refl
-  collapse-rename false (some l) cls = refl
+  collapse-rename false (some nt) cls = refl
 
-  layout-of-body-rename : (b : Body) (drop : Bool) (cand : Option Layout) (cls : List CtorLayout)
+  layout-of-body-rename : (b : Body) (drop : Bool) (cand : Option NewtypeLayout) (cls : List CtorLayout)
       → layout-of-body (rename-body ρ b) drop (rename-candidate ρ cand) (map (rename-ctor-layout ρ) cls) ≡ rename-layout ρ (layout-of-body b drop cand cls)
   unfolding layout-of-body
   layout-of-body-rename TAbstract drop cand cls = refl
@@ -693,7 +694,7 @@ module _ (ρ : ℕ → ℕ) where
   layout-of-body-rename (TRecord fs) drop cand cls = collapse-rename drop cand cls
   layout-of-body-rename (TVariant cs) drop cand cls = collapse-rename drop cand cls
 
-  pub layout-of-rename : (d : Dtype) (o : Origin) (e drop : Bool) (cand : Option Layout) (cls : List CtorLayout)
+  pub layout-of-rename : (d : Dtype) (o : Origin) (e drop : Bool) (cand : Option NewtypeLayout) (cls : List CtorLayout)
       → layout-of (rename-dtype ρ d) (rename-origin ρ o) e drop (rename-candidate ρ cand) (map (rename-ctor-layout ρ) cls) ≡ rename-layout ρ (layout-of d o e drop cand cls)
   unfolding layout-of
   layout-of-rename d (imported ti) e drop cand cls = refl
@@ -712,22 +713,24 @@ module _ (ρ : ℕ → ℕ) (inj : Injective ρ) where
   pub names-in-rename : (ds : List Decl) (c : Cty) → names-in (rename-decls ρ ds) (rename-cty ρ c) ≡ names-in ds c
   names-in-rename ds c = ap (positions (rename-decls ρ ds)) (names-rename ρ c) ∙ positions-rename ds (names-of-cty c)
 
-  payload-names-rename : (ds : List Decl) (o : Option Layout) → payload-names (rename-decls ρ ds) (rename-candidate ρ o) ≡ payload-names ds o
-  unfolding payload-names
-  payload-names-rename ds none = refl
-  payload-names-rename ds (some L-erased) = refl
-  payload-names-rename ds (some (L-newtype nt)) = names-in-rename ds (nt .nt-ty)
-  payload-names-rename ds (some (L-struct cls)) = refl
-  payload-names-rename ds (some (L-abbrev c)) = refl
-  payload-names-rename ds (some L-opaque) = refl
+  type-names-rename : (ds : List Decl) (o : Option Cty) → type-names (rename-decls ρ ds) (Option·map (rename-cty ρ) o) ≡ type-names ds o
+  unfolding type-names
+  type-names-rename ds none = refl
+  type-names-rename ds (some c) = names-in-rename ds c
 
-  pub guard-rename : (ds : List Decl) (cands : List (Option Layout)) (i : ℕ) → guard-next (rename-decls ρ ds) (map (rename-candidate ρ) cands) i ≡ guard-next ds cands i
-  unfolding guard-next
+  payload-rename : (o : Option NewtypeLayout) → payload (rename-candidate ρ o) ≡ Option·map (rename-cty ρ) (payload o)
+  unfolding payload
+  payload-rename none = refl
+  payload-rename (some nt) = refl
+
+  pub guard-rename : (ds : List Decl) (cands : List (Option NewtypeLayout)) (i : ℕ) → guard-next (rename-decls ρ ds) (map (rename-candidate ρ) cands) i ≡ guard-next ds cands i
+  unfolding guard-next steps
   guard-rename ds cands i =
-      ap (payload-names (rename-decls ρ ds)) (List·getD-map (rename-candidate ρ) cands i none) ∙ payload-names-rename ds (getD cands i none)
+      ap (type-names (rename-decls ρ ds)) (ap payload (List·getD-map (rename-candidate ρ) cands i none) ∙ payload-rename (getD cands i none))
+      ∙ type-names-rename ds (payload (getD cands i none))
 
   -- the same candidates dropped
-  pub dropped-rename : (ds : List Decl) (cands : List (Option Layout)) (i : ℕ) → dropped (rename-decls ρ ds) (map (rename-candidate ρ) cands) i ≡ dropped ds cands i
+  pub dropped-rename : (ds : List Decl) (cands : List (Option NewtypeLayout)) (i : ℕ) → dropped (rename-decls ρ ds) (map (rename-candidate ρ) cands) i ≡ dropped ds cands i
   unfolding dropped
   dropped-rename ds cands i =
       ap₂ (λ (next : ℕ → List ℕ) (n : ℕ). cyclic next n i) (fun-ext (λ j. guard-rename ds cands j)) (length-map ds (rename-decl ρ))
@@ -755,9 +758,9 @@ module _ (ρ : ℕ → ℕ) (inj : Injective ρ) where
     layout-at-rename : (i : ℕ) → i < length ds → layout-at (rename-decls ρ ds) s i ≡ rename-layout ρ (layout-at ds s i)
     layout-at-rename i h =
         rw (dtype-rename ρ ds i h, origin-rename ρ ds i h)
-        (ap₂ (λ (cands : List (Option Layout)) (cls : List CtorLayout). layout-of (rename-dtype ρ (dtype-at ds i)) (rename-origin ρ (origin-at ds i)) (getD s i false) (dropped (rename-decls ρ ds) cands i) (getD cands i none) cls)
+        (ap₂ (λ (cands : List (Option NewtypeLayout)) (cls : List CtorLayout). layout-of (rename-dtype ρ (dtype-at ds i)) (rename-origin ρ (origin-at ds i)) (getD s i false) (dropped (rename-decls ρ ds) cands i) (getD cands i none) cls)
         candidates-rename (ctor-layouts-rename ρ (marked ds s) (marked (rename-decls ρ ds) s) (marked-rename ρ inj ds s) (dtype-at ds i))
-        ∙ (ap₂ (λ (drop : Bool) (cand : Option Layout). layout-of (rename-dtype ρ (dtype-at ds i)) (rename-origin ρ (origin-at ds i)) (getD s i false) drop cand (map (rename-ctor-layout ρ) (ctor-layouts (marked ds s) (dtype-at ds i))))
+        ∙ (ap₂ (λ (drop : Bool) (cand : Option NewtypeLayout). layout-of (rename-dtype ρ (dtype-at ds i)) (rename-origin ρ (origin-at ds i)) (getD s i false) drop cand (map (rename-ctor-layout ρ) (ctor-layouts (marked ds s) (dtype-at ds i))))
         (dropped-rename ds (candidates-of ds s) i) (List·getD-map (rename-candidate ρ) (candidates-of ds s) i none)
         ∙ layout-of-rename ρ (dtype-at ds i) (origin-at ds i) (getD s i false) (dropped ds (candidates-of ds s) i) (getD (candidates-of ds s) i none) (ctor-layouts (marked ds s) (dtype-at ds i))))
 
@@ -1118,18 +1121,19 @@ module _ (ρ : ℕ → ℕ) (inj : Injective ρ) (ds : List Decl) where
       ap (fault-code (resolve-checked limit (lay renamed) fuel)) (ap resolves (layout-rename i) ∙ resolves-rename ρ (layout-of-decl ds i))
       ∙ fault-code-rename ρ (resolve-checked limit (lay ds) fuel) (resolve-checked limit (lay renamed) fuel) (resolve-checked-rename ρ inj limit (lay ds) (lay renamed) lay-rename fuel) (resolves (layout-of-decl ds i))
 
-  unfold-names-rename : (u : Unfold) → unfold-names (rename-decls ρ ds) (rename-unfold ρ u) ≡ unfold-names ds u
-  unfolding unfold-names
-  unfold-names-rename gone = refl
-  unfold-names-rename (newtype ps c) = names-in-rename ρ inj ds c
-  unfold-names-rename (abbreviation ps c) = names-in-rename ρ inj ds c
-  unfold-names-rename stays = refl
+  unfolded-rename : (u : Unfold) → unfolded (rename-unfold ρ u) ≡ Option·map (rename-cty ρ) (unfolded u)
+  unfolding unfolded
+  unfolded-rename gone = refl
+  unfolded-rename (newtype ps c) = refl
+  unfolded-rename (abbreviation ps c) = refl
+  unfolded-rename stays = refl
 
   unfold-next-rename : (i : ℕ) → unfold-next (rename-decls ρ ds) (layouts-of (rename-decls ρ ds)) i ≡ unfold-next ds (layouts-of ds) i
-  unfolding unfold-next
+  unfolding unfold-next steps
   unfold-next-rename i =
-      ap (λ (us : List Unfold). unfold-names renamed (getD us i stays)) (ap (unfolds renamed) (layouts-rename ρ inj ds) ∙ unfolds-rename ρ ds (layouts-of ds))
-      ∙ (ap (unfold-names renamed) (List·getD-map (rename-unfold ρ) (unfolds ds (layouts-of ds)) i stays) ∙ unfold-names-rename (getD (unfolds ds (layouts-of ds)) i stays))
+      ap (λ (us : List Unfold). type-names renamed (unfolded (getD us i stays))) (ap (unfolds renamed) (layouts-rename ρ inj ds) ∙ unfolds-rename ρ ds (layouts-of ds))
+      ∙ (ap (type-names renamed) (ap unfolded (List·getD-map (rename-unfold ρ) (unfolds ds (layouts-of ds)) i stays) ∙ unfolded-rename (getD (unfolds ds (layouts-of ds)) i stays))
+      ∙ type-names-rename ρ inj ds (unfolded (getD (unfolds ds (layouts-of ds)) i stays)))
 
   -- and the loops of row 8
   pub loop-rename : (i : ℕ) → returns (rename-decls ρ ds) (layouts-of (rename-decls ρ ds)) i ≡ returns ds (layouts-of ds) i

@@ -1,17 +1,16 @@
 -- The layout that an import's lines say names only what the declaration's own types name. Assumes nothing.
 use mathlib.Core.List.{List, [], _∷_, List·Memᴰ·not-nil}
 use mathlib.Core.Bool.{Bool, true, false}
-use mathlib.Core.Option.{Option, none, some}
 use Prim.Native.Nat.{ℕ}
 use lib.Dec.{eqb}
 use Rattle.columns.specs.Column.{pick, _⇒_∥_}
 use Rattle.sheet.specs.Line.{Line}
 use Rattle.model.specs.Decl.{Ctor, Body, TAbstract, TAbbrev, TRecord, TVariant, Dtype, ctors-of-tydef, CtorLayout, Layout, L-erased, L-struct, L-opaque}
-use Rattle.model.specs.Layout.{ctor-layout, newtype-of}
+use Rattle.model.specs.Layout.{ctor-layout, newtype-of, collapse}
 use Rattle.model.specs.Names.{ctors-names, body-names, dtype-names}
 use Rattle.model.specs.Laws.Names.{Among, among-append, kept-names, ctors-own}
-use Rattle.locality.specs.Laws.Own.{cls-names, layout-names, Own, OptionNames, option-weaken, newtype-own}
-use Rattle.meaning.specs.Program.{keeps-of, ctor-layouts-by, abbreviated, or-struct, layout-by, info-of}
+use Rattle.locality.specs.Laws.Own.{cls-names, layout-names, Own, option-weaken, newtype-own, collapse-own}
+use Rattle.meaning.specs.Program.{keeps-of, ctor-layouts-by, abbreviated, layout-by, info-of}
 
 pub cls-by : (cs : List Ctor) (bss : List (List Bool)) → Among (cls-names (ctor-layouts-by cs bss)) (ctors-names cs)
 unfolding cls-names ctors-names ctor-layout ctor-layouts-by
@@ -24,11 +23,6 @@ unfolding dtype-names
 ctor-layouts-by-own d bss n m = ctors-own (d .dt-name) (d .dt-body) n (cls-by (ctors-of-tydef d) bss n m)
 
 -- the layout that an import's lines say
-or-struct-own : (ns : List ℕ) (o : Option Layout) (cls : List CtorLayout) → Among (cls-names cls) ns → OptionNames ns o → Among (layout-names (or-struct o cls)) ns
-unfolding layout-names
-or-struct-own ns none cls f h = f
-or-struct-own ns (some l) cls f h = h
-
 abbreviated-own : (b : Body) → Among (layout-names (abbreviated b)) (body-names b)
 unfolding layout-names body-names
 abbreviated-own TAbstract n m = m
@@ -48,12 +42,12 @@ layout-by-own d k cls f = go0 (eqb k 0)
     go2 true = f
     go2 false = go3 (eqb k 3)
 
-    go1 : (b : Bool) → Among (layout-names (pick b (or-struct (newtype-of cls) cls) (eqb k 2 ⇒ L-struct cls ∥ eqb k 3 ⇒ abbreviated (d .dt-body) ∥ L-opaque))) (body-names (d .dt-body))
-    go1 true = or-struct-own _ (newtype-of cls) cls f (option-weaken (cls-names cls) (body-names (d .dt-body)) (newtype-of cls) f (newtype-own cls))
+    go1 : (b : Bool) → Among (layout-names (pick b (collapse false (newtype-of cls) cls) (eqb k 2 ⇒ L-struct cls ∥ eqb k 3 ⇒ abbreviated (d .dt-body) ∥ L-opaque))) (body-names (d .dt-body))
+    go1 true = collapse-own _ false (newtype-of cls) cls f (option-weaken (cls-names cls) (body-names (d .dt-body)) (newtype-of cls) f (newtype-own cls))
     go1 false = go2 (eqb k 2)
 
     go0 : (b : Bool)
-        → Among (layout-names (pick b L-erased (eqb k 1 ⇒ or-struct (newtype-of cls) cls ∥ eqb k 2 ⇒ L-struct cls ∥ eqb k 3 ⇒ abbreviated (d .dt-body) ∥ L-opaque))) (body-names (d .dt-body))
+        → Among (layout-names (pick b L-erased (eqb k 1 ⇒ collapse false (newtype-of cls) cls ∥ eqb k 2 ⇒ L-struct cls ∥ eqb k 3 ⇒ abbreviated (d .dt-body) ∥ L-opaque))) (body-names (d .dt-body))
     go0 true = λ n m. absurd (List·Memᴰ·not-nil m)
     go0 false = go1 (eqb k 1)
 

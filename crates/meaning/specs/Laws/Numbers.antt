@@ -69,6 +69,7 @@ use Rattle.model.specs.Decl.{
   CtorLayout,
   Layout,
   L-erased,
+  NewtypeLayout,
   L-newtype,
   L-struct,
   L-abbrev,
@@ -115,7 +116,6 @@ use Rattle.meaning.specs.Program.{
   keeps-of,
   ctor-layouts-by,
   abbreviated,
-  or-struct,
   layout-by,
   info-of,
   verdict-of,
@@ -342,9 +342,9 @@ module _ (Q : ℕ → Type 0) where
   FullLayout b (L-abbrev c) = TypeNumbers Q c
   FullLayout b L-opaque = Unit {0}
 
-  abbrev pub FullOption : ℕ → Option Layout → Type 0
+  abbrev pub FullOption : ℕ → Option NewtypeLayout → Type 0
   FullOption b none = Unit {0}
-  FullOption b (some l) = FullLayout b l
+  FullOption b (some nt) = TypeNumbers Q (nt .nt-ty)
 
   abbrev pub FullOrigin : ℕ → Origin → Type 0
   FullOrigin b here = Unit {0}
@@ -404,20 +404,20 @@ module _ (Q : ℕ → Type 0) (kind : (n : ℕ) → n ≤ 12 → Q n) (down : (m
       go true = tt
       go false = newtype-full b cls h
 
-  collapse-full : (b : ℕ) (drop : Bool) (cand : Option Layout) (cls : List CtorLayout) → FullOption Q b cand → FullKept Q b cls → FullLayout Q b (collapse drop cand cls)
+  collapse-full : (b : ℕ) (drop : Bool) (cand : Option NewtypeLayout) (cls : List CtorLayout) → FullOption Q b cand → FullKept Q b cls → FullLayout Q b (collapse drop cand cls)
   unfolding collapse
   collapse-full b true cand cls h k = k
   collapse-full b false none cls h k = k
-  collapse-full b false (some l) cls h k = h
+  collapse-full b false (some nt) cls h k = h
 
-  body-full : (n : ℕ) (b : Body) (drop : Bool) (cand : Option Layout) (cls : List CtorLayout) → FullBody Q b → FullOption Q n cand → FullKept Q n cls → FullLayout Q n (layout-of-body b drop cand cls)
+  body-full : (n : ℕ) (b : Body) (drop : Bool) (cand : Option NewtypeLayout) (cls : List CtorLayout) → FullBody Q b → FullOption Q n cand → FullKept Q n cls → FullLayout Q n (layout-of-body b drop cand cls)
   unfolding layout-of-body
   body-full n TAbstract drop cand cls h k l = tt
   body-full n (TAbbrev c) drop cand cls h k l = h
   body-full n (TRecord fs) drop cand cls h k l = collapse-full n drop cand cls k l
   body-full n (TVariant cs) drop cand cls h k l = collapse-full n drop cand cls k l
 
-  layout-full : (d : Dtype) (o : Origin) (e drop : Bool) (cand : Option Layout) (cls : List CtorLayout) → FullDtype Q d → FullOrigin Q (body-fields (d .dt-body)) o →
+  layout-full : (d : Dtype) (o : Origin) (e drop : Bool) (cand : Option NewtypeLayout) (cls : List CtorLayout) → FullDtype Q d → FullOrigin Q (body-fields (d .dt-body)) o →
       FullOption Q (body-fields (d .dt-body)) cand → FullKept Q (body-fields (d .dt-body)) cls → FullLayout Q (body-fields (d .dt-body)) (layout-of d o e drop cand cls)
   unfolding layout-of
   layout-full d (imported ti) e drop cand cls h k l m = k
@@ -915,10 +915,6 @@ module _ (Q : ℕ → Type 0) (kind : (n : ℕ) → n ≤ 12 → Q n) (down : (m
         let k = by-full cs bss (h .1) in
         ((ctor-layout-full Q kind down c bs (h .0), k .0), omega (arith, k .1, length-kept bs (c .ct-fields)), omega (arith, k .2))
 
-    or-struct-full : (b : ℕ) (o : Option Layout) (cls : List CtorLayout) → FullOption Q b o → FullKept Q b cls → FullLayout Q b (or-struct o cls)
-    or-struct-full b none cls h k = k
-    or-struct-full b (some l) cls h k = h
-
     abbreviated-full : (m : ℕ) (b : Body) → FullBody Q b → FullLayout Q m (abbreviated b)
     abbreviated-full m TAbstract h = tt
     abbreviated-full m (TAbbrev c) h = h
@@ -929,9 +925,9 @@ module _ (Q : ℕ → Type 0) (kind : (n : ℕ) → n ≤ 12 → Q n) (down : (m
     unfolding layout-by
     layout-by-full m k b cls h c = go (eqb k 0) (eqb k 1) (eqb k 2) (eqb k 3)
       where
-        go : (x y z v : Bool) → FullLayout Q m (x ⇒ L-erased ∥ y ⇒ or-struct (newtype-of cls) cls ∥ z ⇒ L-struct cls ∥ v ⇒ abbreviated b ∥ L-opaque)
+        go : (x y z v : Bool) → FullLayout Q m (x ⇒ L-erased ∥ y ⇒ collapse false (newtype-of cls) cls ∥ z ⇒ L-struct cls ∥ v ⇒ abbreviated b ∥ L-opaque)
         go true y z v = tt
-        go false true z v = or-struct-full m (newtype-of cls) cls (newtype-full Q kind down m cls (c .1)) c
+        go false true z v = collapse-full Q kind down m false (newtype-of cls) cls (newtype-full Q kind down m cls (c .1)) c
         go false false true v = c
         go false false false true = abbreviated-full m b h
         go false false false false = tt

@@ -31,6 +31,7 @@ use Rattle.model.specs.Decl.{
   CtorLayout,
   Layout,
   L-erased,
+  NewtypeLayout,
   L-newtype,
   L-struct,
   L-abbrev,
@@ -997,7 +998,7 @@ has-ctors (TVariant cs) = true
 
 abbrev pub Suits : Body → List CtorLayout → Layout → Type 0
 Suits b cls L-erased = Unit {0}
-Suits b cls (L-newtype nt) = newtype-of cls ≡ some (L-newtype nt)
+Suits b cls (L-newtype nt) = newtype-of cls ≡ some nt
 Suits b cls (L-struct ms) = (ms ≡ cls) × (has-ctors b ≡ true)
 Suits b cls (L-abbrev c) = b ≡ TAbbrev c
 Suits b cls L-opaque = b ≡ TAbstract
@@ -1011,7 +1012,7 @@ pub record Coherent (d : Dtype) (ti : TypeInfo) : Type 0 where
   pub suits : Suits (d .dt-body) (ti .ti-ctors) (ti .ti-layout)
 
 pub layout-suits : (b : Body) (cls : List CtorLayout) (l : Layout) → Suits b cls l → layout-by (layout-number l) b cls ≡ l
-unfolding layout-by layout-number
+unfolding layout-by layout-number collapse
 layout-suits b cls L-erased s = refl
 layout-suits b cls (L-newtype nt) s = rw s
 layout-suits b cls (L-struct ms) s = ap L-struct (sym (s .0))
@@ -1235,41 +1236,14 @@ program-verdict ls tis t w h =
     ∙ ap (λ (ds : List Decl). pins ds tis) (sym (program-by ls (trees ls) (groups is-head ls) refl refl))
 
 -- ---- the verdicts of a run are coherent
--- a candidate's layout is a newtype
-number-of : Option Layout → ℕ
-number-of none = 1
-number-of (some l) = layout-number l
-
-newtype-number : (cls : List CtorLayout) → number-of (newtype-of cls) ≡ 1
-unfolding newtype-of newtype-of-ctor number-of layout-number
-newtype-number [] = refl
-newtype-number (cl ∷ []) = go (cl .cl-fields)
-  where
-    go : (fs : List Field) → number-of (newtype-of-ctor (cl .cl-name) (cl .cl-slots) fs) ≡ 1
-    go [] = refl
-    go (f ∷ []) = refl
-    go (f ∷ g ∷ fs) = refl
-newtype-number (cl ∷ cm ∷ cls) = refl
-
-newtype-suits : (b : Body) (cls : List CtorLayout) (l : Layout) → newtype-of cls ≡ some l → (Suits b cls l) × (false ≡ eqb (layout-number l) 0)
-unfolding number-of layout-number
-newtype-suits b cls l e = go l e (sym (ap number-of e) ∙ newtype-number cls)
-  where
-    go : (m : Layout) → newtype-of cls ≡ some m → layout-number m ≡ 1 → (Suits b cls m) × (false ≡ eqb (layout-number m) 0)
-    go L-erased q n = absurd (omega arith)
-    go (L-newtype nt) q n = (q, refl)
-    go (L-struct ms) q n = absurd (omega arith)
-    go (L-abbrev c) q n = absurd (omega arith)
-    go L-opaque q n = absurd (omega arith)
-
-collapse-suits : (b : Body) (drop : Bool) (cand : Option Layout) (cls : List CtorLayout) → has-ctors b ≡ true → ((l : Layout) → cand ≡ some l → newtype-of cls ≡ some l)
+collapse-suits : (b : Body) (drop : Bool) (cand : Option NewtypeLayout) (cls : List CtorLayout) → has-ctors b ≡ true → ((nt : NewtypeLayout) → cand ≡ some nt → newtype-of cls ≡ some nt)
     → (Suits b cls (collapse drop cand cls)) × (false ≡ eqb (layout-number (collapse drop cand cls)) 0)
 unfolding collapse layout-number
 collapse-suits b true cand cls h k = ((refl, h), refl)
 collapse-suits b false none cls h k = ((refl, h), refl)
-collapse-suits b false (some l) cls h k = newtype-suits b cls l (k l refl)
+collapse-suits b false (some nt) cls h k = (k nt refl, refl)
 
-candidate-newtype : (d : Dtype) (cls : List CtorLayout) (l : Layout) → candidate d here false cls ≡ some l → newtype-of cls ≡ some l
+candidate-newtype : (d : Dtype) (cls : List CtorLayout) (l : NewtypeLayout) → candidate d here false cls ≡ some l → newtype-of cls ≡ some l
 unfolding candidate
 candidate-newtype d cls l e = go (has-flag d NoNewtype) e
   where

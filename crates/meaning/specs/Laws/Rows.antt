@@ -35,6 +35,7 @@ use Rattle.model.specs.Decl.{
   CtorLayout,
   Layout,
   L-erased,
+  NewtypeLayout,
   L-newtype,
   L-struct,
   L-abbrev,
@@ -1099,14 +1100,14 @@ length-kept (b ∷ bs) [] e = absurd (omega arith)
 length-kept (true ∷ bs) (f ∷ fs) e = omega (arith, length-kept bs fs (omega arith))
 length-kept (false ∷ bs) (f ∷ fs) e = omega (arith, length-kept bs fs (omega arith))
 
-one-field : (n : ℕ) (bs : List Bool) (fs : List Field) (l : Layout) → newtype-of-ctor n bs fs ≡ some l → length fs ≡ 1
+one-field : (n : ℕ) (bs : List Bool) (fs : List Field) (l : NewtypeLayout) → newtype-of-ctor n bs fs ≡ some l → length fs ≡ 1
 unfolding newtype-of-ctor
 one-field n bs [] l e = none-some l e
 one-field n bs (f ∷ []) l e = refl
 one-field n bs (f ∷ g ∷ fs) l e = none-some l e
 
 -- a newtype has one constructor with one kept field
-newtype-one : (er : ℕ → Bool) (cs : List Ctor) (l : Layout) → newtype-of (map (λ c. ctor-layout c (slots er (c .ct-fields))) cs) ≡ some l
+newtype-one : (er : ℕ → Bool) (cs : List Ctor) (l : NewtypeLayout) → newtype-of (map (λ c. ctor-layout c (slots er (c .ct-fields))) cs) ≡ some l
     → (length cs ≡ 1) × (trues (concat (slots-of er cs)) ≡ 1)
 unfolding newtype-of ctor-layout concat
 newtype-one er [] l e = none-some l e
@@ -1183,7 +1184,7 @@ bit-le false = refl
 
 -- the V line of a coherent verdict passes row 7
 good-told : (h : Line) (n : ℕ) (b : Body) (cls : List CtorLayout) (ti : TypeInfo) → body-number b ≡ number h 2 → ti .ti-erased ≡ eqb (layout-number (ti .ti-layout)) 0
-    → Suits b cls (ti .ti-layout) → ((l : Layout) → newtype-of cls ≡ some l → (one-ctor h ≡ true) × (n ≡ 1)) → good-verdict h n (told-line ti) ≡ true
+    → Suits b cls (ti .ti-layout) → ((l : NewtypeLayout) → newtype-of cls ≡ some l → (one-ctor h ≡ true) × (n ≡ 1)) → good-verdict h n (told-line ti) ≡ true
 unfolding good-verdict layout-number body-number
 good-told h n b cls ti t e s k = rw (bit-le (ti .ti-record), e) (go b (ti .ti-layout) t s)
   where
@@ -1202,7 +1203,7 @@ good-told h n b cls ti t e s k = rw (bit-le (ti .ti-record), e) (go b (ti .ti-la
         eqb (layout-number l) 4 ⇒ eqb (number h 2) 0 ∥
         false)) ≡ true
     go c L-erased t s = refl
-    go c (L-newtype nt) t s = let q = k (L-newtype nt) s in rw (q .0, q .1)
+    go c (L-newtype nt) t s = let q = k nt s in rw (q .0, q .1)
     go c (L-struct ms) t s = struct c t (s .1)
     go c (L-abbrev d) t s = eq-eqb (number h 2) 1 (sym t ∙ ap body-number s)
     go c L-opaque t s = eq-eqb (number h 2) 0 (sym t ∙ ap body-number s)
@@ -1222,7 +1223,7 @@ has-ctors-one n (TVariant cs) e = refl
 -- ---- row 7 of a verdict sheet
 -- a newtype's declaration has one constructor and its lines one keep
 newtype-lines : (ts : List Cty) (g : Group) (ti : TypeInfo) (w : Whole g) → Coherent (close-fields (dtype-of ts g)) ti → None is-head (w .body)
-    → (l : Layout) → newtype-of (ti .ti-ctors) ≡ some l
+    → (l : NewtypeLayout) → newtype-of (ti .ti-ctors) ≡ some l
     → (one-ctor (row import-line (five (g .head))) ≡ true) × (kept-after 0 (fill-keeps (all-slots (ti .ti-ctors)) (w .body)) ≡ 1)
 unfolding close-fields dtype-of ctor-layouts
 newtype-lines ts g ti w c a l e =

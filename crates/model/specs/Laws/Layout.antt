@@ -27,7 +27,9 @@ use Rattle.model.specs.Layout.{
   candidates,
   positions,
   names-in,
-  payload-names,
+  type-names,
+  steps,
+  payload,
   guard-next,
   dropped,
   collapse,
@@ -35,8 +37,8 @@ use Rattle.model.specs.Layout.{
   layout-of,
   compute-layouts,
 }
-use Rattle.model.specs.Resolve.{Unfold, gone, newtype, abbreviation, stays, unfolds}
-use Rattle.model.specs.Run.{unfold-names, unfold-next}
+use Rattle.model.specs.Resolve.{Unfold, gone, newtype, abbreviation, stays, unfolded, unfolds}
+use Rattle.model.specs.Run.{unfold-next}
 use Rattle.model.specs.Laws.Erasure.{marked-same, ctor-layouts-local}
 use Rattle.model.specs.Names.{fields-names, ctors-names, dtype-names, Declared, Agree, Pin}
 use Rattle.model.specs.Laws.Names.{position-name, position-same, agree-sym, kept-names, declared-cases, agree-foreign, ctors-own}
@@ -49,18 +51,18 @@ use Rattle.model.specs.Laws.Cty.{uninline-names}
 -- ---- tables
 -- ---- entries
 -- what the table of candidates has at place i
-abbrev pub candidate-at : List Decl → (ℕ → Bool) → List Bool → ℕ → Option Layout
+abbrev pub candidate-at : List Decl → (ℕ → Bool) → List Bool → ℕ → Option NewtypeLayout
 candidate-at ds er s i = candidate (dtype-at ds i) (origin-at ds i) (getD s i false) (ctor-layouts er (dtype-at ds i))
 
 -- the candidates of a program with these marks
-abbrev pub candidates-of : List Decl → List Bool → List (Option Layout)
+abbrev pub candidates-of : List Decl → List Bool → List (Option NewtypeLayout)
 candidates-of ds s = candidates ds (marked ds s) s
 
-pub getD-candidates : (ds : List Decl) (er : ℕ → Bool) (s : List Bool) (i : ℕ) (d : Option Layout) → i < length ds → getD (candidates ds er s) i d ≡ candidate-at ds er s i
+pub getD-candidates : (ds : List Decl) (er : ℕ → Bool) (s : List Bool) (i : ℕ) (d : Option NewtypeLayout) → i < length ds → getD (candidates ds er s) i d ≡ candidate-at ds er s i
 unfolding candidates
 getD-candidates ds er s i d h = getD-table (candidate-at ds er s) (length ds) i d h
 
-pub getD-candidates-past : (ds : List Decl) (er : ℕ → Bool) (s : List Bool) (i : ℕ) (d : Option Layout) → length ds ≤ i → getD (candidates ds er s) i d ≡ d
+pub getD-candidates-past : (ds : List Decl) (er : ℕ → Bool) (s : List Bool) (i : ℕ) (d : Option NewtypeLayout) → length ds ≤ i → getD (candidates ds er s) i d ≡ d
 unfolding candidates
 getD-candidates-past ds er s i d h = getD-table-past (candidate-at ds er s) (length ds) i d h
 
@@ -139,24 +141,20 @@ pub names-in-below : (ds : List Decl) (c : Cty) (j : ℕ) → List·Memᴰ j (na
 names-in-below ds c j m = positions-placed ds (names-of-cty c) j m .below
 
 -- the steps of the guard stay among the declarations
-pub guard-below : (ds : List Decl) (cands : List (Option Layout)) (a b : ℕ) → List·Memᴰ b (guard-next ds cands a) → b < length ds
-unfolding guard-next payload-names
+pub guard-below : (ds : List Decl) (cands : List (Option NewtypeLayout)) (a b : ℕ) → List·Memᴰ b (guard-next ds cands a) → b < length ds
+unfolding guard-next steps payload type-names
 guard-below ds cands a b m = by (getD cands a none) m
   where
-    by : (o : Option Layout) → List·Memᴰ b (payload-names ds o) → b < length ds
+    by : (o : Option NewtypeLayout) → List·Memᴰ b (type-names ds (payload o)) → b < length ds
     by none z = absurd (List·Memᴰ·not-nil z)
-    by (some L-erased) z = absurd (List·Memᴰ·not-nil z)
-    by (some (L-newtype nt)) z = names-in-below ds (nt .nt-ty) b z
-    by (some (L-struct cls)) z = absurd (List·Memᴰ·not-nil z)
-    by (some (L-abbrev c)) z = absurd (List·Memᴰ·not-nil z)
-    by (some L-opaque) z = absurd (List·Memᴰ·not-nil z)
+    by (some nt) z = names-in-below ds (nt .nt-ty) b z
 
 -- and so do the steps of unfolding
 pub unfold-below : (ds : List Decl) (ls : List Layout) (a b : ℕ) → List·Memᴰ b (unfold-next ds ls a) → b < length ds
-unfolding unfold-next unfold-names
+unfolding unfold-next steps unfolded type-names
 unfold-below ds ls a b m = by (getD (unfolds ds ls) a stays) m
   where
-    by : (u : Unfold) → List·Memᴰ b (unfold-names ds u) → b < length ds
+    by : (u : Unfold) → List·Memᴰ b (type-names ds (unfolded u)) → b < length ds
     by gone z = absurd (List·Memᴰ·not-nil z)
     by (newtype ps c) z = names-in-below ds c b z
     by (abbreviation ps c) z = names-in-below ds c b z
@@ -164,33 +162,29 @@ unfold-below ds ls a b m = by (getD (unfolds ds ls) a stays) m
 
 -- ---- the guard
 -- a step of the guard: a is a candidate, and b the place of a name in its payload
-pub record Step (ds : List Decl) (cands : List (Option Layout)) (a b : ℕ) : Type 0 where
+pub record Step (ds : List Decl) (cands : List (Option NewtypeLayout)) (a b : ℕ) : Type 0 where
   pub newtype : NewtypeLayout
-  pub is-candidate : getD cands a none ≡ some (L-newtype newtype)
+  pub is-candidate : getD cands a none ≡ some newtype
   pub place : Placed ds (names-of-cty (newtype .nt-ty)) b
 
-pub guard-step : (ds : List Decl) (cands : List (Option Layout)) (a b : ℕ) → List·Memᴰ b (guard-next ds cands a) → Step ds cands a b
-unfolding guard-next payload-names
+pub guard-step : (ds : List Decl) (cands : List (Option NewtypeLayout)) (a b : ℕ) → List·Memᴰ b (guard-next ds cands a) → Step ds cands a b
+unfolding guard-next steps payload type-names
 guard-step ds cands a b m = by (getD cands a none) refl m
   where
-    by : (o : Option Layout) → getD cands a none ≡ o → List·Memᴰ b (payload-names ds o) → Step ds cands a b
+    by : (o : Option NewtypeLayout) → getD cands a none ≡ o → List·Memᴰ b (type-names ds (payload o)) → Step ds cands a b
     by none e z = absurd (List·Memᴰ·not-nil z)
-    by (some L-erased) e z = absurd (List·Memᴰ·not-nil z)
-    by (some (L-newtype nt)) e z = record { newtype = nt; is-candidate = e; place = names-in-iff ds (nt .nt-ty) b .0 z }
-    by (some (L-struct cls)) e z = absurd (List·Memᴰ·not-nil z)
-    by (some (L-abbrev c)) e z = absurd (List·Memᴰ·not-nil z)
-    by (some L-opaque) e z = absurd (List·Memᴰ·not-nil z)
+    by (some nt) e z = record { newtype = nt; is-candidate = e; place = names-in-iff ds (nt .nt-ty) b .0 z }
 
-pub step-guard : (ds : List Decl) (cands : List (Option Layout)) (a b : ℕ) → Step ds cands a b → List·Memᴰ b (guard-next ds cands a)
-unfolding guard-next payload-names
+pub step-guard : (ds : List Decl) (cands : List (Option NewtypeLayout)) (a b : ℕ) → Step ds cands a b → List·Memᴰ b (guard-next ds cands a)
+unfolding guard-next steps payload type-names
 step-guard ds cands a b p = rw (p .is-candidate) (names-in-iff ds (p .newtype .nt-ty) b .1 (p .place))
 
 -- The guard drops what reaches itself.
-pub dropped-iff : (ds : List Decl) (cands : List (Option Layout)) (i : ℕ) → (dropped ds cands i ≡ true) ↔ Reach (guard-next ds cands) i i
+pub dropped-iff : (ds : List Decl) (cands : List (Option NewtypeLayout)) (i : ℕ) → (dropped ds cands i ≡ true) ↔ Reach (guard-next ds cands) i i
 unfolding dropped
 dropped-iff ds cands i = cyclic-iff (guard-next ds cands) (length ds) i (guard-below ds cands)
 
-pub not-dropped : (ds : List Decl) (cands : List (Option Layout)) (i : ℕ) → (dropped ds cands i ≡ false) ↔ (Reach (guard-next ds cands) i i → ⊥)
+pub not-dropped : (ds : List Decl) (cands : List (Option NewtypeLayout)) (i : ℕ) → (dropped ds cands i ≡ false) ↔ (Reach (guard-next ds cands) i i → ⊥)
 not-dropped ds cands i =
     (λ e r. false-true (sym e ∙ dropped-iff ds cands i .1 r), λ n. by n (dropped ds cands i) refl)
   where
@@ -213,51 +207,51 @@ pub record Candidate (er : ℕ → Bool) (d : Dtype) (e : Bool) (nt : NewtypeLay
       nt ≡ record { nt-ctor = ctor .ct-name; nt-field = field .fd-name; nt-index = first-kept (slots er (ctor .ct-fields)); nt-ty = uninline (field .fd-type) }
 
 module _ (er : ℕ → Bool) (d : Dtype) (e : Bool) (nt : NewtypeLayout) where
-  newtype-is : e ≡ false → has-flag d NoNewtype ≡ false → newtype-of (ctor-layouts er d) ≡ some (L-newtype nt) → Candidate er d e nt
+  newtype-is : e ≡ false → has-flag d NoNewtype ≡ false → newtype-of (ctor-layouts er d) ≡ some nt → Candidate er d e nt
   unfolding ctor-layouts ctor-layout newtype-of newtype-of-ctor
   newtype-is p q h = by (ctors-of-tydef d) refl h
     where
       on : (c : Ctor) → ctors-of-tydef d ≡ c ∷ [] → (fs : List Field) → kept (slots er (c .ct-fields)) (c .ct-fields) ≡ fs
-          → newtype-of-ctor (c .ct-name) (slots er (c .ct-fields)) fs ≡ some (L-newtype nt) → Candidate er d e nt
+          → newtype-of-ctor (c .ct-name) (slots er (c .ct-fields)) fs ≡ some nt → Candidate er d e nt
       on c u [] v z = let y : _≡_ {A = ℕ} 0 1 = cc in absurd (omega arith)
       on c u (f ∷ []) v z =
           record { ctor = c; field = f; not-erased = p; allowed = q; one-ctor = u; one-kept = v; made = cc }
       on c u (f ∷ g ∷ fs) v z = let y : _≡_ {A = ℕ} 0 1 = cc in absurd (omega arith)
 
-      by : (cs : List Ctor) → ctors-of-tydef d ≡ cs → newtype-of (map (λ c. ctor-layout c (slots er (c .ct-fields))) cs) ≡ some (L-newtype nt) → Candidate er d e nt
+      by : (cs : List Ctor) → ctors-of-tydef d ≡ cs → newtype-of (map (λ c. ctor-layout c (slots er (c .ct-fields))) cs) ≡ some nt → Candidate er d e nt
       by [] u z = let y : _≡_ {A = ℕ} 0 1 = cc in absurd (omega arith)
       by (c ∷ []) u z = on c u (kept (slots er (c .ct-fields)) (c .ct-fields)) refl z
       by (c ∷ c₁ ∷ cs) u z = let y : _≡_ {A = ℕ} 0 1 = cc in absurd (omega arith)
 
-  pub candidate-iff : (candidate d here e (ctor-layouts er d) ≡ some (L-newtype nt)) ↔ Candidate er d e nt
+  pub candidate-iff : (candidate d here e (ctor-layouts er d) ≡ some nt) ↔ Candidate er d e nt
   unfolding candidate ctor-layouts ctor-layout newtype-of newtype-of-ctor
   candidate-iff = (λ h. by e (has-flag d NoNewtype) refl refl h, λ k. rw (k .not-erased, k .allowed, k .one-ctor, k .one-kept, k .made))
     where
-      by : (x y : Bool) → e ≡ x → has-flag d NoNewtype ≡ y → pick (x || y) none (newtype-of (ctor-layouts er d)) ≡ some (L-newtype nt) → Candidate er d e nt
+      by : (x y : Bool) → e ≡ x → has-flag d NoNewtype ≡ y → pick (x || y) none (newtype-of (ctor-layouts er d)) ≡ some nt → Candidate er d e nt
       by true y p q z = let o : _≡_ {A = ℕ} 0 1 = cc in absurd (omega arith)
       by false true p q z = let o : _≡_ {A = ℕ} 0 1 = cc in absurd (omega arith)
       by false false p q z = newtype-is p q z
 
 -- ---- newtypes
-collapse-newtype : (drop : Bool) (o : Option Layout) (cls : List CtorLayout) (nt : NewtypeLayout) → collapse drop o cls ≡ L-newtype nt → (o ≡ some (L-newtype nt)) × (drop ≡ false)
+collapse-newtype : (drop : Bool) (o : Option NewtypeLayout) (cls : List CtorLayout) (nt : NewtypeLayout) → collapse drop o cls ≡ L-newtype nt → (o ≡ some nt) × (drop ≡ false)
 unfolding collapse
 collapse-newtype true o cls nt h = let y : _≡_ {A = ℕ} 0 1 = cc in absurd (omega arith)
 collapse-newtype false none cls nt h = let y : _≡_ {A = ℕ} 0 1 = cc in absurd (omega arith)
-collapse-newtype false (some l) cls nt h = (cc, refl)
+collapse-newtype false (some n) cls nt h = (cc, refl)
 
-body-newtype : (b : Body) (drop : Bool) (o : Option Layout) (cls : List CtorLayout) (nt : NewtypeLayout) → layout-of-body b drop o cls ≡ L-newtype nt → (o ≡ some (L-newtype nt)) × (drop ≡ false)
+body-newtype : (b : Body) (drop : Bool) (o : Option NewtypeLayout) (cls : List CtorLayout) (nt : NewtypeLayout) → layout-of-body b drop o cls ≡ L-newtype nt → (o ≡ some nt) × (drop ≡ false)
 unfolding layout-of-body
 body-newtype TAbstract drop o cls nt h = let y : _≡_ {A = ℕ} 0 1 = cc in absurd (omega arith)
 body-newtype (TAbbrev c) drop o cls nt h = let y : _≡_ {A = ℕ} 0 1 = cc in absurd (omega arith)
 body-newtype (TRecord fs) drop o cls nt h = collapse-newtype drop o cls nt h
 body-newtype (TVariant cs) drop o cls nt h = collapse-newtype drop o cls nt h
 
-newtype-body : (n : ℕ) (b : Body) (c : Ctor) (l : Layout) (cls : List CtorLayout) → ctors-of n b ≡ c ∷ [] → layout-of-body b false (some l) cls ≡ l
+newtype-body : (n : ℕ) (b : Body) (c : Ctor) (nt : NewtypeLayout) (cls : List CtorLayout) → ctors-of n b ≡ c ∷ [] → layout-of-body b false (some nt) cls ≡ L-newtype nt
 unfolding ctors-of layout-of-body collapse
-newtype-body n TAbstract c l cls h = let y : _≡_ {A = ℕ} 0 1 = cc in absurd (omega arith)
-newtype-body n (TAbbrev t) c l cls h = let y : _≡_ {A = ℕ} 0 1 = cc in absurd (omega arith)
-newtype-body n (TRecord fs) c l cls h = refl
-newtype-body n (TVariant cs) c l cls h = refl
+newtype-body n TAbstract c nt cls h = let y : _≡_ {A = ℕ} 0 1 = cc in absurd (omega arith)
+newtype-body n (TAbbrev t) c nt cls h = let y : _≡_ {A = ℕ} 0 1 = cc in absurd (omega arith)
+newtype-body n (TRecord fs) c nt cls h = refl
+newtype-body n (TVariant cs) c nt cls h = refl
 
 -- a declaration's layout is a newtype where it is a candidate and not dropped
 pub layout-newtype : (er : ℕ → Bool) (d : Dtype) (e drop : Bool) (nt : NewtypeLayout)
@@ -271,7 +265,7 @@ layout-newtype er d e drop nt = (by e refl, back)
 
     back : Candidate er d e nt × (drop ≡ false) → layout-of d here e drop (candidate d here e (ctor-layouts er d)) (ctor-layouts er d) ≡ L-newtype nt
     back k =
-        rw (candidate-iff er d e nt .1 (k .0), k .0 .not-erased, k .1) (newtype-body (d .dt-name) (d .dt-body) (k .0 .ctor) (L-newtype nt) (ctor-layouts er d) (k .0 .one-ctor))
+        rw (candidate-iff er d e nt .1 (k .0), k .0 .not-erased, k .1) (newtype-body (d .dt-name) (d .dt-body) (k .0 .ctor) nt (ctor-layouts er d) (k .0 .one-ctor))
 
 -- A local declaration becomes a newtype exactly where it is a candidate and does not reach itself
 -- through the payloads of candidates.
@@ -295,7 +289,7 @@ pub candidate-next : (ds : List Decl) (s : List Bool) (i : ℕ)
     → (nt : NewtypeLayout)
     → Candidate (marked ds s) (dtype-at ds i) (getD s i false) nt
     → guard-next ds (candidates-of ds s) i ≡ names-in ds (nt .nt-ty)
-unfolding guard-next payload-names
+unfolding guard-next steps payload type-names
 candidate-next ds s i h o nt c =
     rw (getD-candidates ds (marked ds s) s i none h, o, candidate-iff (marked ds s) (dtype-at ds i) (getD s i false) nt .1 c)
 
@@ -314,11 +308,11 @@ pub record CandidateAt (ds : List Decl) (er : ℕ → Bool) (s : List Bool) (i :
   pub local : origin-at ds i ≡ here
   pub candidate : Candidate er (dtype-at ds i) (getD s i false) nt
 
-pub candidate-entry : (ds : List Decl) (er : ℕ → Bool) (s : List Bool) (i : ℕ) (nt : NewtypeLayout) → getD (candidates ds er s) i none ≡ some (L-newtype nt) → CandidateAt ds er s i nt
+pub candidate-entry : (ds : List Decl) (er : ℕ → Bool) (s : List Bool) (i : ℕ) (nt : NewtypeLayout) → getD (candidates ds er s) i none ≡ some nt → CandidateAt ds er s i nt
 unfolding candidate
 candidate-entry ds er s i nt e = by (ltb i (length ds)) refl
   where
-    on : i < length ds → (o : Origin) → origin-at ds i ≡ o → candidate (dtype-at ds i) o (getD s i false) (ctor-layouts er (dtype-at ds i)) ≡ some (L-newtype nt) → CandidateAt ds er s i nt
+    on : i < length ds → (o : Origin) → origin-at ds i ≡ o → candidate (dtype-at ds i) o (getD s i false) (ctor-layouts er (dtype-at ds i)) ≡ some nt → CandidateAt ds er s i nt
     on h here u z = record { below = h; local = u; candidate = candidate-iff er (dtype-at ds i) (getD s i false) nt .0 z }
     on h (imported ti) u z = let y : _≡_ {A = ℕ} 0 1 = cc in absurd (omega arith)
 
@@ -402,7 +396,7 @@ module _ (S : ℕ → Bool) (ds ds' : List Decl) (s s' : List Bool) (a : Alike S
       let inside : S n ≡ true = a .agree .closed (p .name) (p .member) (p .declared) n (rw (p .first) named) in
       let decl : Declared ds n = rw (q .place .placed) (q .place .below) in
       let decl' : Declared ds' n = a .agree .declared n inside .0 decl in
-      let cand : getD (candidates-of ds' s') i' none ≡ some (L-newtype (q .newtype)) =
+      let cand : getD (candidates-of ds' s') i' none ≡ some (q .newtype) =
       rw (← (p .second)) (sym (candidate-same (p .name) (p .member) (p .declared)) ∙ rw (p .first) (q .is-candidate)) in
       let step : Step ds' (candidates-of ds' s') i' (position ds' n) =
       record { newtype = q .newtype; is-candidate = cand; place = record { name = n; named = q .place .named; placed = refl; below = decl' } } in
@@ -475,16 +469,16 @@ module _ (B : ℕ → Bool) (ds ds' : List Decl) (s : List Bool) (p : PinnedLayo
 
   -- a step of the guard from outside B is one in the other program too,
   step-to : (a b : ℕ) → B a ≡ false → List·Memᴰ b (guard-next ds (candidates-of ds s) a) → List·Memᴰ b (guard-next ds' (candidates-of ds' s) a)
-  unfolding guard-next payload-names
+  unfolding guard-next steps payload type-names
   step-to a b e m =
       let h : a < length ds = guard-from ds (marked ds s) s a b m in
       let q : Step ds (candidates-of ds s) a b = guard-step ds (candidates-of ds s) a b m in
-      let r : getD (candidates-of ds' s) a none ≡ some (L-newtype (q .newtype)) = sym (candidate-other a h e) ∙ q .is-candidate in
+      let r : getD (candidates-of ds' s) a none ≡ some (q .newtype) = sym (candidate-other a h e) ∙ q .is-candidate in
       rw (r, ← (positions-same ds ds' (p .same-length) (p .same-dtypes) (names-of-cty (q .newtype .nt-ty)))) (rw (q .is-candidate) at m)
 
   -- and no step is new
   step-from : (a b : ℕ) → List·Memᴰ b (guard-next ds' (candidates-of ds' s) a) → List·Memᴰ b (guard-next ds (candidates-of ds s) a)
-  unfolding guard-next payload-names
+  unfolding guard-next steps payload type-names
   step-from a b m = by (B a) refl
     where
       q : Step ds' (candidates-of ds' s) a b
@@ -495,11 +489,11 @@ module _ (B : ℕ → Bool) (ds ds' : List Decl) (s : List Bool) (p : PinnedLayo
 
       by : (x : Bool) → B a ≡ x → List·Memᴰ b (guard-next ds (candidates-of ds s) a)
       by true e =
-          let z : none ≡ some (L-newtype (q .newtype)) = sym (candidate-pinned a h e) ∙ q .is-candidate in
+          let z : none ≡ some (q .newtype) = sym (candidate-pinned a h e) ∙ q .is-candidate in
           let y : _≡_ {A = ℕ} 0 1 = cc in
           absurd (omega arith)
       by false e =
-          let r : getD (candidates-of ds s) a none ≡ some (L-newtype (q .newtype)) = candidate-other a h e ∙ q .is-candidate in
+          let r : getD (candidates-of ds s) a none ≡ some (q .newtype) = candidate-other a h e ∙ q .is-candidate in
           rw (r, positions-same ds ds' (p .same-length) (p .same-dtypes) (names-of-cty (q .newtype .nt-ty))) (rw (q .is-candidate) at m)
 
   -- B is not left

@@ -95,6 +95,7 @@ use Rattle.model.specs.Decl.{
   has-flag,
   ctors-of,
   CtorLayout,
+  NewtypeLayout,
   Layout,
   L-erased,
   L-newtype,
@@ -946,54 +947,20 @@ module _ (Q : Cty → Type 0) (res : Cty → Cty) where
   left-types d L-opaque m h = opaque-left (d .dt-body) m
 
 -- ---- the layout of a local declaration goes with its body
-abbrev pub Newtype : Option Layout → Type 0
-Newtype none = Unit {0}
-Newtype (some L-erased) = ⊥
-Newtype (some (L-newtype nt)) = Unit {0}
-Newtype (some (L-struct cls)) = ⊥
-Newtype (some (L-abbrev c)) = ⊥
-Newtype (some L-opaque) = ⊥
-
-newtype-of-ctor-newtype : (n : ℕ) (bs : List Bool) (fs : List Field) → Newtype (newtype-of-ctor n bs fs)
-unfolding newtype-of-ctor
-newtype-of-ctor-newtype n bs [] = tt
-newtype-of-ctor-newtype n bs (f ∷ []) = tt
-newtype-of-ctor-newtype n bs (f ∷ g ∷ fs) = tt
-
-newtype-of-newtype : (cls : List CtorLayout) → Newtype (newtype-of cls)
-unfolding newtype-of
-newtype-of-newtype [] = tt
-newtype-of-newtype (cl ∷ []) = newtype-of-ctor-newtype (cl .cl-name) (cl .cl-slots) (cl .cl-fields)
-newtype-of-newtype (cl ∷ cm ∷ cls) = tt
-
--- a candidate is a newtype
-pub candidate-newtype : (d : Dtype) (o : Origin) (e : Bool) (cls : List CtorLayout) → Newtype (candidate d o e cls)
-unfolding candidate
-candidate-newtype d (imported ti) e cls = tt
-candidate-newtype d here e cls = go (e || has-flag d NoNewtype)
-  where
-    go : (b : Bool) → Newtype (pick b none (newtype-of cls))
-    go true = tt
-    go false = newtype-of-newtype cls
-
 module _ (b : Body) (cls : List CtorLayout) (m : StructMatches b cls) where
-  collapse-matches : (drop : Bool) (cand : Option Layout) → Newtype cand → Matches b (collapse drop cand cls)
+  collapse-matches : (drop : Bool) (cand : Option NewtypeLayout) → Matches b (collapse drop cand cls)
   unfolding collapse
-  collapse-matches true cand h = m
-  collapse-matches false none h = m
-  collapse-matches false (some L-erased) h = absurd h
-  collapse-matches false (some (L-newtype nt)) h = tt
-  collapse-matches false (some (L-struct cms)) h = absurd h
-  collapse-matches false (some (L-abbrev c)) h = absurd h
-  collapse-matches false (some L-opaque) h = absurd h
+  collapse-matches true cand = m
+  collapse-matches false none = m
+  collapse-matches false (some nt) = tt
 
-pub layout-matches : (er : ℕ → Bool) (d : Dtype) (e drop : Bool) (cand : Option Layout) → Newtype cand → Matches (d .dt-body) (layout-of d here e drop cand (ctor-layouts er d))
+pub layout-matches : (er : ℕ → Bool) (d : Dtype) (e drop : Bool) (cand : Option NewtypeLayout) → Matches (d .dt-body) (layout-of d here e drop cand (ctor-layouts er d))
 unfolding layout-of layout-of-body ctor-layouts ctors-of
-layout-matches er d true drop cand h = tt
-layout-matches er d false drop cand h = go (d .dt-body)
+layout-matches er d true drop cand = tt
+layout-matches er d false drop cand = go (d .dt-body)
   where
     go : (b : Body) → Matches b (layout-of-body b drop cand (map (λ c. ctor-layout c (slots er (c .ct-fields))) (ctors-of (d .dt-name) b)))
     go TAbstract = tt
     go (TAbbrev c) = tt
-    go (TRecord fs) = collapse-matches (TRecord fs) (map (λ c. ctor-layout c (slots er (c .ct-fields))) (ctors-of (d .dt-name) (TRecord fs))) tt drop cand h
-    go (TVariant cs) = collapse-matches (TVariant cs) (map (λ c. ctor-layout c (slots er (c .ct-fields))) (ctors-of (d .dt-name) (TVariant cs))) tt drop cand h
+    go (TRecord fs) = collapse-matches (TRecord fs) (map (λ c. ctor-layout c (slots er (c .ct-fields))) (ctors-of (d .dt-name) (TRecord fs))) tt drop cand
+    go (TVariant cs) = collapse-matches (TVariant cs) (map (λ c. ctor-layout c (slots er (c .ct-fields))) (ctors-of (d .dt-name) (TVariant cs))) tt drop cand

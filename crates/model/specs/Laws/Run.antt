@@ -2,14 +2,16 @@
 use mathlib.Core.Path.{_≡_, refl, sym, _∙_, ap, ap₂, fun-ext}
 use mathlib.Core.List.{List}
 use mathlib.Core.Bool.{false}
-use mathlib.Core.Option.{Option, none}
+use mathlib.Core.Option.{Option, none, some}
 use Prim.Native.Nat.{ℕ, _<_}
 use lib.ListN.{length, getD}
+use Rattle.model.specs.Cty.{Cty}
 use Rattle.model.specs.Decl.{Dtype, Layout, L-opaque, TypeInfo, Decl, dtype-at, origin-at, table}
 use Rattle.model.specs.Erasure.{marked, erasure-fixpoint}
 use Rattle.model.specs.Reach.{cyclic}
-use Rattle.model.specs.Resolve.{Unfold, gone, newtype, abbreviation, stays, unfold-of, unfolds, unfold-name, resolve, resolve-checked}
-use Rattle.model.specs.Run.{fuel, rw-decl, info, layouts-of, somes, run, unfold-names, unfold-next, returns, resolves, fault-code, decl-fault}
+use Rattle.model.specs.Layout.{type-names, steps}
+use Rattle.model.specs.Resolve.{Unfold, stays, unfolded, unfold-of, unfolds, unfold-name, resolve, resolve-checked}
+use Rattle.model.specs.Run.{fuel, rw-decl, info, layouts-of, somes, run, unfold-next, returns, resolves, fault-code, decl-fault}
 use Rattle.model.specs.Laws.Names.{position-same}
 use Rattle.model.specs.Laws.Layout.{positions-same}
 use Rattle.model.specs.Laws.Lists.{length-table, getD-table, table-cong}
@@ -77,16 +79,14 @@ module _ (ds ds' : List Decl) (e : length ds ≡ length ds') (t : (i : ℕ) → 
     fault-same limit i =
         ap₂ (λ (u : ℕ → Unfold) (l : List Layout). fault-code (resolve-checked limit u fuel) (resolves (getD l i L-opaque))) lay-same q
 
-    unfold-names-same : (u : Unfold) → unfold-names ds u ≡ unfold-names ds' u
-    unfolding unfold-names
-    unfold-names-same gone = refl
-    unfold-names-same (newtype ps c) = positions-same ds ds' e t _
-    unfold-names-same (abbreviation ps c) = positions-same ds ds' e t _
-    unfold-names-same stays = refl
+    type-names-same : (o : Option Cty) → type-names ds o ≡ type-names ds' o
+    unfolding type-names
+    type-names-same none = refl
+    type-names-same (some c) = positions-same ds ds' e t _
 
     pub returns-same : (i : ℕ) → returns ds (layouts-of ds) i ≡ returns ds' (layouts-of ds') i
-    unfolding returns unfold-next
+    unfolding returns unfold-next steps
     returns-same i =
         ap₂ (λ (next : ℕ → List ℕ) (n : ℕ). cyclic next n i)
-        (fun-ext (λ j. unfold-names-same (getD (unfolds ds (layouts-of ds)) j stays) ∙ ap (λ (us : List Unfold). unfold-names ds' (getD us j stays)) unfolds-same))
+        (fun-ext (λ j. type-names-same (unfolded (getD (unfolds ds (layouts-of ds)) j stays)) ∙ ap (λ (us : List Unfold). type-names ds' (unfolded (getD us j stays))) unfolds-same))
         e
