@@ -12,7 +12,7 @@ use Rattle.sheet.specs.Sheet.{first, count, line, lines, encodes, row1}
 use Rattle.answer.specs.declared.Refusal.{Refusal}
 use Rattle.answer.specs.declared.Refusal.the-variants.{Accepted, Refused}
 use Rattle.model.specs.Decl.{Decl}
-use Rattle.model.specs.Run.{run, layouts-of, returns, decl-fault}
+use Rattle.model.specs.Run.{run, left-program, layouts-of, returns, decl-fault}
 use Rattle.meaning.specs.Program.{is-head, program}
 use Rattle.meaning.specs.Rows.{line-at, heads-before, raws, row3, row4, row5, row6, row7}
 use Rattle.meaning.specs.Output.{verdict-lines, left-lines}
@@ -41,27 +41,26 @@ at-head ls p i = elim (is-head (line-at ls i)) [ true ↦ p (heads-before ls i) 
 unfoldable pub row8 : List Decl → List Line → ℕ → Bool
 row8 ds ls = at-head ls (returns ds (layouts-of ds))
 
--- rows 9 and 10 share one pass: the code of the fault that the declaration at line i meets first
+-- Rows 9 and 10 share one pass: the code of the fault that the declaration at line i meets first.
 unfoldable pub fault-at : Format → List Decl → List Line → ℕ → ℕ
-fault-at f ds ls i = decl-fault (f .nodes) ds (layouts-of ds) (heads-before ls i)
+fault-at f ds ls i = decl-fault (f .nodes) (f .fuel) ds (layouts-of ds) (heads-before ls i)
 
-unfoldable pub row9 : Format → List Decl → List Line → ℕ → Bool
-row9 f ds ls = at-head ls (λ k. not (eqb (decl-fault (f .nodes) ds (layouts-of ds) k) 0))
+unfoldable pub row9-10 : Format → List Decl → List Line → ℕ → Bool
+row9-10 f ds ls = at-head ls (λ k. not (eqb (decl-fault (f .nodes) (f .fuel) ds (layouts-of ds) k) 0))
 
 -- ---- the sheets
 unfoldable pub verdict-sheet : Format → List Line → List ℕ
-verdict-sheet f ls = encodes (f .columns) (verdict-lines ls (run (program ls) .infos))
+verdict-sheet f ls = encodes (f .columns) (verdict-lines ls (run (f .fuel) (program ls) .infos))
 
 unfoldable pub left-sheet : Format → List Line → List ℕ
-left-sheet f ls = encodes (f .columns) (left-lines ls (run (program ls) .program))
+left-sheet f ls = encodes (f .columns) (left-lines ls (left-program (run (f .fuel) (program ls))))
 
--- ---- the answer
--- All rows, in the order in which they are tested; v and l are the outputs' lengths.
-unfoldable pub rows : Format → List ℕ → ℕ → ℕ → List Row
-rows f b v l =
+-- ---- the rows, in the order in which they are tested
+-- rows 1 to 7: the sheet itself
+unfoldable pub sheet-rows : Format → List ℕ → List Row
+sheet-rows f b =
     let ls : List Line = lines (f .columns) b in
     let n : ℕ = count (f .columns) b in
-    let ds : List Decl = program ls in
     whole-row 1 0 (row1 f b)
     ∷ line-row 2 n (λ i. isBad (line (f .columns) b i))
     ∷ line-row 3 (suc n) (row3 (raws (f .columns) b))
@@ -69,11 +68,32 @@ rows f b v l =
     ∷ line-row 5 n (row5 ls)
     ∷ line-row 6 n (row6 ls)
     ∷ line-row 7 n (row7 ls)
-    ∷ line-row 8 n (row8 ds ls)
-    ∷ record { bound = n; test = row9 f ds ls; code = fault-at f ds ls; place = λ i. i }
-    ∷ record { bound = 1; test = λ i. ltb v (length b); code = λ i. 11; place = λ i. length b }
-    ∷ record { bound = 1; test = λ i. ltb l (length (left-sheet f ls)); code = λ i. 12; place = λ i. length (left-sheet f ls) }
     ∷ []
+
+-- rows 8 to 10: the program that it declares
+unfoldable pub program-rows : Format → List ℕ → List Row
+program-rows f b =
+    let ls : List Line = lines (f .columns) b in
+    let n : ℕ = count (f .columns) b in
+    let ds : List Decl = program ls in
+    line-row 8 n (row8 ds ls)
+    ∷ record { bound = n; test = row9-10 f ds ls; code = fault-at f ds ls; place = λ i. i }
+    ∷ []
+
+-- every row that looks at no output
+abbrev pub input-rows : Format → List ℕ → List Row
+input-rows f b = sheet-rows f b ++ program-rows f b
+
+-- rows 11 and 12: v and l are the outputs' lengths
+unfoldable pub output-rows : Format → List ℕ → ℕ → ℕ → List Row
+output-rows f b v l =
+    let needed : ℕ = length (left-sheet f (lines (f .columns) b)) in
+    whole-row 11 (length b) (ltb v (length b))
+    ∷ whole-row 12 needed (ltb l needed)
+    ∷ []
+
+abbrev pub rows : Format → List ℕ → ℕ → ℕ → List Row
+rows f b v l = input-rows f b ++ output-rows f b v l
 
 -- the code and place of the first row that applies, or that none does
 unfoldable pub refusal : List Row → Refusal
@@ -82,6 +102,11 @@ refusal (r ∷ rs) =
     let i : ℕ = first (r .test) (r .bound) in
     elim (ltb i (r .bound)) [ true ↦ Refused (r .code i) (r .place i) | false ↦ refusal rs ]
 
+-- whether the sheet is refused, whatever the outputs are
+abbrev pub input-refusal : Format → List ℕ → Refusal
+input-refusal f b = refusal (input-rows f b)
+
+-- ---- the answer
 pub record Answer : Type 0 where
   pub code : ℕ
   pub place : ℕ
@@ -93,7 +118,7 @@ unfoldable pub answered : Format → List ℕ → Refusal → Answer
 answered f b (Refused code place) = record { code = code; place = place; rounds = 0; verdict = []; left = [] }
 answered f b Accepted =
     let ls : List Line = lines (f .columns) b in
-    record { code = 0; place = 0; rounds = run (program ls) .rounds; verdict = verdict-sheet f ls; left = left-sheet f ls }
+    record { code = 0; place = 0; rounds = run (f .fuel) (program ls) .rounds; verdict = verdict-sheet f ls; left = left-sheet f ls }
 
 unfoldable pub answer : Format → List ℕ → ℕ → ℕ → Answer
 answer f b v l = answered f b (refusal (rows f b v l))

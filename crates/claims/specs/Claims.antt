@@ -33,7 +33,7 @@ use Rattle.model.specs.Erasure.{cty-erased, marked, rule, start, erasure-fixpoi
 use Rattle.model.specs.Reach.{Reach}
 use Rattle.model.specs.Layout.{ctor-layouts, guard-next}
 use Rattle.model.specs.Resolve.{stays, resolve, ok, resolve-checked}
-use Rattle.model.specs.Run.{fuel, run, layouts-of, resolves, decl-fault, returns}
+use Rattle.model.specs.Run.{left-program, run, layouts-of, resolves, decl-fault, returns, lay, layout-of-decl, left-at, info-at}
 use Rattle.meaning.specs.Program.{type-line, program}
 use Rattle.meaning.specs.Output.{verdict-lines, left-lines}
 use Rattle.answer.specs.Answer.{Answer, verdict-sheet, left-sheet, answered, answer, after}
@@ -44,9 +44,9 @@ use Rattle.model.specs.Laws.Erasure.{locals, erasure-solves, erasure-least, era
 use Rattle.model.specs.Laws.Layout.{Candidate, candidates-of}
 use Rattle.model.specs.Laws.Layout as layouts
 use Rattle.model.specs.Laws.Cty.{every-mem}
-use Rattle.model.specs.Laws.Run.{lay, layout-of-decl, left-at, info-at, getD-infos}
+use Rattle.model.specs.Laws.Run.{getD-infos}
 use Rattle.locality.specs.Laws.Locality.{OwnImports, marks-local, layouts-local, info-local, left-local, fault-local, returns-local}
-use Rattle.locality.specs.Laws.Fuel.{fuel-more}
+use Rattle.locality.specs.Laws.Fuel.{fuel-same}
 use Rattle.locality.specs.Laws.Rename.{Injective, rename-decls, SameRenamed, locality-renamed}
 use Rattle.answer.specs.Laws.Answer.{Passes, sheets, build-passes, accepted-passes, passes-accepted, Nothing, refused-nothing, after-length, after-past}
 use Rattle.answer.specs.Laws.Left.{Ample, pass-no-return, pass-resolved, few-decls, left-sheet-names, verdict-sheet-length}
@@ -62,7 +62,6 @@ use Rattle.claims.specs.ClaimsLaws.{
   local-ctors,
   import-info,
   map-ctors,
-  at-least,
   first-accepted,
 }
 
@@ -120,16 +119,16 @@ pub record Kept (ds : List Decl) (i : ℕ) (ti : TypeInfo) : Type 0 where
       ≡ map (λ c. record { cl-name = c .ct-name; cl-slots = map (λ x. not (cty-erased (erased ds) (x .fd-type))) (c .ct-fields); cl-fields = unerased (erased ds) (c .ct-fields) }) (ctors-of-tydef (dtype-at ds i))
 
 pub kept-fields : (f : Format) (b : List ℕ) (v l : ℕ) → Accepted f b v l → (i : ℕ) → i < length (decls f b) → origin-at (decls f b) i ≡ here
-    → (d : TypeInfo) → Kept (decls f b) i (getD (run (decls f b) .infos) i d)
+    → (d : TypeInfo) → Kept (decls f b) i (getD (run (f .fuel) (decls f b) .infos) i d)
 unfolding ctor-layouts
 kept-fields f b v l a i h o d =
     let ds : List Decl = decls f b in
-    rw (getD-infos ds i d h) (record { is-erased = local-erased ds i o; fields = local-ctors ds i o ∙ map-ctors (erased ds) (ctors-of-tydef (dtype-at ds i)) })
+    rw (getD-infos (f .fuel) ds i d h) (record { is-erased = local-erased (f .fuel) ds i o; fields = local-ctors (f .fuel) ds i o ∙ map-ctors (erased ds) (ctors-of-tydef (dtype-at ds i)) })
 
 -- IMPORTS. An import keeps what its lines say: erasure, layout, kept fields and record.
 pub imports : (f : Format) (b : List ℕ) (v l : ℕ) → Accepted f b v l → (i : ℕ) (ti : TypeInfo) → i < length (decls f b) → origin-at (decls f b) i ≡ imported ti
-    → (d : TypeInfo) → getD (run (decls f b) .infos) i d ≡ ti
-imports f b v l a i ti h o d = getD-infos (decls f b) i d h ∙ import-info (decls f b) i ti o
+    → (d : TypeInfo) → getD (run (f .fuel) (decls f b) .infos) i d ≡ ti
+imports f b v l a i ti h o d = getD-infos (f .fuel) (decls f b) i d h ∙ import-info (f .fuel) (decls f b) i ti o
 
 -- COLLAPSED. A local type is a newtype exactly where its guards allow it (`Candidate`: not erased, without
 -- `NoNewtype`, one constructor, one kept field, whose type less one `TInline` is the payload) and its own
@@ -152,23 +151,23 @@ resolved f b v l ample a =
 -- UNSPENT. The fuel of 100 is never spent: every type that is resolved is resolved to the end, without a
 -- fault, and any larger fuel gives the same.
 pub record Unspent (f : Format) (ds : List Decl) (c : Cty) : Type 0 where
-  pub answered : resolve-checked (f .nodes) (lay ds) fuel c ≡ ok (resolve (lay ds) fuel c)
-  pub more : (m : ℕ) → fuel ≤ m → resolve (lay ds) m c ≡ resolve (lay ds) fuel c
+  pub answered : resolve-checked (f .nodes) (lay ds) (f .fuel) c ≡ ok (resolve (lay ds) (f .fuel) c)
+  pub more : (m : ℕ) → f .fuel ≤ m → resolve (lay ds) m c ≡ resolve (lay ds) (f .fuel) c
 
 pub unspent : (f : Format) (b : List ℕ) (v l : ℕ) → Ample f → Accepted f b v l → (i : ℕ) → i < length (decls f b)
     → (c : Cty) → List·Memᴰ c (resolves (layout-of-decl (decls f b) i)) → Unspent f (decls f b) c
 unspent f b v l ample a i h c m =
     let p : Passes f b v l = accepted-passes f b v l a in
-    let few : length (decls f b) < fuel = few-decls f b v l ample p in
+    let few : length (decls f b) < f .fuel = few-decls f b v l ample p in
     record {
       answered = every-mem _ (resolves (layout-of-decl (decls f b) i)) (pass-resolved f b v l ample p i h) c m .answers;
-      more = λ k q. at-least (λ j. resolve (lay (decls f b)) j c) (resolve (lay (decls f b)) fuel c) k q (λ j r. sym (fuel-more (decls f b) (pass-no-return f b v l ample p) 99 (omega arith) j r c));
+      more = λ m q. fuel-same (decls f b) (pass-no-return f b v l ample p) m (f .fuel) (omega (arith, few)) few c;
     }
 
 -- RUN. The verdicts and the declarations that are left are those of the model of the source's `run`.
 pub record Ran (f : Format) (b : List ℕ) (a : Answer) : Type 0 where
-  pub verdicts : a .verdict ≡ encodes (f .columns) (verdict-lines (lines (f .columns) b) (run (decls f b) .infos))
-  pub declarations : a .left ≡ encodes (f .columns) (left-lines (lines (f .columns) b) (run (decls f b) .program))
+  pub verdicts : a .verdict ≡ encodes (f .columns) (verdict-lines (lines (f .columns) b) (run (f .fuel) (decls f b) .infos))
+  pub declarations : a .left ≡ encodes (f .columns) (left-lines (lines (f .columns) b) (left-program (run (f .fuel) (decls f b))))
 
 pub run-of-source : (f : Format) (b : List ℕ) (v l : ℕ) → Accepted f b v l → Ran f b (answer f b v l)
 unfolding verdict-sheet left-sheet
@@ -225,29 +224,29 @@ written f b v l ample a old old' e e' =
 -- LOCALITY. Two programs that agree on a set of names closed under what their declarations name, imports
 -- counting by their verdicts, give these names the same erasure, layouts, keeps, verdicts, left declarations,
 -- faults and loops. Any declarations, any limit.
-pub record Same (limit : ℕ) (ds ds' : List Decl) (n : ℕ) : Type 0 where
+pub record Same (limit fuel : ℕ) (ds ds' : List Decl) (n : ℕ) : Type 0 where
   pub same-erasure : getD (marks ds) (position ds n) false ≡ getD (marks ds') (position ds' n) false
   pub same-layout : layout-of-decl ds (position ds n) ≡ layout-of-decl ds' (position ds' n)
-  pub same-verdict : info-at ds (position ds n) ≡ info-at ds' (position ds' n)
-  pub same-left : left-at ds (position ds n) ≡ left-at ds' (position ds' n)
-  pub same-fault : decl-fault limit ds (layouts-of ds) (position ds n) ≡ decl-fault limit ds' (layouts-of ds') (position ds' n)
+  pub same-verdict : info-at fuel ds (position ds n) ≡ info-at fuel ds' (position ds' n)
+  pub same-left : left-at fuel ds (position ds n) ≡ left-at fuel ds' (position ds' n)
+  pub same-fault : decl-fault limit fuel ds (layouts-of ds) (position ds n) ≡ decl-fault limit fuel ds' (layouts-of ds') (position ds' n)
   pub same-loop : returns ds (layouts-of ds) (position ds n) ≡ returns ds' (layouts-of ds') (position ds' n)
 
-pub locality : (limit : ℕ) (S : ℕ → Bool) (ds ds' : List Decl) → Agree S ds ds' → OwnImports ds → OwnImports ds' → (n : ℕ) → S n ≡ true → Declared ds n → Same limit ds ds' n
-locality limit S ds ds' agree own own' n h d =
+pub locality : (limit fuel : ℕ) (S : ℕ → Bool) (ds ds' : List Decl) → Agree S ds ds' → OwnImports ds → OwnImports ds' → (n : ℕ) → S n ≡ true → Declared ds n → Same limit fuel ds ds' n
+locality limit fuel S ds ds' agree own own' n h d =
     record {
       same-erasure = marks-local S ds ds' agree own n h;
       same-layout = layouts-local S ds ds' agree own n h;
-      same-verdict = info-local S ds ds' agree own n h d;
-      same-left = left-local S ds ds' agree own n h d;
-      same-fault = fault-local S ds ds' agree own limit n h d;
+      same-verdict = info-local S ds ds' agree own fuel n h d;
+      same-left = left-local S ds ds' agree own fuel n h d;
+      same-fault = fault-local S ds ds' agree own limit fuel n h d;
       same-loop = returns-local S ds ds' agree own own' n h d;
     }
 
 -- The same of two programs that number their names differently: ρ gives each name of the first its number
 -- in the second, and what the second gets is what the first gets, renamed.
-pub locality-by-names : (ρ : ℕ → ℕ) → Injective ρ → (limit : ℕ) (S : ℕ → Bool) (ds ds' : List Decl) → Agree S (rename-decls ρ ds) ds' → OwnImports ds → OwnImports ds'
-    → (n : ℕ) → S (ρ n) ≡ true → Declared ds n → SameRenamed ρ limit ds ds' n
+pub locality-by-names : (ρ : ℕ → ℕ) → Injective ρ → (limit fuel : ℕ) (S : ℕ → Bool) (ds ds' : List Decl) → Agree S (rename-decls ρ ds) ds' → OwnImports ds → OwnImports ds'
+    → (n : ℕ) → S (ρ n) ≡ true → Declared ds n → SameRenamed ρ limit fuel ds ds' n
 locality-by-names = locality-renamed
 
 -- ---- the cut

@@ -14,11 +14,10 @@ use Rattle.model.specs.Cty.{Cty}
 use Rattle.model.specs.Decl.{Field, Ctor, CtorLayout, TypeInfo, Origin, here, imported, Decl, dtype-at, origin-at}
 use Rattle.model.specs.Erasure.{cty-erased, marked, erasure-fixpoint}
 use Rattle.model.specs.Layout.{slots, kept, ctor-layout, ctor-layouts}
-use Rattle.model.specs.Run.{info, run}
+use Rattle.model.specs.Run.{info, run, info-at, left-at, layout-of-decl}
 use Rattle.meaning.specs.Program.{program}
 use Rattle.answer.specs.Answer.{Answer, verdict-sheet, left-sheet, answered, answer}
 use Rattle.answer.specs.Cut.{Sheets, build}
-use Rattle.model.specs.Laws.Run.{info-at, left-at, layout-of-decl}
 use Rattle.answer.specs.Laws.Answer.{sheets, passes-build, build-passes, accepted-passes, passes-answer}
 use Rattle.answer.specs.Laws.Build.{Split, split-steps}
 use Rattle.claims.specs.Unerased.{unerased}
@@ -42,24 +41,24 @@ module _ (f : Format) (b : List ℕ) (v l : ℕ) (a : answer f b v l .code ≡ 0
   answer-left = ap (λ (x : Answer). x .left) (passes-answer f b v l (accepted-passes f b v l a))
 
 -- ---- one verdict
-local-info : (ds : List Decl) (i : ℕ) → origin-at ds i ≡ here
-    → info-at ds i ≡ info (marked ds (erasure-fixpoint ds .marks)) (dtype-at ds i) here (getD (erasure-fixpoint ds .marks) i false) (layout-of-decl ds i) (left-at ds i)
+local-info : (fuel : ℕ) (ds : List Decl) (i : ℕ) → origin-at ds i ≡ here
+    → info-at fuel ds i ≡ info (marked ds (erasure-fixpoint ds .marks)) (dtype-at ds i) here (getD (erasure-fixpoint ds .marks) i false) (layout-of-decl ds i) (left-at fuel ds i)
 unfolding info-at
-local-info ds i o =
-    ap (λ (x : Origin). info (marked ds (erasure-fixpoint ds .marks)) (dtype-at ds i) x (getD (erasure-fixpoint ds .marks) i false) (layout-of-decl ds i) (left-at ds i)) o
+local-info fuel ds i o =
+    ap (λ (x : Origin). info (marked ds (erasure-fixpoint ds .marks)) (dtype-at ds i) x (getD (erasure-fixpoint ds .marks) i false) (layout-of-decl ds i) (left-at fuel ds i)) o
 
-pub local-erased : (ds : List Decl) (i : ℕ) → origin-at ds i ≡ here → info-at ds i .ti-erased ≡ getD (erasure-fixpoint ds .marks) i false
+pub local-erased : (fuel : ℕ) (ds : List Decl) (i : ℕ) → origin-at ds i ≡ here → info-at fuel ds i .ti-erased ≡ getD (erasure-fixpoint ds .marks) i false
 unfolding info
-local-erased ds i o = ap (λ (t : TypeInfo). t .ti-erased) (local-info ds i o)
+local-erased fuel ds i o = ap (λ (t : TypeInfo). t .ti-erased) (local-info fuel ds i o)
 
-pub local-ctors : (ds : List Decl) (i : ℕ) → origin-at ds i ≡ here → info-at ds i .ti-ctors ≡ ctor-layouts (marked ds (erasure-fixpoint ds .marks)) (dtype-at ds i)
+pub local-ctors : (fuel : ℕ) (ds : List Decl) (i : ℕ) → origin-at ds i ≡ here → info-at fuel ds i .ti-ctors ≡ ctor-layouts (marked ds (erasure-fixpoint ds .marks)) (dtype-at ds i)
 unfolding info
-local-ctors ds i o = ap (λ (t : TypeInfo). t .ti-ctors) (local-info ds i o)
+local-ctors fuel ds i o = ap (λ (t : TypeInfo). t .ti-ctors) (local-info fuel ds i o)
 
-pub import-info : (ds : List Decl) (i : ℕ) (ti : TypeInfo) → origin-at ds i ≡ imported ti → info-at ds i ≡ ti
+pub import-info : (fuel : ℕ) (ds : List Decl) (i : ℕ) (ti : TypeInfo) → origin-at ds i ≡ imported ti → info-at fuel ds i ≡ ti
 unfolding info-at info
-import-info ds i ti o =
-    ap (λ (x : Origin). info (marked ds (erasure-fixpoint ds .marks)) (dtype-at ds i) x (getD (erasure-fixpoint ds .marks) i false) (layout-of-decl ds i) (left-at ds i)) o
+import-info fuel ds i ti o =
+    ap (λ (x : Origin). info (marked ds (erasure-fixpoint ds .marks)) (dtype-at ds i) x (getD (erasure-fixpoint ds .marks) i false) (layout-of-decl ds i) (left-at fuel ds i)) o
 
 kept-unerased : (er : ℕ → Bool) (fs : List Field) → kept (slots er fs) fs ≡ unerased er fs
 unfolding kept slots unerased
@@ -77,11 +76,6 @@ unfolding ctor-layout slots
 map-ctors er [] = refl
 map-ctors er (c ∷ cs) =
     ap₂ (λ (fs : List Field) (r : List CtorLayout). record { cl-name = c .ct-name; cl-slots = slots er (c .ct-fields); cl-fields = fs } ∷ r) (kept-unerased er (c .ct-fields)) (map-ctors er cs)
-
--- ---- fuel
-pub at-least : (g : ℕ → Cty) (x : Cty) (k : ℕ) → 100 ≤ k → ((j : ℕ) → 99 ≤ j → g (suc j) ≡ x) → g k ≡ x
-at-least g x zero h f = absurd (omega arith)
-at-least g x (suc k) h f = f k (omega arith)
 
 -- ---- the cut
 pub first-accepted : (f : Format) (v l : ℕ) → 0 < f .columns → (p q : List ℕ) → Split (f .columns) p q → (y : Sheets) → build f v l (p ++ q) ≡ some y → build f v l p ≡ some (sheets f p)

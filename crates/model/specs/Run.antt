@@ -56,10 +56,6 @@ use Rattle.model.specs.Resolve.{
   resolve-checked,
 }
 
--- the source's bound on unfolding
-abbrev pub fuel : ℕ
-fuel = 100
-
 -- ---- the left declaration
 abbrev pub with-body : Dtype → Body → Dtype
 with-body d b = record { dt-name = d .dt-name; dt-flags = d .dt-flags; dt-params = d .dt-params; dt-body = b }
@@ -123,31 +119,53 @@ unfoldable pub info : (ℕ → Bool) → Dtype → Origin → Bool → Layout �
 info er d (imported ti) e l left = ti
 info er d here e l left = record { ti-erased = e; ti-layout = l; ti-ctors = ctor-layouts er d; ti-record = record-of left }
 
-unfoldable pub somes : List (Option Dtype) → List Dtype
-somes [] = []
-somes (none ∷ xs) = somes xs
-somes (some d ∷ xs) = d ∷ somes xs
-
 unfoldable pub layouts-of : List Decl → List Layout
 layouts-of ds = compute-layouts ds (erasure-fixpoint ds .marks)
 
--- rounds of erasure, the verdict of each declaration, and the program that is left
+-- Rounds of erasure; for each declaration its verdict, and what is left of it.
 pub record Ran : Type 0 where
   pub rounds : ℕ
   pub infos : List TypeInfo
-  pub program : List Dtype
+  pub lefts : List (Option Dtype)
 
--- Layout's `run` on a program of types whose fields are closed, every import's declaration standing in it
-unfoldable pub run : List Decl → Ran
-run ds =
+-- Layout's `run` on a program of types whose fields are closed, every import's declaration standing in
+-- it. `fuel` is the bound on unfolding, 100 in the source.
+unfoldable pub run : ℕ → List Decl → Ran
+run fuel ds =
     let s : Settled = erasure-fixpoint ds in
     let ls : List Layout = compute-layouts ds (s .marks) in
     let xs : List (Option Dtype) = table (λ i. rw-decl (resolve (unfold-name ds ls) fuel) (dtype-at ds i) (getD ls i L-opaque)) (length ds) in
     record {
       rounds = s .rounds;
       infos = table (λ i. info (marked ds (s .marks)) (dtype-at ds i) (origin-at ds i) (getD (s .marks) i false) (getD ls i L-opaque) (getD xs i none)) (length ds);
-      program = somes xs;
+      lefts = xs;
     }
+
+unfoldable pub somes : List (Option Dtype) → List Dtype
+somes [] = []
+somes (none ∷ xs) = somes xs
+somes (some d ∷ xs) = d ∷ somes xs
+
+-- the program that is left
+abbrev pub left-program : Ran → List Dtype
+left-program r = somes (r .lefts)
+
+-- ---- one declaration
+-- what becomes of the names of a program
+abbrev pub lay : List Decl → ℕ → Unfold
+lay ds = unfold-name ds (layouts-of ds)
+
+abbrev pub layout-of-decl : List Decl → ℕ → Layout
+layout-of-decl ds i = getD (layouts-of ds) i L-opaque
+
+-- what `run` leaves of declaration i
+unfoldable pub left-at : ℕ → List Decl → ℕ → Option Dtype
+left-at fuel ds i = rw-decl (resolve (lay ds) fuel) (dtype-at ds i) (layout-of-decl ds i)
+
+-- the verdict that it gives declaration i
+unfoldable pub info-at : ℕ → List Decl → ℕ → TypeInfo
+info-at fuel ds i =
+    info (marked ds (erasure-fixpoint ds .marks)) (dtype-at ds i) (origin-at ds i) (getD (erasure-fixpoint ds .marks) i false) (layout-of-decl ds i) (left-at fuel ds i)
 
 -- ---- what rows 8, 9 and 10 look at
 -- row 8 goes on through the bodies and payloads of unfolded names
@@ -174,7 +192,11 @@ resolves (L-struct cls) = field-types cls
 resolves (L-abbrev c) = c ∷ []
 resolves L-opaque = []
 
--- the first fault met, 0 where there is none (after row 8 no fuel runs out: claim `unspent`)
+-- what is told of fuel that has run out: the code of no row, and never given after row 8
+abbrev pub spent-code : ℕ
+spent-code = 99
+
+-- the first fault met, 0 where there is none
 unfoldable pub fault-code : (Cty → Result Cty) → List Cty → ℕ
 fault-code res [] = 0
 fault-code res (c ∷ cs) = go (res c) (fault-code res cs)
@@ -182,8 +204,8 @@ fault-code res (c ∷ cs) = go (res c) (fault-code res cs)
     go : Result Cty → ℕ → ℕ
     go (ok t) n = n
     go (fault e) n = e
-    go spent n = n
+    go spent n = spent-code
 
 -- rows 9 and 10 at one declaration
-unfoldable pub decl-fault : ℕ → List Decl → List Layout → ℕ → ℕ
-decl-fault limit ds ls i = fault-code (resolve-checked limit (unfold-name ds ls) fuel) (resolves (getD ls i L-opaque))
+unfoldable pub decl-fault : ℕ → ℕ → List Decl → List Layout → ℕ → ℕ
+decl-fault limit fuel ds ls i = fault-code (resolve-checked limit (unfold-name ds ls) fuel) (resolves (getD ls i L-opaque))

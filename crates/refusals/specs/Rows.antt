@@ -1,33 +1,18 @@
--- Rows 1 to 7: the first seven of the answer's rows, and what a sheet that passes them declares. Assumes nothing.
+-- What the test of rows 1 to 7 answers, and what is known of a sheet that passes them. Assumes nothing.
 use mathlib.Core.Path.{_≡_}
-use mathlib.Core.List.{List, [], _∷_}
+use mathlib.Core.List.{List}
 use mathlib.Core.Bool.{false}
 use Prim.Native.Nat.{ℕ, suc}
 use lib.ListN.{replicate}
-use Rattle.sheet.specs.Format.{Format, base}
-use Rattle.sheet.specs.Line.{Line, isBad}
-use Rattle.sheet.specs.Sheet.{first, count, line, lines, row1, row2}
+use Rattle.sheet.specs.Format.{base}
+use Rattle.sheet.specs.Sheet.{first, count, lines, row1, row2}
 use Rattle.answer.specs.declared.Refusal.{Refusal}
 use Rattle.answer.specs.declared.Refusal.the-variants.{Accepted, Refused}
 use Rattle.meaning.specs.Rows.{raws, row3, row4, row5, row6, row7}
-use Rattle.answer.specs.Answer.{Row, line-row, whole-row, refusal}
+use Rattle.answer.specs.Answer.{sheet-rows, refusal}
 use Rattle.limits.specs.declared.Counts.{Counts}
 use Rattle.limits.specs.Limits.{counts-of}
 use Rattle.refusals.specs.declared.Checked.{Checked}
-
--- in the order in which they are tested
-unfoldable pub first-rows : Format → List ℕ → List Row
-first-rows f b =
-    let ls : List Line = lines (f .columns) b in
-    let n : ℕ = count (f .columns) b in
-    whole-row 1 0 (row1 f b)
-    ∷ line-row 2 n (λ i. isBad (line (f .columns) b i))
-    ∷ line-row 3 (suc n) (row3 (raws (f .columns) b))
-    ∷ line-row 4 n (row4 f ls)
-    ∷ line-row 5 n (row5 ls)
-    ∷ line-row 6 n (row6 ls)
-    ∷ line-row 7 n (row7 ls)
-    ∷ []
 
 -- ---- what the test of these rows answers
 abbrev pub no-counts : Counts
@@ -36,12 +21,12 @@ no-counts = record { names = 0; args = 0; types = 0; decls = 0; starts = replica
 abbrev pub refused-as : ℕ → ℕ → Checked
 refused-as code place = record { refusal = Refused code place; counts = no-counts }
 
-abbrev pub answered : Refusal → Counts → Checked
-answered Accepted c = record { refusal = Accepted; counts = c }
-answered (Refused code place) c = refused-as code place
+abbrev pub with-counts : Refusal → Counts → Checked
+with-counts Accepted c = record { refusal = Accepted; counts = c }
+with-counts (Refused code place) c = refused-as code place
 
 unfoldable pub checked-of : List ℕ → Checked
-checked-of b = answered (refusal (first-rows base b)) (counts-of (lines 6 b))
+checked-of b = with-counts (refusal (sheet-rows base b)) (counts-of (lines 6 b))
 
 -- ---- what is known where none of them applies
 pub record Passed (b : List ℕ) : Type 0 where

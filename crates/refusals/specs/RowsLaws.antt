@@ -1,14 +1,13 @@
--- Rows 1 to 7 are the first of the answer's rows; what each of them decides; and a sheet passes them exactly if none applies.
+-- What each of rows 1 to 7 decides; and a sheet passes them exactly if none applies.
 -- Assumes nothing.
 use mathlib.Core.Path.{_≡_, refl, ap, sym, _∙_}
-use mathlib.Core.List.{List, [], _∷_, _++_}
+use mathlib.Core.List.{List, [], _∷_}
 use mathlib.Core.Bool.{Bool, true, false}
 use Prim.Native.Nat.{ℕ, suc, _≤_, _<_}
 use native.Mathlib.Omega.{arith}
 use lib.Dec.{ltb}
-use lib.ListN.{take, drop, take-append-drop}
 use borrow.Author.Tests.{lt-ltb, le-ltb, ltb-false}
-use Rattle.sheet.specs.Format.{Format, base}
+use Rattle.sheet.specs.Format.{base}
 use Rattle.sheet.specs.Line.{isBad}
 use Rattle.sheet.specs.Sheet.{first, count, line, lines, row1, row2}
 use Rattle.sheet.specs.SheetLaws.{length-lines}
@@ -16,37 +15,10 @@ use Rattle.sheet.specs.FirstLaws.{first-le}
 use Rattle.answer.specs.declared.Refusal.{Refusal}
 use Rattle.answer.specs.declared.Refusal.the-variants.{Accepted, Refused}
 use Rattle.meaning.specs.Rows.{raws, row3, row4, row5, row6, row7}
-use Rattle.answer.specs.Answer.{Row, line-row, whole-row, refusal, rows}
+use Rattle.answer.specs.Answer.{Row, line-row, whole-row, refusal, sheet-rows}
 use Rattle.limits.specs.Limits.{counts-of, Kept}
 use Rattle.limits.specs.LimitsLaws.{counts-kept}
-use Rattle.refusals.specs.Rows.{first-rows, refused-as, checked-of, Passed}
-
--- ---- the first seven of all rows
-pub rows-first : (f : Format) (b : List ℕ) (v l : ℕ) → take 7 (rows f b v l) ≡ first-rows f b
-unfolding rows first-rows
-rows-first f b v l = refl
-
--- the later rows are tested where none of the first applies
-abbrev pub or-later : Refusal → Refusal → Refusal
-or-later Accepted q = q
-or-later (Refused code place) q = Refused code place
-
-pub refusal-append : (rs ss : List Row) → refusal (rs ++ ss) ≡ or-later (refusal rs) (refusal ss)
-unfolding refusal
-refusal-append [] ss = refl
-refusal-append (r ∷ rs) ss = go (ltb (first (r .test) (r .bound)) (r .bound)) (refusal-append rs ss)
-  where
-    go : (c : Bool) → refusal (rs ++ ss) ≡ or-later (refusal rs) (refusal ss) →
-        elim c [ true ↦ Refused (r .code (first (r .test) (r .bound))) (r .place (first (r .test) (r .bound))) | false ↦ refusal (rs ++ ss) ]
-        ≡ or-later (elim c [ true ↦ Refused (r .code (first (r .test) (r .bound))) (r .place (first (r .test) (r .bound))) | false ↦ refusal rs ]) (refusal ss)
-    go true e = refl
-    go false e = e
-
-pub refusal-first : (f : Format) (b : List ℕ) (v l : ℕ) → refusal (rows f b v l) ≡ or-later (refusal (first-rows f b)) (refusal (drop 7 (rows f b v l)))
-refusal-first f b v l =
-    ap refusal (sym (take-append-drop 7 (rows f b v l)))
-    ∙ refusal-append (take 7 (rows f b v l)) (drop 7 (rows f b v l))
-    ∙ ap (λ (rs : List Row). or-later (refusal rs) (refusal (drop 7 (rows f b v l)))) (rows-first f b v l)
+use Rattle.refusals.specs.Rows.{refused-as, checked-of, Passed}
 
 -- ---- one row
 never : {A : Type 0} {code place : ℕ} → Refused code place ≡ Accepted → A
@@ -112,11 +84,11 @@ module _ (b : List ℕ) where
   from2 : List Row
   from2 = line-row 2 (count 6 b) (λ i. isBad (line 6 b i)) ∷ from3
 
-  first-is : first-rows base b ≡ whole-row 1 0 (row1 base b) ∷ from2
-  unfolding first-rows from2 from3 from4 from5 from6 from7
+  first-is : sheet-rows base b ≡ whole-row 1 0 (row1 base b) ∷ from2
+  unfolding sheet-rows from2 from3 from4 from5 from6 from7
   first-is = refl
 
-  refused-at : (code place : ℕ) → refusal (first-rows base b) ≡ Refused code place → checked-of b ≡ refused-as code place
+  refused-at : (code place : ℕ) → refusal (sheet-rows base b) ≡ Refused code place → checked-of b ≡ refused-as code place
   unfolding checked-of
   refused-at code place e = rw e
 
@@ -124,7 +96,7 @@ module _ (b : List ℕ) where
   at1 e = refused-at 1 0 (ap refusal first-is ∙ whole-applies 1 0 from2 (row1 base b) e)
 
   module _ (short : row1 base b ≡ false) where
-    past1 : refusal (first-rows base b) ≡ refusal from2
+    past1 : refusal (sheet-rows base b) ≡ refusal from2
     past1 = ap refusal first-is ∙ whole-passes 1 0 from2 (row1 base b) short
 
     pub at2 : row2 6 b < count 6 b → checked-of b ≡ refused-as 2 (row2 6 b)
@@ -132,7 +104,7 @@ module _ (b : List ℕ) where
     at2 h = refused-at 2 (row2 6 b) (past1 ∙ row-applies 2 (count 6 b) (λ i. isBad (line 6 b i)) from3 h)
 
     module _ (no-bad : row2 6 b ≡ count 6 b) where
-      past2 : refusal (first-rows base b) ≡ refusal from3
+      past2 : refusal (sheet-rows base b) ≡ refusal from3
       unfolding row2 from2
       past2 = past1 ∙ row-passes 2 (count 6 b) (λ i. isBad (line 6 b i)) from3 no-bad
 
@@ -141,7 +113,7 @@ module _ (b : List ℕ) where
       at3 h = refused-at 3 (first (row3 (raws 6 b)) (suc (count 6 b))) (past2 ∙ row-applies 3 (suc (count 6 b)) (row3 (raws 6 b)) from4 h)
 
       module _ (in-order : first (row3 (raws 6 b)) (suc (count 6 b)) ≡ suc (count 6 b)) where
-        past3 : refusal (first-rows base b) ≡ refusal from4
+        past3 : refusal (sheet-rows base b) ≡ refusal from4
         unfolding from3
         past3 = past2 ∙ row-passes 3 (suc (count 6 b)) (row3 (raws 6 b)) from4 in-order
 
@@ -150,7 +122,7 @@ module _ (b : List ℕ) where
         at4 h = refused-at 4 (first (row4 base (lines 6 b)) (count 6 b)) (past3 ∙ row-applies 4 (count 6 b) (row4 base (lines 6 b)) from5 h)
 
         module _ (in-limits : first (row4 base (lines 6 b)) (count 6 b) ≡ count 6 b) where
-          past4 : refusal (first-rows base b) ≡ refusal from5
+          past4 : refusal (sheet-rows base b) ≡ refusal from5
           unfolding from4
           past4 = past3 ∙ row-passes 4 (count 6 b) (row4 base (lines 6 b)) from5 in-limits
 
@@ -159,7 +131,7 @@ module _ (b : List ℕ) where
           at5 h = refused-at 5 (first (row5 (lines 6 b)) (count 6 b)) (past4 ∙ row-applies 5 (count 6 b) (row5 (lines 6 b)) from6 h)
 
           module _ (in-range : first (row5 (lines 6 b)) (count 6 b) ≡ count 6 b) where
-            past5 : refusal (first-rows base b) ≡ refusal from6
+            past5 : refusal (sheet-rows base b) ≡ refusal from6
             unfolding from5
             past5 = past4 ∙ row-passes 5 (count 6 b) (row5 (lines 6 b)) from6 in-range
 
@@ -168,7 +140,7 @@ module _ (b : List ℕ) where
             at6 h = refused-at 6 (first (row6 (lines 6 b)) (count 6 b)) (past5 ∙ row-applies 6 (count 6 b) (row6 (lines 6 b)) from7 h)
 
             module _ (distinct : first (row6 (lines 6 b)) (count 6 b) ≡ count 6 b) where
-              past6 : refusal (first-rows base b) ≡ refusal from7
+              past6 : refusal (sheet-rows base b) ≡ refusal from7
               unfolding from6
               past6 = past5 ∙ row-passes 6 (count 6 b) (row6 (lines 6 b)) from7 distinct
 
@@ -177,7 +149,7 @@ module _ (b : List ℕ) where
               at7 h = refused-at 7 (first (row7 (lines 6 b)) (count 6 b)) (past6 ∙ row-applies 7 (count 6 b) (row7 (lines 6 b)) [] h)
 
   -- ---- where none applies
-  pub passed-accepted : Passed b → refusal (first-rows base b) ≡ Accepted
+  pub passed-accepted : Passed b → refusal (sheet-rows base b) ≡ Accepted
   unfolding refusal from7
   passed-accepted p =
       past6 (p .short) (p .no-bad) (p .in-order) (p .in-limits) (p .in-range) (p .distinct)
@@ -187,7 +159,7 @@ module _ (b : List ℕ) where
   unfolding checked-of
   passed-checked p = rw (passed-accepted p)
 
-  pub accepted-passed : refusal (first-rows base b) ≡ Accepted → Passed b
+  pub accepted-passed : refusal (sheet-rows base b) ≡ Accepted → Passed b
   unfolding row2 from2 from3 from4 from5 from6 from7
   accepted-passed e =
       let r1 = whole-accepted 1 0 from2 (row1 base b) (ap refusal (sym first-is) ∙ e) in

@@ -16,6 +16,8 @@ pub record Format : Type 0 where
   pub params : ℕ
   -- nodes of a type written out
   pub nodes : ℕ
+  -- names that are unfolded within each other
+  pub fuel : ℕ
 
 -- document 01's own
 abbrev pub base : Format
@@ -30,6 +32,7 @@ base = record {
   fields = 512;
   params = 8;
   nodes = 1024;
+  fuel = 100;
 }
 
 -- a letter, five numbers and byte 10

@@ -1,7 +1,7 @@
 -- When a build is accepted, and with which sheets. Assumes nothing.
 use mathlib.Core.Logic.{_↔_}
 use mathlib.Core.Path.{_≡_, refl, sym, _∙_, ap, subst}
-use mathlib.Core.List.{List, [], _∷_}
+use mathlib.Core.List.{List, [], _∷_, _++_}
 use mathlib.Core.Bool.{Bool, true, false, not}
 use mathlib.Core.Option.{Option, none, some}
 use Prim.Native.Nat.{ℕ, suc, _+_, _-_, _≤_, _<_}
@@ -25,10 +25,13 @@ use Rattle.meaning.specs.Rows.{line-at, heads-before, raws, row3, row4, row5, r
 use Rattle.answer.specs.Answer.{
   Row,
   row8,
-  row9,
+  row9-10,
   fault-at,
   verdict-sheet,
   left-sheet,
+  sheet-rows,
+  program-rows,
+  output-rows,
   rows,
   refusal,
   Answer,
@@ -52,7 +55,7 @@ pub record Passes (f : Format) (b : List ℕ) (v l : ℕ) : Type 0 where
   pub pass6 : Clear (count (f .columns) b) (row6 (lines (f .columns) b))
   pub pass7 : Clear (count (f .columns) b) (row7 (lines (f .columns) b))
   pub pass8 : Clear (count (f .columns) b) (row8 (program (lines (f .columns) b)) (lines (f .columns) b))
-  pub pass9 : Clear (count (f .columns) b) (row9 f (program (lines (f .columns) b)) (lines (f .columns) b))
+  pub pass9-10 : Clear (count (f .columns) b) (row9-10 f (program (lines (f .columns) b)) (lines (f .columns) b))
   pub pass11 : length b ≤ v
   pub pass12 : length (left-sheet f (lines (f .columns) b)) ≤ l
 
@@ -86,6 +89,22 @@ accepted-clear (r ∷ rs) h = go (λ k. accepted-clear rs k) (ltb (first (r .tes
     go ih true e k = let z : _≡_ {A = ℕ} 0 1 = cc in absurd (omega arith)
     go ih false e k = (first-clear r e, ih k)
 
+-- the later rows are tested where none of the first applies
+abbrev pub or-later : Refusal → Refusal → Refusal
+or-later Accepted q = q
+or-later (Refused code place) q = Refused code place
+
+pub refusal-append : (rs ss : List Row) → refusal (rs ++ ss) ≡ or-later (refusal rs) (refusal ss)
+unfolding refusal
+refusal-append [] ss = refl
+refusal-append (r ∷ rs) ss = go (ltb (first (r .test) (r .bound)) (r .bound)) (refusal-append rs ss)
+  where
+    go : (c : Bool) → refusal (rs ++ ss) ≡ or-later (refusal rs) (refusal ss) →
+        elim c [ true ↦ Refused (r .code (first (r .test) (r .bound))) (r .place (first (r .test) (r .bound))) | false ↦ refusal (rs ++ ss) ]
+        ≡ or-later (elim c [ true ↦ Refused (r .code (first (r .test) (r .bound))) (r .place (first (r .test) (r .bound))) | false ↦ refusal rs ]) (refusal ss)
+    go true e = refl
+    go false e = e
+
 -- a refusal's code is not 0
 pub record Coded (r : Row) : Type 0 where
   pub coded : (i : ℕ) → r .test i ≡ true → r .code i ≡ 0 → ⊥
@@ -113,14 +132,14 @@ head-test : (ls : List Line) (p : ℕ → Bool) (i : ℕ) (b : Bool) → is-head
 head-test ls p i true e h = h
 head-test ls p i false e h = let z : _≡_ {A = ℕ} 0 1 = cc in absurd (omega arith)
 
-row9-coded : (f : Format) (ds : List Decl) (ls : List Line) (i : ℕ) → row9 f ds ls i ≡ true → fault-at f ds ls i ≡ 0 → ⊥
-unfolding row9 fault-at
-row9-coded f ds ls i h e =
-    let k = head-test ls (λ k. not (eqb (decl-fault (f .nodes) ds (layouts-of ds) k) 0)) i (is-head (line-at ls i)) refl h in
+row9-10-coded : (f : Format) (ds : List Decl) (ls : List Line) (i : ℕ) → row9-10 f ds ls i ≡ true → fault-at f ds ls i ≡ 0 → ⊥
+unfolding row9-10 fault-at
+row9-10-coded f ds ls i h e =
+    let k = head-test ls (λ k. not (eqb (decl-fault (f .nodes) (f .fuel) ds (layouts-of ds) k) 0)) i (is-head (line-at ls i)) refl h in
     eqb-false _ _ (not-true _ k) e
 
 pub rows-coded : (f : Format) (b : List ℕ) (v l : ℕ) → AllCoded (rows f b v l)
-unfolding rows
+unfolding sheet-rows program-rows output-rows
 rows-coded f b v l =
     let ls : List Line = lines (f .columns) b in
     let plain : (code bound : ℕ) (test : ℕ → Bool) (place : ℕ → ℕ) → 0 < code → Coded (record { bound = bound; test = test; code = λ i. code; place = place }) =
@@ -141,7 +160,7 @@ rows-coded f b v l =
                   (
                     plain _ _ _ _ (omega arith),
                     (
-                      record { coded = row9-coded f (program ls) ls },
+                      record { coded = row9-10-coded f (program ls) ls },
                       (
                         plain _ _ _ _ (omega arith),
                         (plain _ _ _ _ (omega arith), tt),
@@ -162,7 +181,7 @@ sheets f b = record { verdict = verdict-sheet f (lines (f .columns) b); left = l
 
 -- the rows' tests, one by one
 rows-clear : (f : Format) (b : List ℕ) (v l : ℕ) → AllClear (rows f b v l) → Passes f b v l
-unfolding rows
+unfolding sheet-rows program-rows output-rows
 rows-clear f b v l h =
     record {
       pass1 = h .0 0 (omega arith);
@@ -173,13 +192,13 @@ rows-clear f b v l h =
       pass6 = h .1 .1 .1 .1 .1 .0;
       pass7 = h .1 .1 .1 .1 .1 .1 .0;
       pass8 = h .1 .1 .1 .1 .1 .1 .1 .0;
-      pass9 = h .1 .1 .1 .1 .1 .1 .1 .1 .0;
+      pass9-10 = h .1 .1 .1 .1 .1 .1 .1 .1 .0;
       pass11 = ltb-false v (length b) (h .1 .1 .1 .1 .1 .1 .1 .1 .1 .0 0 (omega arith));
       pass12 = ltb-false l (length (left-sheet f (lines (f .columns) b))) (h .1 .1 .1 .1 .1 .1 .1 .1 .1 .1 .0 0 (omega arith));
     }
 
 clear-rows : (f : Format) (b : List ℕ) (v l : ℕ) → Passes f b v l → AllClear (rows f b v l)
-unfolding rows
+unfolding sheet-rows program-rows output-rows
 clear-rows f b v l h = (
   λ i _. h .pass1,
   (
@@ -197,7 +216,7 @@ clear-rows f b v l h = (
               (
                 h .pass8,
                 (
-                  h .pass9,
+                  h .pass9-10,
                   (
                     λ i _. le-ltb v (length b) (h .pass11),
                     (λ i _. le-ltb l (length (left-sheet f (lines (f .columns) b))) (h .pass12), tt),

@@ -20,9 +20,9 @@ use Rattle.sheet.specs.ListLaws.{Every, every-map, neither, every-at, at-every}
 use Rattle.model.specs.Decl.{Decl, Dtype, TypeInfo, position}
 use Rattle.meaning.specs.Program.{name-line, is-head, select, groups, program}
 use Rattle.meaning.specs.Rows.{row5, row6}
-use Rattle.model.specs.Run.{run, layouts-of, somes, returns, decl-fault}
+use Rattle.model.specs.Run.{left-program, run, layouts-of, somes, returns, decl-fault}
 use Rattle.meaning.specs.Output.{fill-all, verdict-lines, left-lines}
-use Rattle.answer.specs.Answer.{row8, row9, verdict-sheet, left-sheet}
+use Rattle.answer.specs.Answer.{row8, row9-10, verdict-sheet, left-sheet}
 use Rattle.answer.specs.Cut.{Sheets, build, Whole}
 use Rattle.model.specs.Names.{Distinct, undeclared}
 use Rattle.meaning.specs.Laws.Program.{None, Starts, select-append, told-groups, run-told, verdict-lines-append, none-left, none-right, none-append}
@@ -91,7 +91,7 @@ pub record Sound (f : Format) (b : List ℕ) (v l : ℕ) : Type 0 where
   pub left-room : length (left-sheet f (lines (f .columns) b)) ≤ l
 
 pub passes-sound : (f : Format) (b : List ℕ) (v l : ℕ) → Passes f b v l → Sound f b v l
-unfolding row8 row9
+unfolding row8 row9-10
 passes-sound f b v l h =
     let w : ℕ = f .columns in
     let n : count w b ≡ length (lines w b) = sym (length-lines w b) in
@@ -105,14 +105,14 @@ passes-sound f b v l h =
         clear6 = λ i k. h .pass6 i (omega arith);
         clear7 = λ i k. h .pass7 i (omega arith);
         clear8 = clear-heads (lines w b) (returns (program (lines w b)) (layouts-of (program (lines w b)))) (λ i k. h .pass8 i (omega arith));
-        clear9 = clear-heads (lines w b) (λ k. not (eqb (decl-fault (f .nodes) (program (lines w b)) (layouts-of (program (lines w b))) k) 0)) (λ i k. h .pass9 i (omega arith));
+        clear9-10 = clear-heads (lines w b) (λ k. not (eqb (decl-fault (f .nodes) (f .fuel) (program (lines w b)) (layouts-of (program (lines w b))) k) 0)) (λ i k. h .pass9-10 i (omega arith));
       };
       verdict-room = h .pass11;
       left-room = h .pass12;
     }
 
 pub sound-passes : (f : Format) (b : List ℕ) (v l : ℕ) → Whole (f .columns) b → Sound f b v l → Passes f b v l
-unfolding row8 row9
+unfolding row8 row9-10
 sound-passes f b v l e h =
     let w : ℕ = f .columns in
     let n : count w b ≡ length (lines w b) = sym (length-lines w b) in
@@ -126,7 +126,7 @@ sound-passes f b v l e h =
       pass6 = λ i k. c .clear6 i (omega arith);
       pass7 = λ i k. c .clear7 i (omega arith);
       pass8 = λ i k. heads-clear (lines w b) (returns (program (lines w b)) (layouts-of (program (lines w b)))) (c .clear8) i (omega arith);
-      pass9 = λ i k. heads-clear (lines w b) (λ j. not (eqb (decl-fault (f .nodes) (program (lines w b)) (layouts-of (program (lines w b))) j) 0)) (c .clear9) i (omega arith);
+      pass9-10 = λ i k. heads-clear (lines w b) (λ j. not (eqb (decl-fault (f .nodes) (f .fuel) (program (lines w b)) (layouts-of (program (lines w b))) j) 0)) (c .clear9-10) i (omega arith);
       pass11 = h .verdict-room;
       pass12 = h .left-room;
     }
@@ -175,7 +175,7 @@ module _ (f : Format) (v l : ℕ) (p q : List ℕ) (s : Split (f .columns) p q) 
       let c5 : Clear (length ps) (row5 ps) = λ i k. sym (row5-prefix ps qs i (n .names) (n .args) (n .types) k) ∙ c .clear5 i (rw length-append (omega arith)) in
       let ap' : Apart (program ps) (later ps qs) = s .apart nb (c .ends) c5 (c .clear6) in
       let d : Distinct (program ps ++ later ps qs) = parts-distinct ps qs st (c .ends) (c .clear6) in
-      let x = prefix-program (program ps) (later ps qs) d ap' (own-imports ps) in
+      let x = prefix-program (program ps) (later ps qs) d ap' (f .fuel) (own-imports ps) in
       let e : select name-line ps ≡ select name-line (ps ++ qs) = sym (select-append name-line ps qs ∙ (ap (λ (r : List Line). select name-line ps ++ r) (n .names) ∙ append-nil (select name-line ps))) in
       let fit : AllFit (f .columns) ps = no-bad-fit (f .columns) p (none-left isBad ps qs nb) in
       let fit' : Every (Sized (f .columns)) (ps ++ qs) = subst (Every (Sized (f .columns))) lines-parts (all-sized (f .columns) (lines (f .columns) (p ++ q)) (no-bad-fit (f .columns) (p ++ q) (h .no-bad))) in
@@ -184,38 +184,38 @@ module _ (f : Format) (v l : ℕ) (p q : List ℕ) (s : Split (f .columns) p q) 
         no-bad = none-left isBad ps qs nb;
         checks = checks-prefix f ps qs st ap' c;
         verdict-room = omega (arith, h .verdict-room, length-append p q);
-        left-room = left-small st c nb x (left-bytes-prefix (f .columns) ps (ps ++ qs) (run (program ps) .program) (somes (x .0)) (all-sized (f .columns) ps fit) fit' e);
+        left-room = left-small st c nb x (left-bytes-prefix (f .columns) ps (ps ++ qs) (left-program (run (f .fuel) (program ps))) (somes (x .0)) (all-sized (f .columns) ps fit) fit' e);
       }
     where
       left-small : Starts is-head qs → (c : Checks f (ps ++ qs)) → NoBad (ps ++ qs)
-          → (x : (xs : List (Option Dtype)) × (run (program ps ++ later ps qs) .program ≡ run (program ps) .program ++ somes xs))
-          → length (encodes (f .columns) (left-lines ps (run (program ps) .program))) ≤ length (encodes (f .columns) (left-lines (ps ++ qs) (run (program ps) .program ++ somes (x .0))))
+          → (x : (xs : List (Option Dtype)) × (left-program (run (f .fuel) (program ps ++ later ps qs)) ≡ left-program (run (f .fuel) (program ps)) ++ somes xs))
+          → length (encodes (f .columns) (left-lines ps (left-program (run (f .fuel) (program ps))))) ≤ length (encodes (f .columns) (left-lines (ps ++ qs) (left-program (run (f .fuel) (program ps)) ++ somes (x .0))))
           → length (left-sheet f ps) ≤ l
       left-small st c nb x k =
-          let a : run (program (ps ++ qs)) .program ≡ run (program ps) .program ++ somes (x .0) = ap (λ (ds : List Decl). run ds .program) (whole-parts ps qs st (c .ends)) ∙ x .1 in
-          let b : length (encodes (f .columns) (left-lines (ps ++ qs) (run (program (ps ++ qs)) .program))) ≤ l =
-          subst (λ (ls : List Line). length (encodes (f .columns) (left-lines ls (run (program ls) .program))) ≤ l) lines-parts (h .left-room) in
-          let b' : length (encodes (f .columns) (left-lines (ps ++ qs) (run (program ps) .program ++ somes (x .0)))) ≤ l =
+          let a : left-program (run (f .fuel) (program (ps ++ qs))) ≡ left-program (run (f .fuel) (program ps)) ++ somes (x .0) = ap (λ (ds : List Decl). left-program (run (f .fuel) ds)) (whole-parts ps qs st (c .ends)) ∙ x .1 in
+          let b : length (encodes (f .columns) (left-lines (ps ++ qs) (left-program (run (f .fuel) (program (ps ++ qs)))))) ≤ l =
+          subst (λ (ls : List Line). length (encodes (f .columns) (left-lines ls (left-program (run (f .fuel) (program ls))))) ≤ l) lines-parts (h .left-room) in
+          let b' : length (encodes (f .columns) (left-lines (ps ++ qs) (left-program (run (f .fuel) (program ps)) ++ somes (x .0)))) ≤ l =
           subst (λ (ds : List Dtype). length (encodes (f .columns) (left-lines (ps ++ qs) ds)) ≤ l) a b in
           omega arith
 
   -- ---- the first part's verdict sheet in its place
   module _ (pos : 0 < f .columns) (h : Sound f p v l) where
     abbrev vs : List Line
-    vs = verdicts ps
+    vs = verdicts f ps
 
     abbrev vb : List ℕ
-    vb = encodes (f .columns) (verdicts ps)
+    vb = encodes (f .columns) (verdicts f ps)
 
     first-fit : AllFit (f .columns) ps
     first-fit = no-bad-fit (f .columns) p (h .no-bad)
 
-    verdict-count : length (groups is-head ps) ≡ length (run (program ps) .infos)
-    verdict-count = sym (told-groups ps (run (program ps) .infos) (run-told (program ps)))
+    verdict-count : length (groups is-head ps) ≡ length (run (f .fuel) (program ps) .infos)
+    verdict-count = sym (told-groups ps (run (f .fuel) (program ps) .infos) (run-told (f .fuel) (program ps)))
 
     verdict-length : length vb ≡ length p
     verdict-length =
-        verdict-bytes (f .columns) ps (run (program ps) .infos) (ten (f .columns) pos) first-fit verdict-count
+        verdict-bytes (f .columns) ps (run (f .fuel) (program ps) .infos) (ten (f .columns) pos) first-fit verdict-count
         ∙ (ap (λ (n : ℕ). lineBytes (f .columns) * n) (length-lines (f .columns) p) ∙ sym (whole-length (f .columns) p (s .first-whole)))
 
     verdict-whole : Whole (f .columns) vb
@@ -224,10 +224,10 @@ module _ (f : Format) (v l : ℕ) (p q : List ℕ) (s : Split (f .columns) p q) 
     lines-verdict : lines (f .columns) (vb ++ q) ≡ vs ++ qs
     lines-verdict =
         lines-append (f .columns) (count (f .columns) p) vb q (verdict-length ∙ whole-length (f .columns) p (s .first-whole))
-        ∙ ap (λ (ls : List Line). ls ++ qs) (verdict-round (f .columns) ps (run (program ps) .infos) pos first-fit)
+        ∙ ap (λ (ls : List Line). ls ++ qs) (verdict-round (f .columns) ps (run (f .fuel) (program ps) .infos) pos first-fit)
 
     verdict-no-bad : NoBad vs
-    verdict-no-bad = fit-no-bad (f .columns) vs (verdict-fits (f .columns) (ten (f .columns) pos) ps (run (program ps) .infos) first-fit)
+    verdict-no-bad = fit-no-bad (f .columns) vs (verdict-fits (f .columns) (ten (f .columns) pos) ps (run (f .fuel) (program ps) .infos) first-fit)
 
     rows : Starts is-head qs → SameRows f ps qs
     rows st = same-rows f ps qs (h .checks) st
@@ -236,7 +236,7 @@ module _ (f : Format) (v l : ℕ) (p q : List ℕ) (s : Split (f .columns) p q) 
     both-length = length-append vb q ∙ (ap (λ (n : ℕ). n + length q) verdict-length ∙ sym (length-append p q))
 
     abbrev One : List Line → Type 0
-    One ls = encodes (f .columns) (verdict-lines ls (run (program ls) .infos)) ≡ encodes (f .columns) (verdict-lines (ps ++ qs) (run (program (ps ++ qs)) .infos))
+    One ls = encodes (f .columns) (verdict-lines ls (run (f .fuel) (program ls) .infos)) ≡ encodes (f .columns) (verdict-lines (ps ++ qs) (run (f .fuel) (program (ps ++ qs)) .infos))
 
     -- the whole that passes, and its two sheets
     module _ (nb : NoBad (ps ++ qs)) (c : Checks f (ps ++ qs)) where
@@ -313,7 +313,7 @@ split-steps f v l pos =
           let k : Passes f p v l = build-passes f p v l x e in
           let h : Sound f p v l = passes-sound f p v l k in
           let z : x ≡ sheets f p = some-same x (sheets f p) (sym e ∙ passes-build f p v l k) in
-          let vb : List ℕ = encodes (f .columns) (verdicts (lines (f .columns) p)) in
+          let vb : List ℕ = encodes (f .columns) (verdicts f (lines (f .columns) p)) in
           let i = sound-import f v l p q s pos h in
           let wv : Whole (f .columns) (vb ++ q) = whole-append (f .columns) vb q (verdict-whole f v l p q s pos h) (s .second-whole) in
           let wp : Whole (f .columns) (p ++ q) = whole-append (f .columns) p q (s .first-whole) (s .second-whole) in
@@ -341,13 +341,13 @@ prefix-verdict f v l p q s y e =
     let st : Starts is-head qs = s .starts (none-right isBad ps qs nb) in
     let far : Apart (program ps) (later ps qs) = s .apart nb (c .ends) (h .checks .clear5) (c .clear6) in
     let d : Distinct (program ps ++ later ps qs) = parts-distinct ps qs st (c .ends) (c .clear6) in
-    let tis : List TypeInfo = run (program ps) .infos in
-    let us : List TypeInfo = drop (length (program ps)) (run (program ps ++ later ps qs) .infos) in
-    let i : run (program (ps ++ qs)) .infos ≡ tis ++ us = ap (λ (ds : List Decl). run ds .infos) (whole-parts ps qs st (c .ends)) ∙ prefix-infos (program ps) (later ps qs) d far (own-imports ps) in
-    let n : length tis ≡ length (groups is-head ps) = told-groups ps tis (run-told (program ps)) in (
+    let tis : List TypeInfo = run (f .fuel) (program ps) .infos in
+    let us : List TypeInfo = drop (length (program ps)) (run (f .fuel) (program ps ++ later ps qs) .infos) in
+    let i : run (f .fuel) (program (ps ++ qs)) .infos ≡ tis ++ us = ap (λ (ds : List Decl). run (f .fuel) ds .infos) (whole-parts ps qs st (c .ends)) ∙ prefix-infos (program ps) (later ps qs) d far (f .fuel) (own-imports ps) in
+    let n : length tis ≡ length (groups is-head ps) = told-groups ps tis (run-told (f .fuel) (program ps)) in (
       encodes (f .columns) (fill-all (groups is-head qs) us),
       ap (λ (x : Sheets). x .verdict) z
-          ∙ (ap (λ (ls : List Line). encodes (f .columns) (verdict-lines ls (run (program ls) .infos))) parts
+          ∙ (ap (λ (ls : List Line). encodes (f .columns) (verdict-lines ls (run (f .fuel) (program ls) .infos))) parts
           ∙ (ap (λ (t : List TypeInfo). encodes (f .columns) (verdict-lines (ps ++ qs) t)) i
           ∙ (ap (encodes (f .columns)) (verdict-lines-append ps qs tis us st n) ∙ encodes-append (f .columns) (verdict-lines ps tis) (fill-all (groups is-head qs) us)))),
     )

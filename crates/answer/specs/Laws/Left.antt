@@ -19,7 +19,8 @@ use Rattle.sheet.specs.Sheet.{count, lines, row1}
 use Rattle.sheet.specs.SheetLaws.{AllFit, length-lines, within-count, fit-lines}
 use Rattle.sheet.specs.ListLaws.{false-true, both, one-of, Every, mem-every, every-map}
 use Rattle.model.specs.Cty.{Cty, size}
-use Rattle.model.specs.Decl.{NewtypeLayout, 
+use Rattle.model.specs.Decl.{
+  NewtypeLayout,
   Field,
   Body,
   TAbstract,
@@ -47,7 +48,7 @@ use Rattle.model.specs.Decl.{NewtypeLayout,
 use Rattle.model.specs.Erasure.{marked, erasure-fixpoint}
 use Rattle.model.specs.Layout.{collapse, ctor-layouts, newtype-of-ctor, newtype-of, dropped, layout-of}
 use Rattle.model.specs.Resolve.{stays, resolve, resolve-checked}
-use Rattle.model.specs.Run.{fuel, layouts-of, run, returns, resolves, decl-fault}
+use Rattle.model.specs.Run.{left-program, layouts-of, run, returns, resolves, decl-fault, lay, layout-of-decl, left-at}
 use Rattle.meaning.specs.Program.{
   name-line,
   arg-line,
@@ -77,7 +78,7 @@ use Rattle.meaning.specs.Program.{
 }
 use Rattle.meaning.specs.Rows.{line-at, count-of, count-before, heads-before, params-after, row4, last-head, head-of, kept-after, one-ctor, good-verdict, good-verdicts, row7}
 use Rattle.meaning.specs.Output.{verdict-lines, left-lines}
-use Rattle.answer.specs.Answer.{row8, row9, verdict-sheet, left-sheet}
+use Rattle.answer.specs.Answer.{row8, row9-10, verdict-sheet, left-sheet}
 use Rattle.answer.specs.Laws.Answer.{Clear, Passes}
 use Rattle.answer.specs.Laws.Pass.{clear-heads}
 use Rattle.locality.specs.Laws.Fuel.{NoReturn, fuel-unspent}
@@ -87,7 +88,7 @@ use Rattle.meaning.specs.Laws.Numbers.{sheet-round, left-sheet-normal}
 use Rattle.meaning.specs.Laws.Program.{None, heads, head-cases, length-groups, length-program, program-at, HeadAt, head-at, body-number, body-of-number, close-number}
 use Rattle.model.specs.Laws.Resolve.{StructMatches, OpaqueMatches, Matches, layout-matches, Unspent, Normal, Resolved, decl-resolved, LeftTypes, left-types}
 use Rattle.model.specs.Laws.Layout.{candidates-of, getD-candidates, getD-layouts}
-use Rattle.model.specs.Laws.Run.{lay, layout-of-decl, left-at, length-infos}
+use Rattle.model.specs.Laws.Run.{length-infos}
 use Rattle.answer.specs.Laws.Build.{row1-small, whole-length, pass-whole}
 use Rattle.meaning.specs.Laws.Rows.{last-head-append, last-head-none}
 
@@ -371,7 +372,7 @@ pub record Ample (f : Format) : Type 0 where
   pub kinds : 12 < 10 ^ f .columns
   pub counts : f .lines < 10 ^ f .columns
   pub nodes : f .nodes * (f .decls + f .fields) < 10 ^ f .columns
-  pub depth : f .decls < fuel
+  pub depth : f .decls < f .fuel
 
 -- document 01's own
 pub base-ample : Ample base
@@ -384,13 +385,13 @@ module _ (f : Format) (b : List ℕ) (v l : ℕ) (ample : Ample f) (pass : Passe
   abbrev pub sheet-program : List Decl
   sheet-program = program sheet-lines
 
-  abbrev pub left-program : List Dtype
-  left-program = run sheet-program .program
+  abbrev pub sheet-left : List Dtype
+  sheet-left = left-program (run (f .fuel) sheet-program)
 
   clear : (p : ℕ → Bool) → Clear (count (f .columns) b) p → Clear (length sheet-lines) p
   clear p h i k = h i (omega (arith, length-lines (f .columns) b))
 
-  pub few-decls : length sheet-program < fuel
+  pub few-decls : length sheet-program < f .fuel
   few-decls = omega (arith, length-program sheet-lines, decls-limit f sheet-lines (clear (row4 f sheet-lines) (pass .pass4)), ample .depth)
 
   pub pass-no-return : NoReturn sheet-program
@@ -398,20 +399,18 @@ module _ (f : Format) (b : List ℕ) (v l : ℕ) (ample : Ample f) (pass : Passe
   pass-no-return = clear-heads sheet-lines (returns sheet-program (layouts-of sheet-program)) (clear (row8 sheet-program sheet-lines) (pass .pass8))
 
   -- every type that is resolved resolves without fault, and is small
-  pub pass-resolved : (i : ℕ) → i < length sheet-program → Every (Resolved (f .nodes) (lay sheet-program) fuel) (resolves (layout-of-decl sheet-program i))
-  unfolding row9
+  pub pass-resolved : (i : ℕ) → i < length sheet-program → Every (Resolved (f .nodes) (lay sheet-program) (f .fuel)) (resolves (layout-of-decl sheet-program i))
+  unfolding row9-10
   pass-resolved i h =
-      let u : (c : Cty) → Unspent (resolve-checked (f .nodes) (lay sheet-program) fuel c) = λ c. fuel-unspent sheet-program pass-no-return 99 (omega (arith, few-decls)) (f .nodes) c in
-      let n = clear-heads sheet-lines (λ k. not (eqb (decl-fault (f .nodes) sheet-program (layouts-of sheet-program) k) 0)) (clear (row9 f sheet-program sheet-lines) (pass .pass9)) i h in
-      decl-resolved (f .nodes) sheet-program (layouts-of sheet-program) i
-      (mem-every (λ c. Unspent (resolve-checked (f .nodes) (lay sheet-program) fuel c)) (resolves (layout-of-decl sheet-program i)) (λ c m. u c))
-      (eqb-true (decl-fault (f .nodes) sheet-program (layouts-of sheet-program) i) 0 (not-false (eqb (decl-fault (f .nodes) sheet-program (layouts-of sheet-program) i) 0) n))
+      let n = clear-heads sheet-lines (λ k. not (eqb (decl-fault (f .nodes) (f .fuel) sheet-program (layouts-of sheet-program) k) 0)) (clear (row9-10 f sheet-program sheet-lines) (pass .pass9-10)) i h in
+      decl-resolved (f .nodes) (f .fuel) sheet-program (layouts-of sheet-program) i
+      (eqb-true (decl-fault (f .nodes) (f .fuel) sheet-program (layouts-of sheet-program) i) 0 (not-false (eqb (decl-fault (f .nodes) (f .fuel) sheet-program (layouts-of sheet-program) i) 0) n))
 
-  left-all : (P : Cty → Type 0) → ((c : Cty) → Resolved (f .nodes) (lay sheet-program) fuel c → P (resolve (lay sheet-program) fuel c)) → (i : ℕ) → i < length sheet-program → LeftTypes P (left-at sheet-program i)
+  left-all : (P : Cty → Type 0) → ((c : Cty) → Resolved (f .nodes) (lay sheet-program) (f .fuel) c → P (resolve (lay sheet-program) (f .fuel) c)) → (i : ℕ) → i < length sheet-program → LeftTypes P (left-at (f .fuel) sheet-program i)
   unfolding left-at
   left-all P g i h =
-      left-types P (resolve (lay sheet-program) fuel) (dtype-at sheet-program i) (layout-of-decl sheet-program i) (program-matches sheet-lines (clear (row7 sheet-lines) (pass .pass7)) i h)
-      (every-map (Resolved (f .nodes) (lay sheet-program) fuel) (λ c. P (resolve (lay sheet-program) fuel c)) g (resolves (layout-of-decl sheet-program i)) (pass-resolved i h))
+      left-types P (resolve (lay sheet-program) (f .fuel)) (dtype-at sheet-program i) (layout-of-decl sheet-program i) (program-matches sheet-lines (clear (row7 sheet-lines) (pass .pass7)) i h)
+      (every-map (Resolved (f .nodes) (lay sheet-program) (f .fuel)) (λ c. P (resolve (lay sheet-program) (f .fuel) c)) g (resolves (layout-of-decl sheet-program i)) (pass-resolved i h))
 
   pub pass-fit : AllFit (f .columns) sheet-lines
   pass-fit = fit-lines (f .columns) b (pass .pass2)
@@ -423,30 +422,30 @@ module _ (f : Format) (b : List ℕ) (v l : ℕ) (ample : Ample f) (pass : Passe
       omega (arith, mul-le-mul-left (f .nodes) h, ample .nodes)
 
   -- the lines of the left sheet are what its bytes read as
-  pub left-sheet-lines : lines (f .columns) (left-sheet f sheet-lines) ≡ left-lines sheet-lines left-program
+  pub left-sheet-lines : lines (f .columns) (left-sheet f sheet-lines) ≡ left-lines sheet-lines sheet-left
   unfolding left-sheet
   left-sheet-lines =
-      sheet-round (f .columns) (f .nodes) sheet-lines (ample .kinds) pass-fit (omega (arith, lines-limit f b (pass .pass1), ample .counts)) room
+      sheet-round (f .columns) (f .nodes) (f .fuel) sheet-lines (ample .kinds) pass-fit (omega (arith, lines-limit f b (pass .pass1), ample .counts)) room
       (left-all (λ t. size t ≤ f .nodes) (λ c r. r .small))
 
   -- Read as a sheet, it declares what is left, each as a local declaration.
-  pub left-sheet-program : program (lines (f .columns) (left-sheet f sheet-lines)) ≡ map (λ d. record { dtype = close-fields d; origin = here }) left-program
-  left-sheet-program = rw left-sheet-lines (left-program-read sheet-lines left-program)
+  pub left-sheet-program : program (lines (f .columns) (left-sheet f sheet-lines)) ≡ map (λ d. record { dtype = close-fields d; origin = here }) sheet-left
+  left-sheet-program = rw left-sheet-lines (left-program-read sheet-lines sheet-left)
 
   -- Its types name nothing that is unfolded or erased.
   pub left-sheet-names : (y : Line) → List·Memᴰ y (lines (f .columns) (left-sheet f sheet-lines)) → letter y ≡ type-line → number y 0 ≡ 8 → lay sheet-program (number y 1) ≡ stays
-  left-sheet-names = rw left-sheet-lines (left-sheet-normal sheet-lines sheet-program (left-all (Normal (lay sheet-program)) (λ c r. r .normal)))
+  left-sheet-names = rw left-sheet-lines (left-sheet-normal (f .fuel) sheet-lines sheet-program (left-all (Normal (lay sheet-program)) (λ c r. r .normal)))
 
   -- ---- the verdict sheet
-  pub verdict-sheet-lines : lines (f .columns) (verdict-sheet f sheet-lines) ≡ verdict-lines sheet-lines (run sheet-program .infos)
+  pub verdict-sheet-lines : lines (f .columns) (verdict-sheet f sheet-lines) ≡ verdict-lines sheet-lines (run (f .fuel) sheet-program .infos)
   unfolding verdict-sheet
-  verdict-sheet-lines = verdict-round (f .columns) sheet-lines (run sheet-program .infos) (columns-positive (f .columns) (ample .kinds)) pass-fit
+  verdict-sheet-lines = verdict-round (f .columns) sheet-lines (run (f .fuel) sheet-program .infos) (columns-positive (f .columns) (ample .kinds)) pass-fit
 
   -- It is as long as the sheet.
   pub verdict-sheet-length : length (verdict-sheet f sheet-lines) ≡ length b
   unfolding verdict-sheet
   verdict-sheet-length =
       let w : ℕ = f .columns in
-      let e : length (groups is-head sheet-lines) ≡ length (run sheet-program .infos) = length-groups sheet-lines ∙ sym (length-infos sheet-program ∙ length-program sheet-lines) in
-      verdict-bytes w sheet-lines (run sheet-program .infos) (omega (arith, ample .kinds)) pass-fit e
+      let e : length (groups is-head sheet-lines) ≡ length (run (f .fuel) sheet-program .infos) = length-groups sheet-lines ∙ sym (length-infos (f .fuel) sheet-program ∙ length-program sheet-lines) in
+      verdict-bytes w sheet-lines (run (f .fuel) sheet-program .infos) (omega (arith, ample .kinds)) pass-fit e
       ∙ (ap (λ (n : ℕ). lineBytes w * n) (length-lines w b) ∙ sym (whole-length w b (pass-whole f b v l pass)))

@@ -4,7 +4,7 @@ use mathlib.Core.Logic.{⊎-elim}
 use mathlib.Core.Path.{_≡_, refl, sym, _∙_, ap, subst}
 use mathlib.Core.List.{List, List·Memᴰ}
 use mathlib.Core.Bool.{true, false}
-use Prim.Native.Nat.{ℕ, suc, _≤_, _<_}
+use Prim.Native.Nat.{ℕ, zero, suc, _≤_, _<_}
 use native.Mathlib.Omega.{arith}
 use lib.ListN.{length}
 use Rattle.model.specs.Cty.{Cty, names-of-cty}
@@ -12,13 +12,12 @@ use Rattle.model.specs.Decl.{Decl, position}
 use Rattle.model.specs.Layout.{type-names, steps, names-in}
 use Rattle.model.specs.Reach.{Reach}
 use Rattle.model.specs.Resolve.{unfolded, Unfold, gone, newtype, abbreviation, stays, unfold-name, resolve, resolve-checked}
-use Rattle.model.specs.Run.{layouts-of, unfold-next, returns}
+use Rattle.model.specs.Run.{layouts-of, unfold-next, returns, lay}
 use Rattle.model.specs.Names.{Declared}
 use Rattle.model.specs.Laws.Reach.{cyclic-complete, rank, rank-less, rank-bound}
 use Rattle.model.specs.Laws.Layout.{names-in-iff, unfold-below}
 use Rattle.model.specs.Laws.Cty.{All, names-all}
 use Rattle.model.specs.Laws.Resolve.{Unspent, Unfolds, BodyAll, Normal, Under, Ranked, resolve-done, resolve-more, checked-unspent, checked-more}
-use Rattle.model.specs.Laws.Run.{lay}
 use Rattle.locality.specs.Laws.Locality.{lay-foreign}
 use Rattle.model.specs.Laws.Names.{declared-cases}
 
@@ -69,7 +68,7 @@ module _ (ds : List Decl) (clear : NoReturn ds) where
       names-all (Under (lay ds) rank-of (length ds)) c
       (λ m k u. let d : Declared ds m = unfolds-declared m u in rank-bound next (length ds) (unfold-below ds (layouts-of ds)) (position ds m) d (no-loop (position ds m) d))
 
-  -- With more fuel than there are declarations, none is spent, nothing is left to unfold, and more fuel gives the same.
+  -- With more fuel than there are declarations, none is spent, and nothing is left to unfold.
   module _ (k : ℕ) (enough : length ds ≤ k) where
     pub fuel-unspent : (limit : ℕ) (c : Cty) → Unspent (resolve-checked limit (lay ds) (suc k) c)
     fuel-unspent limit c =
@@ -79,6 +78,9 @@ module _ (ds : List Decl) (clear : NoReturn ds) where
     fuel-normal c =
         subst (Normal (lay ds)) (resolve-more (lay ds) rank-of ranked (length ds) k enough c (under-all c)) (resolve-done (lay ds) rank-of ranked (length ds) c (under-all c))
 
-    pub fuel-more : (m : ℕ) → k ≤ m → (c : Cty) → resolve (lay ds) (suc k) c ≡ resolve (lay ds) (suc m) c
-    fuel-more m h c =
-        sym (resolve-more (lay ds) rank-of ranked (length ds) k enough c (under-all c)) ∙ resolve-more (lay ds) rank-of ranked (length ds) m (omega arith) c (under-all c)
+  -- any two fuels above the number of declarations give the same
+  pub fuel-same : (a b : ℕ) → length ds < a → length ds < b → (c : Cty) → resolve (lay ds) a c ≡ resolve (lay ds) b c
+  fuel-same zero b h k c = absurd (omega arith)
+  fuel-same (suc a) zero h k c = absurd (omega arith)
+  fuel-same (suc a) (suc b) h k c =
+      sym (resolve-more (lay ds) rank-of ranked (length ds) a (omega arith) c (under-all c)) ∙ resolve-more (lay ds) rank-of ranked (length ds) b (omega arith) c (under-all c)

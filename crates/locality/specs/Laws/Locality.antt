@@ -43,17 +43,7 @@ use Rattle.model.specs.Decl.{
 use Rattle.model.specs.Erasure.{marked, erasure-fixpoint}
 use Rattle.model.specs.Layout.{steps, type-names, ctor-layouts, candidate, dropped, names-in, layout-of}
 use Rattle.model.specs.Resolve.{unfolded, Unfold, gone, newtype, abbreviation, stays, unfold-body, unfold-dtype, unfold-of, unfolds, unfold-name, resolve}
-use Rattle.model.specs.Run.{
-  fuel,
-  rw-decl,
-  record-of,
-  info,
-  layouts-of,
-  unfold-next,
-  returns,
-  resolves,
-  decl-fault,
-}
+use Rattle.model.specs.Run.{rw-decl, record-of, info, layouts-of, unfold-next, returns, resolves, decl-fault, lay, layout-of-decl, left-at, info-at}
 use Rattle.model.specs.Names.{fields-names, dtype-names, body-names, Declared, Agree}
 use Rattle.model.specs.Laws.Names.{agree-sym, Among, declared-cases, agree-foreign}
 use Rattle.model.specs.Laws.Erasure.{erasure-local, ctor-layouts-local}
@@ -73,7 +63,6 @@ use Rattle.model.specs.Laws.Layout.{
 use Rattle.model.specs.Laws.Cty.{All, names-all, all-names}
 use Rattle.model.specs.Laws.Resolve.{BodyAll, Fields, Kept, kept-field-types, rw-decl-local, decl-fault-local}
 use Rattle.locality.specs.Laws.Own.{cls-names, layout-names, layout-own}
-use Rattle.model.specs.Laws.Run.{lay, layout-of-decl, left-at, info-at}
 use Rattle.model.specs.Laws.Lists.{getD-table, getD-table-past}
 
 -- ---- layouts name what their declarations name
@@ -188,20 +177,20 @@ module _ (S : ℕ → Bool) (ds ds' : List Decl) (agree : Agree S ds ds') (own :
       (λ e. let f : length ds ≤ position ds n = omega arith in rw (lay-foreign ds n f) tt)
       (declared-cases ds n)
 
-  pub left-local : (n : ℕ) → S n ≡ true → Declared ds n → left-at ds (position ds n) ≡ left-at ds' (position ds' n)
+  pub left-local : (fuel n : ℕ) → S n ≡ true → Declared ds n → left-at fuel ds (position ds n) ≡ left-at fuel ds' (position ds' n)
   unfolding left-at
-  left-local n h d =
+  left-local fuel n h d =
       rw-decl-local (lay ds) (lay ds') In lay-closed lay-local fuel (dtype-at ds (position ds n)) (layout-of-decl ds (position ds n)) (resolves-all In (layout-of-decl ds (position ds n)) (names-inside n h d))
       ∙ ap₂ (rw-decl (resolve (lay ds') fuel)) (agree .same-dtype n h d) (layouts-local n h)
 
-  pub fault-local : (limit n : ℕ) → S n ≡ true → Declared ds n → decl-fault limit ds (layouts-of ds) (position ds n) ≡ decl-fault limit ds' (layouts-of ds') (position ds' n)
-  fault-local limit n h d =
-      decl-fault-local limit ds ds' (layouts-of ds) (layouts-of ds') (position ds n) (position ds' n) In lay-closed lay-local (layouts-local n h) (resolves-all In (layout-of-decl ds (position ds n)) (names-inside n h d))
+  pub fault-local : (limit fuel n : ℕ) → S n ≡ true → Declared ds n → decl-fault limit fuel ds (layouts-of ds) (position ds n) ≡ decl-fault limit fuel ds' (layouts-of ds') (position ds' n)
+  fault-local limit fuel n h d =
+      decl-fault-local limit fuel ds ds' (layouts-of ds) (layouts-of ds') (position ds n) (position ds' n) In lay-closed lay-local (layouts-local n h) (resolves-all In (layout-of-decl ds (position ds n)) (names-inside n h d))
 
-  pub info-local : (n : ℕ) → S n ≡ true → Declared ds n → info-at ds (position ds n) ≡ info-at ds' (position ds' n)
+  pub info-local : (fuel n : ℕ) → S n ≡ true → Declared ds n → info-at fuel ds (position ds n) ≡ info-at fuel ds' (position ds' n)
   unfolding info-at info
-  info-local n h d =
-      rw (← (left-local n h d), ← (layouts-local n h), ← (marks-local n h), ← (agree .same-origin n h d), ← (agree .same-dtype n h d))
+  info-local fuel n h d =
+      rw (← (left-local fuel n h d), ← (layouts-local n h), ← (marks-local n h), ← (agree .same-origin n h d), ← (agree .same-dtype n h d))
       (go (origin-at ds (position ds n)))
     where
       er : ℕ → Bool
@@ -216,8 +205,8 @@ module _ (S : ℕ → Bool) (ds ds' : List Decl) (agree : Agree S ds ds') (own :
       cls : ctor-layouts er t ≡ ctor-layouts er' t
       cls = ctor-layouts-local er er' t (λ m k. erasure-local S ds ds' agree m (agree .closed n h d m k))
 
-      go : (o : Origin) → info er t o (getD (erasure-fixpoint ds .marks) (position ds n) false) (layout-of-decl ds (position ds n)) (left-at ds (position ds n))
-          ≡ info er' t o (getD (erasure-fixpoint ds .marks) (position ds n) false) (layout-of-decl ds (position ds n)) (left-at ds (position ds n))
+      go : (o : Origin) → info er t o (getD (erasure-fixpoint ds .marks) (position ds n) false) (layout-of-decl ds (position ds n)) (left-at fuel ds (position ds n))
+          ≡ info er' t o (getD (erasure-fixpoint ds .marks) (position ds n) false) (layout-of-decl ds (position ds n)) (left-at fuel ds (position ds n))
       go here =
           ap
           (λ (x : List CtorLayout).
@@ -225,7 +214,7 @@ module _ (S : ℕ → Bool) (ds ds' : List Decl) (agree : Agree S ds ds') (own :
             ti-erased = getD (erasure-fixpoint ds .marks) (position ds n) false;
             ti-layout = layout-of-decl ds (position ds n);
             ti-ctors = x;
-            ti-record = record-of (left-at ds (position ds n));
+            ti-record = record-of (left-at fuel ds (position ds n));
           })
           cls
       go (imported ti) = refl

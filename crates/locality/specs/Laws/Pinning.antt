@@ -27,12 +27,12 @@ use Rattle.model.specs.Decl.{
 }
 use Rattle.model.specs.Erasure.{marked, rule, rule-of, erasure-fixpoint}
 use Rattle.model.specs.Layout.{ctor-layouts, dropped, layout-of, compute-layouts}
-use Rattle.model.specs.Run.{info, layouts-of, somes, run, returns, decl-fault}
+use Rattle.model.specs.Run.{left-program, info, layouts-of, somes, run, returns, decl-fault, layout-of-decl, left-at, info-at}
 use Rattle.model.specs.Names.{dtype-names, Declared, undeclared, Distinct, Agree, Pin, pins}
 use Rattle.model.specs.Laws.Names.{position-name, position-distinct, position-declared, position-append-left, agree-prefix, undeclared-of, position-same, not-declared}
 use Rattle.model.specs.Laws.Erasure.{erasure-solves, erasure-pinned}
 use Rattle.model.specs.Laws.Layout.{Placed, candidates-of, layout-at, pinned-layouts, getD-layouts}
-use Rattle.model.specs.Laws.Run.{layout-of-decl, left-at, info-at, run-program, run-infos, getD-infos, length-infos, left-same, program-same, fault-same, returns-same}
+use Rattle.model.specs.Laws.Run.{run-lefts, run-infos, getD-infos, length-infos, left-same, lefts-same, fault-same, returns-same}
 use Rattle.locality.specs.Laws.Locality.{OwnImports, info-local, left-local, fault-local, returns-local}
 use Rattle.model.specs.Laws.Lists.{length-table, getD-table, table-cong}
 
@@ -112,25 +112,25 @@ module _ (ds es : List Decl) (distinct : Distinct (ds ++ es)) (apart : Apart ds 
   place-whole i h =
       position-append-left ds es (dtype-at ds i .dt-name) (position-declared ds i h) ∙ place-left i h
 
-  module _ (own : OwnImports ds) where
+  module _ (fuel : ℕ) (own : OwnImports ds) where
     -- its verdicts, left declarations, faults and loops are those in the whole
-    pub prefix-info : (i : ℕ) → i < length ds → info-at ds i ≡ info-at (ds ++ es) i
+    pub prefix-info : (i : ℕ) → i < length ds → info-at fuel ds i ≡ info-at fuel (ds ++ es) i
     prefix-info i h =
-        ap (info-at ds) (sym (place-left i h))
-        ∙ (info-local (undeclared es) ds (ds ++ es) (apart-agree ds es apart) own (dtype-at ds i .dt-name) (distinct-undeclared ds es distinct i h) (position-declared ds i h)
-        ∙ ap (info-at (ds ++ es)) (place-whole i h))
+        ap (info-at fuel ds) (sym (place-left i h))
+        ∙ (info-local (undeclared es) ds (ds ++ es) (apart-agree ds es apart) own fuel (dtype-at ds i .dt-name) (distinct-undeclared ds es distinct i h) (position-declared ds i h)
+        ∙ ap (info-at fuel (ds ++ es)) (place-whole i h))
 
-    pub prefix-left : (i : ℕ) → i < length ds → left-at ds i ≡ left-at (ds ++ es) i
+    pub prefix-left : (i : ℕ) → i < length ds → left-at fuel ds i ≡ left-at fuel (ds ++ es) i
     prefix-left i h =
-        ap (left-at ds) (sym (place-left i h))
-        ∙ (left-local (undeclared es) ds (ds ++ es) (apart-agree ds es apart) own (dtype-at ds i .dt-name) (distinct-undeclared ds es distinct i h) (position-declared ds i h)
-        ∙ ap (left-at (ds ++ es)) (place-whole i h))
+        ap (left-at fuel ds) (sym (place-left i h))
+        ∙ (left-local (undeclared es) ds (ds ++ es) (apart-agree ds es apart) own fuel (dtype-at ds i .dt-name) (distinct-undeclared ds es distinct i h) (position-declared ds i h)
+        ∙ ap (left-at fuel (ds ++ es)) (place-whole i h))
 
-    pub prefix-fault : (limit i : ℕ) → i < length ds → decl-fault limit ds (layouts-of ds) i ≡ decl-fault limit (ds ++ es) (layouts-of (ds ++ es)) i
+    pub prefix-fault : (limit i : ℕ) → i < length ds → decl-fault limit fuel ds (layouts-of ds) i ≡ decl-fault limit fuel (ds ++ es) (layouts-of (ds ++ es)) i
     prefix-fault limit i h =
-        ap (decl-fault limit ds (layouts-of ds)) (sym (place-left i h))
-        ∙ (fault-local (undeclared es) ds (ds ++ es) (apart-agree ds es apart) own limit (dtype-at ds i .dt-name) (distinct-undeclared ds es distinct i h) (position-declared ds i h)
-        ∙ ap (decl-fault limit (ds ++ es) (layouts-of (ds ++ es))) (place-whole i h))
+        ap (decl-fault limit fuel ds (layouts-of ds)) (sym (place-left i h))
+        ∙ (fault-local (undeclared es) ds (ds ++ es) (apart-agree ds es apart) own limit fuel (dtype-at ds i .dt-name) (distinct-undeclared ds es distinct i h) (position-declared ds i h)
+        ∙ ap (decl-fault limit fuel (ds ++ es) (layouts-of (ds ++ es))) (place-whole i h))
 
     pub prefix-returns : OwnImports (ds ++ es) → (i : ℕ) → i < length ds → returns ds (layouts-of ds) i ≡ returns (ds ++ es) (layouts-of (ds ++ es)) i
     prefix-returns own' i h =
@@ -139,54 +139,56 @@ module _ (ds es : List Decl) (distinct : Distinct (ds ++ es)) (apart : Apart ds 
         ∙ ap (returns (ds ++ es) (layouts-of (ds ++ es))) (place-whole i h))
 
     -- the whole's verdicts begin with those of the first part
-    pub prefix-infos : run (ds ++ es) .infos ≡ run ds .infos ++ drop (length ds) (run (ds ++ es) .infos)
+    pub prefix-infos : run fuel (ds ++ es) .infos ≡ run fuel ds .infos ++ drop (length ds) (run fuel (ds ++ es) .infos)
     prefix-infos =
-        sym (take-append-drop (length ds) (run (ds ++ es) .infos))
-        ∙ ap (λ (xs : List TypeInfo). xs ++ drop (length ds) (run (ds ++ es) .infos))
-        (ext-getD no-info (take (length ds) (run (ds ++ es) .infos)) (run ds .infos) (same-count ∙ sym (length-infos ds)) (λ i h. at i (omega (arith, same-count))))
+        sym (take-append-drop (length ds) (run fuel (ds ++ es) .infos))
+        ∙ ap (λ (xs : List TypeInfo). xs ++ drop (length ds) (run fuel (ds ++ es) .infos))
+        (ext-getD no-info (take (length ds) (run fuel (ds ++ es) .infos)) (run fuel ds .infos) (same-count ∙ sym (length-infos fuel ds)) (λ i h. at i (omega (arith, same-count))))
       where
         no-info : TypeInfo
         no-info = record { ti-erased = false; ti-layout = L-opaque; ti-ctors = []; ti-record = false }
 
-        same-count : length (take (length ds) (run (ds ++ es) .infos)) ≡ length ds
-        same-count = length-take-le (length ds) (run (ds ++ es) .infos) (rw (length-infos, length-append) (omega arith))
+        same-count : length (take (length ds) (run fuel (ds ++ es) .infos)) ≡ length ds
+        same-count = length-take-le (length ds) (run fuel (ds ++ es) .infos) (rw (length-infos fuel, length-append) (omega arith))
 
-        at : (i : ℕ) → i < length ds → getD (take (length ds) (run (ds ++ es) .infos)) i no-info ≡ getD (run ds .infos) i no-info
+        at : (i : ℕ) → i < length ds → getD (take (length ds) (run fuel (ds ++ es) .infos)) i no-info ≡ getD (run fuel ds .infos) i no-info
         at i h =
-            getD-take (length ds) (run (ds ++ es) .infos) i no-info h
-            ∙ (getD-infos (ds ++ es) i no-info (rw length-append (omega arith)) ∙ (sym (prefix-info i h) ∙ sym (getD-infos ds i no-info h)))
+            getD-take (length ds) (run fuel (ds ++ es) .infos) i no-info h
+            ∙ (getD-infos fuel (ds ++ es) i no-info (rw length-append (omega arith)) ∙ (sym (prefix-info i h) ∙ sym (getD-infos fuel ds i no-info h)))
 
     -- and so does what is left
-    pub prefix-program : (xs : List (Option Dtype)) × (run (ds ++ es) .program ≡ run ds .program ++ somes xs)
-    prefix-program = (
+    pub prefix-lefts : (xs : List (Option Dtype)) × (run fuel (ds ++ es) .lefts ≡ run fuel ds .lefts ++ xs)
+    prefix-lefts = (
       drop (length ds) whole,
-      run-program (ds ++ es)
-          ∙ (ap somes (sym (take-append-drop (length ds) whole))
-          ∙ (somes-append (take (length ds) whole) (drop (length ds) whole)
-          ∙ ap (λ (x : List Dtype). x ++ somes (drop (length ds) whole)) (ap somes same ∙ sym (run-program ds)))),
+      run-lefts fuel (ds ++ es)
+          ∙ (sym (take-append-drop (length ds) whole)
+          ∙ ap (λ (x : List (Option Dtype)). x ++ drop (length ds) whole) (same ∙ sym (run-lefts fuel ds))),
     )
       where
         whole : List (Option Dtype)
-        whole = table (left-at (ds ++ es)) (length (ds ++ es))
+        whole = table (left-at fuel (ds ++ es)) (length (ds ++ es))
 
         same-count : length (take (length ds) whole) ≡ length ds
-        same-count = length-take-le (length ds) whole (rw (length-table (left-at (ds ++ es)) (length (ds ++ es)), length-append) (omega arith))
+        same-count = length-take-le (length ds) whole (rw (length-table (left-at fuel (ds ++ es)) (length (ds ++ es)), length-append) (omega arith))
 
-        at : (i : ℕ) → i < length ds → getD (take (length ds) whole) i none ≡ getD (table (left-at ds) (length ds)) i none
+        at : (i : ℕ) → i < length ds → getD (take (length ds) whole) i none ≡ getD (table (left-at fuel ds) (length ds)) i none
         at i h =
             getD-take (length ds) whole i none h
-            ∙ (getD-table (left-at (ds ++ es)) (length (ds ++ es)) i none (rw length-append (omega arith))
-            ∙ (sym (prefix-left i h) ∙ sym (getD-table (left-at ds) (length ds) i none h)))
+            ∙ (getD-table (left-at fuel (ds ++ es)) (length (ds ++ es)) i none (rw length-append (omega arith))
+            ∙ (sym (prefix-left i h) ∙ sym (getD-table (left-at fuel ds) (length ds) i none h)))
 
-        same : take (length ds) whole ≡ table (left-at ds) (length ds)
-        same = ext-getD none (take (length ds) whole) (table (left-at ds) (length ds)) (same-count ∙ sym (length-table (left-at ds) (length ds))) (λ i h. at i (omega (arith, same-count)))
+        same : take (length ds) whole ≡ table (left-at fuel ds) (length ds)
+        same = ext-getD none (take (length ds) whole) (table (left-at fuel ds) (length ds)) (same-count ∙ sym (length-table (left-at fuel ds) (length ds))) (λ i h. at i (omega (arith, same-count)))
+
+    pub prefix-program : (xs : List (Option Dtype)) × (left-program (run fuel (ds ++ es)) ≡ left-program (run fuel ds) ++ somes xs)
+    prefix-program = (prefix-lefts .0, ap somes (prefix-lefts .1) ∙ somes-append (run fuel ds .lefts) (prefix-lefts .0))
 
     -- ---- the first part imported
     abbrev pub imported-first : List Decl
-    imported-first = pins ds (run ds .infos) ++ es
+    imported-first = pins ds (run fuel ds .infos) ++ es
 
-    pins-length : length (pins ds (run ds .infos)) ≡ length ds
-    pins-length = pin-length ds (run ds .infos) (length-infos ds)
+    pins-length : length (pins ds (run fuel ds .infos)) ≡ length ds
+    pins-length = pin-length ds (run fuel ds .infos) (length-infos fuel ds)
 
     pub first-length : length (ds ++ es) ≡ length imported-first
     first-length = rw (length-append, length-append, pins-length)
@@ -198,33 +200,33 @@ module _ (ds es : List Decl) (distinct : Distinct (ds ++ es)) (apart : Apart ds 
         go true e =
             let k : i < length ds = ltb-true i (length ds) e in
             ap (λ (x : Decl). x .dtype) (at-left ds es i k)
-            ∙ (sym (pin-dtype ds (run ds .infos) i (length-infos ds))
-            ∙ sym (ap (λ (x : Decl). x .dtype) (at-left (pins ds (run ds .infos)) es i (rw pins-length k))))
+            ∙ (sym (pin-dtype ds (run fuel ds .infos) i (length-infos fuel ds))
+            ∙ sym (ap (λ (x : Decl). x .dtype) (at-left (pins ds (run fuel ds .infos)) es i (rw pins-length k))))
         go false e =
-            ap (λ (x : Decl). x .dtype) (at-right ds (pins ds (run ds .infos)) es i (sym pins-length) (ltb-false i (length ds) e))
+            ap (λ (x : Decl). x .dtype) (at-right ds (pins ds (run fuel ds .infos)) es i (sym pins-length) (ltb-false i (length ds) e))
 
-    first-origin : (i : ℕ) → i < length ds → origin-at imported-first i ≡ imported (info-at (ds ++ es) i)
+    first-origin : (i : ℕ) → i < length ds → origin-at imported-first i ≡ imported (info-at fuel (ds ++ es) i)
     first-origin i h =
-        ap (λ (x : Decl). x .origin) (at-left (pins ds (run ds .infos)) es i (rw pins-length h))
-        ∙ (pin-origin ds (run ds .infos) i (info-at ds i) h (length-infos ds)
-        ∙ ap imported (getD-infos ds i (info-at ds i) h ∙ prefix-info i h))
+        ap (λ (x : Decl). x .origin) (at-left (pins ds (run fuel ds .infos)) es i (rw pins-length h))
+        ∙ (pin-origin ds (run fuel ds .infos) i (info-at fuel ds i) h (length-infos fuel ds)
+        ∙ ap imported (getD-infos fuel ds i (info-at fuel ds i) h ∙ prefix-info i h))
 
     rest-origin : (i : ℕ) → length ds ≤ i → origin-at (ds ++ es) i ≡ origin-at imported-first i
-    rest-origin i h = ap (λ (x : Decl). x .origin) (at-right ds (pins ds (run ds .infos)) es i (sym pins-length) h)
+    rest-origin i h = ap (λ (x : Decl). x .origin) (at-right ds (pins ds (run fuel ds .infos)) es i (sym pins-length) h)
 
     -- what a verdict says of a declaration of the whole
-    info-erased : (i : ℕ) → i < length (ds ++ es) → info-at (ds ++ es) i .ti-erased ≡ getD (erasure-fixpoint (ds ++ es) .marks) i false
+    info-erased : (i : ℕ) → i < length (ds ++ es) → info-at fuel (ds ++ es) i .ti-erased ≡ getD (erasure-fixpoint (ds ++ es) .marks) i false
     unfolding info-at info rule rule-of
     info-erased i h = go (origin-at (ds ++ es) i) refl (erasure-solves (ds ++ es) i h)
       where
         go : (o : Origin) → origin-at (ds ++ es) i ≡ o
             → getD (erasure-fixpoint (ds ++ es) .marks) i false ≡ rule-of (marked (ds ++ es) (erasure-fixpoint (ds ++ es) .marks)) (dtype-at (ds ++ es) i) (origin-at (ds ++ es) i)
-            → info (marked (ds ++ es) (erasure-fixpoint (ds ++ es) .marks)) (dtype-at (ds ++ es) i) o (getD (erasure-fixpoint (ds ++ es) .marks) i false) (layout-of-decl (ds ++ es) i) (left-at (ds ++ es) i) .ti-erased
+            → info (marked (ds ++ es) (erasure-fixpoint (ds ++ es) .marks)) (dtype-at (ds ++ es) i) o (getD (erasure-fixpoint (ds ++ es) .marks) i false) (layout-of-decl (ds ++ es) i) (left-at fuel (ds ++ es) i) .ti-erased
             ≡ getD (erasure-fixpoint (ds ++ es) .marks) i false
         go here e k = refl
         go (imported ti) e k = sym (k ∙ ap (rule-of (marked (ds ++ es) (erasure-fixpoint (ds ++ es) .marks)) (dtype-at (ds ++ es) i)) e)
 
-    info-layout : (i : ℕ) → i < length (ds ++ es) → info-at (ds ++ es) i .ti-layout ≡ layout-of-decl (ds ++ es) i
+    info-layout : (i : ℕ) → i < length (ds ++ es) → info-at fuel (ds ++ es) i .ti-layout ≡ layout-of-decl (ds ++ es) i
     unfolding info-at info layouts-of layout-of
     info-layout i h = go (origin-at (ds ++ es) i) refl (getD-layouts (ds ++ es) (erasure-fixpoint (ds ++ es) .marks) i L-opaque h)
       where
@@ -233,17 +235,17 @@ module _ (ds es : List Decl) (distinct : Distinct (ds ++ es)) (apart : Apart ds 
 
         go : (o : Origin) → origin-at (ds ++ es) i ≡ o
             → layout-of-decl (ds ++ es) i ≡ layout-at (ds ++ es) s i
-            → info (marked (ds ++ es) s) (dtype-at (ds ++ es) i) o (getD s i false) (layout-of-decl (ds ++ es) i) (left-at (ds ++ es) i) .ti-layout ≡ layout-of-decl (ds ++ es) i
+            → info (marked (ds ++ es) s) (dtype-at (ds ++ es) i) o (getD s i false) (layout-of-decl (ds ++ es) i) (left-at fuel (ds ++ es) i) .ti-layout ≡ layout-of-decl (ds ++ es) i
         go here e k = refl
         go (imported ti) e k =
             sym (k ∙ ap (λ (o : Origin). layout-of (dtype-at (ds ++ es) i) o (getD s i false) (dropped (ds ++ es) (candidates-of (ds ++ es) s) i) (getD (candidates-of (ds ++ es) s) i none) (ctor-layouts (marked (ds ++ es) s) (dtype-at (ds ++ es) i))) e)
 
     -- the marks
-    origins-split : (i : ℕ) → i < length (ds ++ es) → (origin-at (ds ++ es) i ≡ origin-at imported-first i) ⊎ Pin (λ ti. ti ≡ info-at (ds ++ es) i) imported-first i
+    origins-split : (i : ℕ) → i < length (ds ++ es) → (origin-at (ds ++ es) i ≡ origin-at imported-first i) ⊎ Pin (λ ti. ti ≡ info-at fuel (ds ++ es) i) imported-first i
     origins-split i h = go (ltb i (length ds)) refl
       where
-        go : (b : Bool) → ltb i (length ds) ≡ b → (origin-at (ds ++ es) i ≡ origin-at imported-first i) ⊎ Pin (λ ti. ti ≡ info-at (ds ++ es) i) imported-first i
-        go true e = inr (record { verdict = info-at (ds ++ es) i; pinned = first-origin i (ltb-true i (length ds) e); holds = refl })
+        go : (b : Bool) → ltb i (length ds) ≡ b → (origin-at (ds ++ es) i ≡ origin-at imported-first i) ⊎ Pin (λ ti. ti ≡ info-at fuel (ds ++ es) i) imported-first i
+        go true e = inr (record { verdict = info-at fuel (ds ++ es) i; pinned = first-origin i (ltb-true i (length ds) e); holds = refl })
         go false e = inl (rest-origin i (ltb-false i (length ds) e))
 
     pub imported-marks : erasure-fixpoint imported-first .marks ≡ erasure-fixpoint (ds ++ es) .marks
@@ -270,17 +272,17 @@ module _ (ds es : List Decl) (distinct : Distinct (ds ++ es)) (apart : Apart ds 
           same-length = first-length;
           same-dtypes = first-dtype;
           others = λ i h b. rest-origin i (ltb-false i (length ds) b);
-          pins = λ i h b. record { verdict = info-at (ds ++ es) i; pinned = first-origin i (ltb-true i (length ds) b); holds = info-layout i h };
+          pins = λ i h b. record { verdict = info-at fuel (ds ++ es) i; pinned = first-origin i (ltb-true i (length ds) b); holds = info-layout i h };
           closed = closed-first;
         })
         ∙ ap (compute-layouts imported-first) (sym imported-marks)
 
     -- so the program that is left, the faults and the loops are those of the whole
-    pub imported-program : run (ds ++ es) .program ≡ run imported-first .program
-    imported-program = program-same (ds ++ es) imported-first first-length first-dtype imported-layouts
+    pub imported-lefts : run fuel (ds ++ es) .lefts ≡ run fuel imported-first .lefts
+    imported-lefts = lefts-same (ds ++ es) imported-first first-length first-dtype imported-layouts fuel
 
-    pub imported-fault : (limit i : ℕ) → decl-fault limit (ds ++ es) (layouts-of (ds ++ es)) i ≡ decl-fault limit imported-first (layouts-of imported-first) i
-    imported-fault = fault-same (ds ++ es) imported-first first-length first-dtype imported-layouts
+    pub imported-fault : (limit i : ℕ) → decl-fault limit fuel (ds ++ es) (layouts-of (ds ++ es)) i ≡ decl-fault limit fuel imported-first (layouts-of imported-first) i
+    imported-fault limit = fault-same (ds ++ es) imported-first first-length first-dtype imported-layouts limit fuel
 
     pub imported-returns : (i : ℕ) → returns (ds ++ es) (layouts-of (ds ++ es)) i ≡ returns imported-first (layouts-of imported-first) i
     imported-returns = returns-same (ds ++ es) imported-first first-length first-dtype imported-layouts
@@ -290,16 +292,16 @@ module _ (ds es : List Decl) (distinct : Distinct (ds ++ es)) (apart : Apart ds 
     marked-first = fun-ext (λ n. ap₂ (λ (s : List Bool) (i : ℕ). getD s i false) (sym imported-marks) (position-same (ds ++ es) imported-first n first-length first-dtype))
 
     -- and so is every verdict
-    pub imported-info : (i : ℕ) → i < length (ds ++ es) → info-at (ds ++ es) i ≡ info-at imported-first i
+    pub imported-info : (i : ℕ) → i < length (ds ++ es) → info-at fuel (ds ++ es) i ≡ info-at fuel imported-first i
     unfolding info-at info
     imported-info i h = go (ltb i (length ds)) refl
       where
         s : List Bool
         s = erasure-fixpoint imported-first .marks
 
-        go : (b : Bool) → ltb i (length ds) ≡ b → info-at (ds ++ es) i ≡ info-at imported-first i
+        go : (b : Bool) → ltb i (length ds) ≡ b → info-at fuel (ds ++ es) i ≡ info-at fuel imported-first i
         go true e =
-            sym (ap (λ (o : Origin). info (marked imported-first s) (dtype-at imported-first i) o (getD s i false) (layout-of-decl imported-first i) (left-at imported-first i)) (first-origin i (ltb-true i (length ds) e)))
+            sym (ap (λ (o : Origin). info (marked imported-first s) (dtype-at imported-first i) o (getD s i false) (layout-of-decl imported-first i) (left-at fuel imported-first i)) (first-origin i (ltb-true i (length ds) e)))
         go false e =
             λ j.
             info
@@ -308,10 +310,10 @@ module _ (ds es : List Decl) (distinct : Distinct (ds ++ es)) (apart : Apart ds 
             (rest-origin i (ltb-false i (length ds) e) j)
             (getD (sym imported-marks j) i false)
             (getD (imported-layouts j) i L-opaque)
-            (left-same (ds ++ es) imported-first first-length first-dtype imported-layouts i h j)
+            (left-same (ds ++ es) imported-first first-length first-dtype imported-layouts fuel i h j)
 
-    pub imported-infos : run (ds ++ es) .infos ≡ run imported-first .infos
+    pub imported-infos : run fuel (ds ++ es) .infos ≡ run fuel imported-first .infos
     imported-infos =
-        run-infos (ds ++ es)
-        ∙ (table-cong (info-at (ds ++ es)) (info-at imported-first) (length (ds ++ es)) imported-info
-        ∙ (ap (table (info-at imported-first)) first-length ∙ sym (run-infos imported-first)))
+        run-infos fuel (ds ++ es)
+        ∙ (table-cong (info-at fuel (ds ++ es)) (info-at fuel imported-first) (length (ds ++ es)) imported-info
+        ∙ (ap (table (info-at fuel imported-first)) first-length ∙ sym (run-infos fuel imported-first)))

@@ -105,7 +105,8 @@ use Rattle.model.specs.Erasure.{
   start,
   erasure-fixpoint,
 }
-use Rattle.model.specs.Resolve.{unfolded, 
+use Rattle.model.specs.Resolve.{
+  unfolded,
   Unfold,
   gone,
   newtype,
@@ -157,35 +158,12 @@ use Rattle.model.specs.Layout.{
   compute-layouts,
 }
 use Rattle.model.specs.Reach.{cyclic}
-use Rattle.model.specs.Run.{
-  fuel,
-  with-body,
-  all-in,
-  collapsed-abbrev,
-  resolved-field,
-  resolved-ctor,
-  struct-body,
-  rw-decl,
-  record-body,
-  record-verdict,
-  record-of,
-  info,
-  somes,
-  layouts-of,
-  Ran,
-  run,
-  unfold-next,
-  returns,
-  field-types,
-  resolves,
-  fault-code,
-  decl-fault,
-}
+use Rattle.model.specs.Run.{with-body, all-in, collapsed-abbrev, resolved-field, resolved-ctor, struct-body, rw-decl, record-body, record-verdict, record-of, info, somes, layouts-of, Ran, run, unfold-next, returns, field-types, resolves, fault-code, decl-fault, lay, layout-of-decl, left-at, info-at}
 use Rattle.model.specs.Names.{fields-names, ctors-names, body-names, dtype-names, Declared, Agree}
 use Rattle.model.specs.Laws.Layout.{candidate-at, candidates-of, layout-at}
 use Rattle.locality.specs.Laws.Own.{cls-names, layout-names}
 use Rattle.locality.specs.Laws.Locality.{OwnImports, marks-local, layouts-local, left-local, fault-local, info-local, returns-local}
-use Rattle.model.specs.Laws.Run.{lay, layout-of-decl, left-at, info-at, run-program, run-infos}
+use Rattle.model.specs.Laws.Run.{run-lefts, run-infos}
 use Rattle.model.specs.Laws.Lists.{getD-map, table-cong}
 use Rattle.model.specs.Laws.Names.{Among}
 
@@ -1083,7 +1061,7 @@ module _ (ρ : ℕ → ℕ) where
       go : fault-code res' (map (rename-cty ρ) cs) ≡ fault-code res cs → (r : Result Cty) → res c ≡ r → fault-code res' (rename-cty ρ c ∷ map (rename-cty ρ) cs) ≡ fault-code res (c ∷ cs)
       go ih (ok t) q = rw (h c, q) ih
       go ih (fault e) q = rw (h c, q) refl
-      go ih spent q = rw (h c, q) ih
+      go ih spent q = rw (h c, q) refl
 
 -- ---- run
 module _ (ρ : ℕ → ℕ) (inj : Injective ρ) (ds : List Decl) where
@@ -1097,9 +1075,9 @@ module _ (ρ : ℕ → ℕ) (inj : Injective ρ) (ds : List Decl) where
   lay-rename n = ap (λ (ls : List Layout). unfold-name renamed ls (ρ n)) (layouts-rename ρ inj ds) ∙ unfold-name-rename ρ inj ds (layouts-of ds) n
 
   -- the left declaration,
-  pub left-rename : (i : ℕ) → i < length ds → left-at (rename-decls ρ ds) i ≡ rename-left ρ (left-at ds i)
+  pub left-rename : (fuel i : ℕ) → i < length ds → left-at fuel (rename-decls ρ ds) i ≡ rename-left ρ (left-at fuel ds i)
   unfolding left-at
-  left-rename i h =
+  left-rename fuel i h =
       ap₂ (rw-decl (resolve (lay renamed) fuel)) (dtype-rename ρ ds i h) (layout-rename i)
       ∙ rw-decl-rename ρ inj (resolve (lay ds) fuel) (resolve (lay renamed) fuel) (resolve-rename ρ inj (lay ds) (lay renamed) lay-rename fuel) (dtype-at ds i) (layout-of-decl ds i)
 
@@ -1107,17 +1085,17 @@ module _ (ρ : ℕ → ℕ) (inj : Injective ρ) (ds : List Decl) where
   er-rename n = ap (λ (s : Settled). marked renamed (s .marks) (ρ n)) (erasure-rename ρ inj ds) ∙ marked-rename ρ inj ds (erasure-fixpoint ds .marks) n
 
   -- the verdict,
-  pub verdict-rename : (i : ℕ) → i < length ds → info-at (rename-decls ρ ds) i ≡ rename-info ρ (info-at ds i)
+  pub verdict-rename : (fuel i : ℕ) → i < length ds → info-at fuel (rename-decls ρ ds) i ≡ rename-info ρ (info-at fuel ds i)
   unfolding info-at
-  verdict-rename i h =
-      rw (dtype-rename ρ ds i h, origin-rename ρ ds i h, layout-rename i, left-rename i h)
-      (ap (λ (s : Settled). info (marked renamed (erasure-fixpoint renamed .marks)) (rename-dtype ρ (dtype-at ds i)) (rename-origin ρ (origin-at ds i)) (getD (s .marks) i false) (rename-layout ρ (layout-of-decl ds i)) (rename-left ρ (left-at ds i))) (erasure-rename ρ inj ds)
-      ∙ info-rename ρ (marked ds (erasure-fixpoint ds .marks)) (marked renamed (erasure-fixpoint renamed .marks)) er-rename (dtype-at ds i) (origin-at ds i) (getD (erasure-fixpoint ds .marks) i false) (layout-of-decl ds i) (left-at ds i))
+  verdict-rename fuel i h =
+      rw (dtype-rename ρ ds i h, origin-rename ρ ds i h, layout-rename i, left-rename fuel i h)
+      (ap (λ (s : Settled). info (marked renamed (erasure-fixpoint renamed .marks)) (rename-dtype ρ (dtype-at ds i)) (rename-origin ρ (origin-at ds i)) (getD (s .marks) i false) (rename-layout ρ (layout-of-decl ds i)) (rename-left ρ (left-at fuel ds i))) (erasure-rename ρ inj ds)
+      ∙ info-rename ρ (marked ds (erasure-fixpoint ds .marks)) (marked renamed (erasure-fixpoint renamed .marks)) er-rename (dtype-at ds i) (origin-at ds i) (getD (erasure-fixpoint ds .marks) i false) (layout-of-decl ds i) (left-at fuel ds i))
 
   -- the faults of rows 9 and 10,
-  pub fault-rename : (limit i : ℕ) → decl-fault limit (rename-decls ρ ds) (layouts-of (rename-decls ρ ds)) i ≡ decl-fault limit ds (layouts-of ds) i
+  pub fault-rename : (limit fuel i : ℕ) → decl-fault limit fuel (rename-decls ρ ds) (layouts-of (rename-decls ρ ds)) i ≡ decl-fault limit fuel ds (layouts-of ds) i
   unfolding decl-fault
-  fault-rename limit i =
+  fault-rename limit fuel i =
       ap (fault-code (resolve-checked limit (lay renamed) fuel)) (ap resolves (layout-rename i) ∙ resolves-rename ρ (layout-of-decl ds i))
       ∙ fault-code-rename ρ (resolve-checked limit (lay ds) fuel) (resolve-checked limit (lay renamed) fuel) (resolve-checked-rename ρ inj limit (lay ds) (lay renamed) lay-rename fuel) (resolves (layout-of-decl ds i))
 
@@ -1140,32 +1118,31 @@ module _ (ρ : ℕ → ℕ) (inj : Injective ρ) (ds : List Decl) where
   unfolding returns
   loop-rename i = ap₂ (λ (next : ℕ → List ℕ) (n : ℕ). cyclic next n i) (fun-ext unfold-next-rename) (length-map ds (rename-decl ρ))
 
-  pub rounds-rename : run (rename-decls ρ ds) .rounds ≡ run ds .rounds
+  pub rounds-rename : (fuel : ℕ) → run fuel (rename-decls ρ ds) .rounds ≡ run fuel ds .rounds
   unfolding run
-  rounds-rename = ap (λ (s : Settled). s .rounds) (erasure-rename ρ inj ds)
+  rounds-rename fuel = ap (λ (s : Settled). s .rounds) (erasure-rename ρ inj ds)
 
-  pub infos-rename : run (rename-decls ρ ds) .infos ≡ map (rename-info ρ) (run ds .infos)
-  infos-rename =
-      run-infos renamed
-      ∙ (ap (table (info-at renamed)) (length-map ds (rename-decl ρ))
-      ∙ (table-cong (info-at renamed) (λ i. rename-info ρ (info-at ds i)) (length ds) verdict-rename
-      ∙ (table-map (rename-info ρ) (info-at ds) (length ds) ∙ ap (map (rename-info ρ)) (sym (run-infos ds)))))
+  pub infos-rename : (fuel : ℕ) → run fuel (rename-decls ρ ds) .infos ≡ map (rename-info ρ) (run fuel ds .infos)
+  infos-rename fuel =
+      run-infos fuel renamed
+      ∙ (ap (table (info-at fuel renamed)) (length-map ds (rename-decl ρ))
+      ∙ (table-cong (info-at fuel renamed) (λ i. rename-info ρ (info-at fuel ds i)) (length ds) (verdict-rename fuel)
+      ∙ (table-map (rename-info ρ) (info-at fuel ds) (length ds) ∙ ap (map (rename-info ρ)) (sym (run-infos fuel ds)))))
 
-  pub program-rename : run (rename-decls ρ ds) .program ≡ map (rename-dtype ρ) (run ds .program)
-  program-rename =
-      run-program renamed
-      ∙ (ap somes
-      (ap (table (left-at renamed)) (length-map ds (rename-decl ρ))
-      ∙ (table-cong (left-at renamed) (λ i. rename-left ρ (left-at ds i)) (length ds) left-rename ∙ table-map (rename-left ρ) (left-at ds) (length ds)))
-      ∙ (somes-rename ρ (table (left-at ds) (length ds)) ∙ ap (map (rename-dtype ρ)) (sym (run-program ds))))
+  pub lefts-rename : (fuel : ℕ) → run fuel (rename-decls ρ ds) .lefts ≡ map (rename-left ρ) (run fuel ds .lefts)
+  lefts-rename fuel =
+      run-lefts fuel renamed
+      ∙ (ap (table (left-at fuel renamed)) (length-map ds (rename-decl ρ))
+      ∙ (table-cong (left-at fuel renamed) (λ i. rename-left ρ (left-at fuel ds i)) (length ds) (left-rename fuel)
+      ∙ (table-map (rename-left ρ) (left-at fuel ds) (length ds) ∙ ap (map (rename-left ρ)) (sym (run-lefts fuel ds)))))
 
 abbrev pub rename-ran : (ℕ → ℕ) → Ran → Ran
-rename-ran ρ r = record { rounds = r .rounds; infos = map (rename-info ρ) (r .infos); program = map (rename-dtype ρ) (r .program) }
+rename-ran ρ r = record { rounds = r .rounds; infos = map (rename-info ρ) (r .infos); lefts = map (rename-left ρ) (r .lefts) }
 
--- A renamed program runs as the program: as many rounds, the renamed verdicts and the renamed program left.
-pub run-rename : (ρ : ℕ → ℕ) → Injective ρ → (ds : List Decl) → run (rename-decls ρ ds) ≡ rename-ran ρ (run ds)
-run-rename ρ inj ds =
-    λ i. record { rounds = rounds-rename ρ inj ds i; infos = infos-rename ρ inj ds i; program = program-rename ρ inj ds i }
+-- A renamed program runs as the program: as many rounds, and what each declaration gets is renamed.
+pub run-rename : (ρ : ℕ → ℕ) → Injective ρ → (fuel : ℕ) (ds : List Decl) → run fuel (rename-decls ρ ds) ≡ rename-ran ρ (run fuel ds)
+run-rename ρ inj fuel ds =
+    λ i. record { rounds = rounds-rename ρ inj ds fuel i; infos = infos-rename ρ inj ds fuel i; lefts = lefts-rename ρ inj ds fuel i }
 
 -- ---- locality
 -- the names of what is renamed
@@ -1227,30 +1204,30 @@ module _ (ρ : ℕ → ℕ) where
           (among-rename (layout-names (tj .ti-layout)) (dtype-names (dtype-at ds i)) (own i tj below q)))
 
 -- What ds' gives the name ρ n is what ds gives the name n, renamed.
-pub record SameRenamed (ρ : ℕ → ℕ) (limit : ℕ) (ds ds' : List Decl) (n : ℕ) : Type 0 where
+pub record SameRenamed (ρ : ℕ → ℕ) (limit fuel : ℕ) (ds ds' : List Decl) (n : ℕ) : Type 0 where
   pub same-declared : Declared ds' (ρ n)
   pub same-erasure : getD (erasure-fixpoint ds' .marks) (position ds' (ρ n)) false ≡ getD (erasure-fixpoint ds .marks) (position ds n) false
   pub same-layout : layout-of-decl ds' (position ds' (ρ n)) ≡ rename-layout ρ (layout-of-decl ds (position ds n))
-  pub same-verdict : info-at ds' (position ds' (ρ n)) ≡ rename-info ρ (info-at ds (position ds n))
-  pub same-left : left-at ds' (position ds' (ρ n)) ≡ rename-left ρ (left-at ds (position ds n))
-  pub same-fault : decl-fault limit ds' (layouts-of ds') (position ds' (ρ n)) ≡ decl-fault limit ds (layouts-of ds) (position ds n)
+  pub same-verdict : info-at fuel ds' (position ds' (ρ n)) ≡ rename-info ρ (info-at fuel ds (position ds n))
+  pub same-left : left-at fuel ds' (position ds' (ρ n)) ≡ rename-left ρ (left-at fuel ds (position ds n))
+  pub same-fault : decl-fault limit fuel ds' (layouts-of ds') (position ds' (ρ n)) ≡ decl-fault limit fuel ds (layouts-of ds) (position ds n)
   pub same-loop : returns ds' (layouts-of ds') (position ds' (ρ n)) ≡ returns ds (layouts-of ds) (position ds n)
 
 -- Locality up to renaming: two programs of which one, renamed, agrees with the other on a set of names
 -- closed under what is declared there give these names the same verdicts, left declarations and faults,
 -- renamed.
-pub locality-renamed : (ρ : ℕ → ℕ) → Injective ρ → (limit : ℕ) (S : ℕ → Bool) (ds ds' : List Decl) → Agree S (rename-decls ρ ds) ds' → OwnImports ds → OwnImports ds'
-    → (n : ℕ) → S (ρ n) ≡ true → Declared ds n → SameRenamed ρ limit ds ds' n
-locality-renamed ρ inj limit S ds ds' agree own own' n h d =
+pub locality-renamed : (ρ : ℕ → ℕ) → Injective ρ → (limit fuel : ℕ) (S : ℕ → Bool) (ds ds' : List Decl) → Agree S (rename-decls ρ ds) ds' → OwnImports ds → OwnImports ds'
+    → (n : ℕ) → S (ρ n) ≡ true → Declared ds n → SameRenamed ρ limit fuel ds ds' n
+locality-renamed ρ inj limit fuel S ds ds' agree own own' n h d =
     record {
       same-declared = agree .declared (ρ n) h .0 declared;
       same-erasure =
           sym (marks-local S renamed ds' agree owned (ρ n) h) ∙ ap₂ (λ (s : Settled) (i : ℕ). getD (s .marks) i false) (erasure-rename ρ inj ds) place;
       same-layout = sym (layouts-local S renamed ds' agree owned (ρ n) h) ∙ (ap (layout-of-decl renamed) place ∙ layout-rename ρ inj ds (position ds n));
-      same-verdict = sym (info-local S renamed ds' agree owned (ρ n) h declared) ∙ (ap (info-at renamed) place ∙ verdict-rename ρ inj ds (position ds n) d);
-      same-left = sym (left-local S renamed ds' agree owned (ρ n) h declared) ∙ (ap (left-at renamed) place ∙ left-rename ρ inj ds (position ds n) d);
+      same-verdict = sym (info-local S renamed ds' agree owned fuel (ρ n) h declared) ∙ (ap (info-at fuel renamed) place ∙ verdict-rename ρ inj ds fuel (position ds n) d);
+      same-left = sym (left-local S renamed ds' agree owned fuel (ρ n) h declared) ∙ (ap (left-at fuel renamed) place ∙ left-rename ρ inj ds fuel (position ds n) d);
       same-fault =
-          sym (fault-local S renamed ds' agree owned limit (ρ n) h declared) ∙ (ap (decl-fault limit renamed (layouts-of renamed)) place ∙ fault-rename ρ inj ds limit (position ds n));
+          sym (fault-local S renamed ds' agree owned limit fuel (ρ n) h declared) ∙ (ap (decl-fault limit fuel renamed (layouts-of renamed)) place ∙ fault-rename ρ inj ds limit fuel (position ds n));
       same-loop =
           sym (returns-local S renamed ds' agree owned own' (ρ n) h declared) ∙ (ap (returns renamed (layouts-of renamed)) place ∙ loop-rename ρ inj ds (position ds n));
     }

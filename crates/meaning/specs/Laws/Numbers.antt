@@ -91,7 +91,7 @@ use Rattle.model.specs.Decl.{
 }
 use Rattle.model.specs.Erasure.{marked, erasure-fixpoint}
 use Rattle.model.specs.Layout.{slots, kept, ctor-layout, ctor-layouts, newtype-of-ctor, newtype-of, candidate, dropped, collapse, layout-of-body, layout-of, compute-layouts}
-use Rattle.model.specs.Run.{fuel, with-body, all-in, collapsed-abbrev, resolved-field, resolved-ctor, struct-body, rw-decl, somes, layouts-of, run}
+use Rattle.model.specs.Run.{left-program, with-body, all-in, collapsed-abbrev, resolved-field, resolved-ctor, struct-body, rw-decl, somes, layouts-of, run, lay, left-at}
 use Rattle.meaning.specs.Program.{
   arg-line,
   type-line,
@@ -128,7 +128,7 @@ use Rattle.meaning.specs.Output.{left-lines}
 use Rattle.model.specs.Laws.Cty.{all-names}
 use Rattle.model.specs.Laws.Resolve.{Stays, Normal, Fields, Ctors, BodyTypes, LeftTypes, Left}
 use Rattle.model.specs.Laws.Layout.{candidates-of, getD-candidates, getD-layouts, getD-layouts-past}
-use Rattle.model.specs.Laws.Run.{lay, left-at, run-program}
+use Rattle.model.specs.Laws.Run.{run-lefts}
 use Rattle.meaning.specs.Laws.Output.{types-of-fields, types-of-ctors, types-of-body, types-of, TypeNumbers, TypesNumbers, FieldNumbers, CtorNumbers, BodyNumbers, DtypeNumbers, total, total-bound, ProgramFits, every-select, number-fits, left-fits, NamesIn, left-names, columns-positive}
 use Rattle.model.specs.Laws.Lists.{getD-table, getD-table-past}
 use Rattle.model.specs.Laws.Names.{declared-cases}
@@ -530,14 +530,14 @@ module _ (Q : ℕ → Type 0) (kind : (n : ℕ) → n ≤ 12 → Q n) (down : (m
     rw-decl-full n d L-opaque h k = h
 
   -- Q holds of every number of the program that is left
-  pub run-full : (ds : List Decl) → Every (FullDecl Q) ds → Every (FullDtype Q) (run ds .program)
+  pub run-full : (fuel : ℕ) (ds : List Decl) → Every (FullDecl Q) ds → Every (FullDtype Q) (left-program (run fuel ds))
   unfolding left-at layouts-of
-  run-full ds h =
-      rw (run-program ds)
-      (somes-every (FullDtype Q) (left-at ds) (length ds)
+  run-full fuel ds h =
+      rw (run-lefts fuel ds)
+      (somes-every (FullDtype Q) (left-at fuel ds) (length ds)
       (λ i l. left-full i))
     where
-      left-full : (i : ℕ) → Left (FullDtype Q) (left-at ds i)
+      left-full : (i : ℕ) → Left (FullDtype Q) (left-at fuel ds i)
       left-full i =
           rw-decl-full (resolve (lay ds) fuel) (resolve-numbers Q (lay ds) (lay-full ds h) fuel) (body-fields (dtype-at ds i .dt-body)) (dtype-at ds i) (getD (layouts-of ds) i L-opaque) (decl-full ds h i .dtype-full) (layout-at-full ds h (erasure-fixpoint ds .marks) i)
 
@@ -649,12 +649,12 @@ full-keeps Q b (L-struct cls) h = h .2
 full-keeps Q b (L-abbrev c) h = tt
 full-keeps Q b L-opaque h = tt
 
-pub run-count : (Q : ℕ → Type 0) (kind : (n : ℕ) → n ≤ 12 → Q n) (down : (m n : ℕ) → m ≤ n → Q n → Q m) (ds : List Decl) → Every (FullDecl Q) ds →
-    length (types-of (run ds .program)) ≤ weights ds
+pub run-count : (Q : ℕ → Type 0) (kind : (n : ℕ) → n ≤ 12 → Q n) (down : (m n : ℕ) → m ≤ n → Q n → Q m) (fuel : ℕ) (ds : List Decl) → Every (FullDecl Q) ds →
+    length (types-of (left-program (run fuel ds))) ≤ weights ds
 unfolding left-at layouts-of
-run-count Q kind down ds h =
-    rw (run-program ds)
-    (somes-count (left-at ds) ds
+run-count Q kind down fuel ds h =
+    rw (run-lefts fuel ds)
+    (somes-count (left-at fuel ds) ds
     (λ i l. rw-decl-count (resolve (lay ds) fuel) (dtype-at ds i) (getD (layouts-of ds) i L-opaque)
     (full-keeps Q (body-fields (dtype-at ds i .dt-body)) (getD (layouts-of ds) i L-opaque) (layout-at-full Q kind down ds h (erasure-fixpoint ds .marks) i))))
 
@@ -683,32 +683,32 @@ module _ (P : Cty → Type 0) where
   types-every (d ∷ ds) h = every-append P (types-of-body (d .dt-body)) (types-of ds) (body-types (d .dt-body) (h .0)) (types-every ds (h .1))
 
   -- what holds of the types of each left declaration holds of the types that are written
-  pub run-types : (ds : List Decl) → ((i : ℕ) → i < length ds → LeftTypes P (left-at ds i)) → Every P (types-of (run ds .program))
-  run-types ds h =
-      rw (run-program ds)
-      (types-every (somes (table (left-at ds) (length ds)))
-      (somes-every (λ d. BodyTypes P (d .dt-body)) (left-at ds) (length ds) h))
+  pub run-types : (fuel : ℕ) (ds : List Decl) → ((i : ℕ) → i < length ds → LeftTypes P (left-at fuel ds i)) → Every P (types-of (left-program (run fuel ds)))
+  run-types fuel ds h =
+      rw (run-lefts fuel ds)
+      (types-every (somes (table (left-at fuel ds) (length ds)))
+      (somes-every (λ d. BodyTypes P (d .dt-body)) (left-at fuel ds) (length ds) h))
 
 -- No name that is unfolded, and none that is erased, is named in the left sheet.
-pub left-sheet-normal : (ls : List Line) (ds : List Decl) → ((i : ℕ) → i < length ds → LeftTypes (Normal (lay ds)) (left-at ds i)) →
-    (l : Line) → List·Memᴰ l (left-lines ls (run ds .program)) → letter l ≡ type-line → number l 0 ≡ 8 → lay ds (number l 1) ≡ stays
-left-sheet-normal ls ds h =
-    left-names (Stays (lay ds)) ls (run ds .program)
-    (every-map (Normal (lay ds)) (NamesIn (Stays (lay ds))) (λ c a. all-names (Stays (lay ds)) c a) (types-of (run ds .program)) (run-types (Normal (lay ds)) ds h))
+pub left-sheet-normal : (fuel : ℕ) (ls : List Line) (ds : List Decl) → ((i : ℕ) → i < length ds → LeftTypes (Normal (lay ds)) (left-at fuel ds i)) →
+    (l : Line) → List·Memᴰ l (left-lines ls (left-program (run fuel ds))) → letter l ≡ type-line → number l 0 ≡ 8 → lay ds (number l 1) ≡ stays
+left-sheet-normal fuel ls ds h =
+    left-names (Stays (lay ds)) ls (left-program (run fuel ds))
+    (every-map (Normal (lay ds)) (NamesIn (Stays (lay ds))) (λ c a. all-names (Stays (lay ds)) c a) (types-of (left-program (run fuel ds))) (run-types (Normal (lay ds)) fuel ds h))
 
 -- ---- the left program fits
 below-down : (M m n : ℕ) → m ≤ n → n < M → m < M
 below-down M m n h k = omega arith
 
 -- Where the program's numbers fit and the types that are left are of at most limit nodes each.
-pub run-fits : (w limit : ℕ) (ds : List Decl) → 12 < 10 ^ w → Every (FullDecl (λ n. n < 10 ^ w)) ds →
-    ((i : ℕ) → i < length ds → LeftTypes (λ t. size t ≤ limit) (left-at ds i)) → limit * weights ds < 10 ^ w → ProgramFits w (run ds .program)
-run-fits w limit ds small h t b =
+pub run-fits : (w limit fuel : ℕ) (ds : List Decl) → 12 < 10 ^ w → Every (FullDecl (λ n. n < 10 ^ w)) ds →
+    ((i : ℕ) → i < length ds → LeftTypes (λ t. size t ≤ limit) (left-at fuel ds i)) → limit * weights ds < 10 ^ w → ProgramFits w (left-program (run fuel ds))
+run-fits w limit fuel ds small h t b =
     let Q : ℕ → Type 0 = λ n. n < 10 ^ w in
     let kind : (n : ℕ) → n ≤ 12 → Q n = λ n k. omega arith in
-    let f = full-split Q kind (below-down (10 ^ w)) (run ds .program) (run-full Q kind (below-down (10 ^ w)) ds h) in
-    let c : length (types-of (run ds .program)) ≤ weights ds = run-count Q kind (below-down (10 ^ w)) ds h in
-    let n : total (types-of (run ds .program)) ≤ limit * length (types-of (run ds .program)) = total-bound limit (types-of (run ds .program)) (run-types (λ t. size t ≤ limit) ds t) in
+    let f = full-split Q kind (below-down (10 ^ w)) (left-program (run fuel ds)) (run-full Q kind (below-down (10 ^ w)) fuel ds h) in
+    let c : length (types-of (left-program (run fuel ds))) ≤ weights ds = run-count Q kind (below-down (10 ^ w)) fuel ds h in
+    let n : total (types-of (left-program (run fuel ds))) ≤ limit * length (types-of (left-program (run fuel ds))) = total-bound limit (types-of (left-program (run fuel ds))) (run-types (λ t. size t ≤ limit) fuel ds t) in
     record { kinds = small; nodes = omega (arith, n, mul-le-mul-left limit c); types = f .1; decls = f .0 }
 
 -- ---- parts of a list of lines
@@ -1006,15 +1006,15 @@ weights-program ls =
 -- ---- the left sheet fits
 -- The lines of the left sheet fit where the sheet's lines do, the types that are left are of at most limit nodes each, and so many
 -- nodes for each declaration and each F line can be counted.
-pub sheet-fits : (w limit : ℕ) (ls : List Line) → 12 < 10 ^ w → AllFit w ls → length ls < 10 ^ w → limit * (heads ls + count-of field-line ls) < 10 ^ w →
-    ((i : ℕ) → i < length (program ls) → LeftTypes (λ t. size t ≤ limit) (left-at (program ls) i)) → AllFit w (left-lines ls (run (program ls) .program))
-sheet-fits w limit ls k h n b t =
+pub sheet-fits : (w limit fuel : ℕ) (ls : List Line) → 12 < 10 ^ w → AllFit w ls → length ls < 10 ^ w → limit * (heads ls + count-of field-line ls) < 10 ^ w →
+    ((i : ℕ) → i < length (program ls) → LeftTypes (λ t. size t ≤ limit) (left-at fuel (program ls) i)) → AllFit w (left-lines ls (left-program (run fuel (program ls))))
+sheet-fits w limit fuel ls k h n b t =
     let Q : ℕ → Type 0 = λ m. m < 10 ^ w in
     let f : Every (Numbered Q) ls = every-map (Fits w) (Numbered Q) (λ l p i. number-fits w (omega arith) l i p) ls h in
-    left-fits w ls (run (program ls) .program) h
-    (run-fits w limit (program ls) k (program-full Q (λ m j. omega arith) (below-down (10 ^ w)) ls f n) t (omega (arith, b, mul-le-mul-left limit (weights-program ls))))
+    left-fits w ls (left-program (run fuel (program ls))) h
+    (run-fits w limit fuel (program ls) k (program-full Q (λ m j. omega arith) (below-down (10 ^ w)) ls f n) t (omega (arith, b, mul-le-mul-left limit (weights-program ls))))
 
-pub sheet-round : (w limit : ℕ) (ls : List Line) → 12 < 10 ^ w → AllFit w ls → length ls < 10 ^ w → limit * (heads ls + count-of field-line ls) < 10 ^ w →
-    ((i : ℕ) → i < length (program ls) → LeftTypes (λ t. size t ≤ limit) (left-at (program ls) i)) →
-    lines w (encodes w (left-lines ls (run (program ls) .program))) ≡ left-lines ls (run (program ls) .program)
-sheet-round w limit ls k h n b t = lines-encodes w (left-lines ls (run (program ls) .program)) (columns-positive w k) (sheet-fits w limit ls k h n b t)
+pub sheet-round : (w limit fuel : ℕ) (ls : List Line) → 12 < 10 ^ w → AllFit w ls → length ls < 10 ^ w → limit * (heads ls + count-of field-line ls) < 10 ^ w →
+    ((i : ℕ) → i < length (program ls) → LeftTypes (λ t. size t ≤ limit) (left-at fuel (program ls) i)) →
+    lines w (encodes w (left-lines ls (left-program (run fuel (program ls))))) ≡ left-lines ls (left-program (run fuel (program ls)))
+sheet-round w limit fuel ls k h n b t = lines-encodes w (left-lines ls (left-program (run fuel (program ls)))) (columns-positive w k) (sheet-fits w limit fuel ls k h n b t)

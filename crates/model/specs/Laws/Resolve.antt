@@ -12,7 +12,7 @@ use native.Mathlib.Omega.{arith}
 use lib.Dec.{T, eqb, leb, ltb, leb→le, le→leb}
 use lib.ListN.{length, getD}
 use Rattle.columns.specs.Column.{pick}
-use Rattle.sheet.specs.ListLaws.{Every, every-map}
+use Rattle.sheet.specs.ListLaws.{mem-every, Every, every-map}
 use Rattle.model.specs.Cty.{
   Cty,
   Ctys,
@@ -120,7 +120,7 @@ use Rattle.model.specs.Layout.{
   layout-of,
 }
 use Rattle.model.specs.Run.{
-  fuel,
+  spent-code,
   with-body,
   all-in,
   collapsed-abbrev,
@@ -735,31 +735,31 @@ pub record Answered (r : Result Cty) : Type 0 where
   pub type : Cty
   pub is-ok : r ≡ ok type
 
-pub fault-code-none : (res : Cty → Result Cty) (cs : List Cty) → Every (λ c. On Any Row ⊥ (res c)) cs → fault-code res cs ≡ 0 → Every (λ c. Answered (res c)) cs
+pub fault-code-none : (res : Cty → Result Cty) (cs : List Cty) → Every (λ c. On Any Row (Unit {0}) (res c)) cs → fault-code res cs ≡ 0 → Every (λ c. Answered (res c)) cs
 unfolding fault-code
 fault-code-none res [] h e = tt
 fault-code-none res (c ∷ cs) h e = go (λ q. fault-code-none res cs (h .1) q) (res c) refl (h .0)
   where
-    go : (fault-code res cs ≡ 0 → Every (λ d. Answered (res d)) cs) → (r : Result Cty) → res c ≡ r → On Any Row ⊥ r → Every (λ d. Answered (res d)) (c ∷ cs)
+    go : (fault-code res cs ≡ 0 → Every (λ d. Answered (res d)) cs) → (r : Result Cty) → res c ≡ r → On Any Row (Unit {0}) r → Every (λ d. Answered (res d)) (c ∷ cs)
     go ih (ok t) q k = (record { type = t; is-ok = q }, ih (rw q at e))
     go ih (fault f) q k = absurd (⊎-elim (λ z. nine f z (rw q at e)) (λ z. ten f z (rw q at e)) k)
-    go ih spent q k = absurd k
+    go ih spent q k = let z : spent-code ≡ 0 = rw q at e in absurd (omega arith)
 
 pub fault-code-ok : (res : Cty → Result Cty) (cs : List Cty) → Every (λ c. Answered (res c)) cs → fault-code res cs ≡ 0
 unfolding fault-code
 fault-code-ok res [] h = refl
 fault-code-ok res (c ∷ cs) h = rw (h .0 .is-ok) (fault-code-ok res cs (h .1))
 
--- a code is 0, 9 or 10
-pub fault-code-row : (res : Cty → Result Cty) (cs : List Cty) → Every (λ c. On Any Row (Unit {0}) (res c)) cs → (fault-code res cs ≡ 0) ⊎ Row (fault-code res cs)
+-- where no fuel runs out, a code is 0, 9 or 10
+pub fault-code-row : (res : Cty → Result Cty) (cs : List Cty) → Every (λ c. On Any Row ⊥ (res c)) cs → (fault-code res cs ≡ 0) ⊎ Row (fault-code res cs)
 unfolding fault-code
 fault-code-row res [] h = inl refl
 fault-code-row res (c ∷ cs) h = go (fault-code-row res cs (h .1)) (res c) refl (h .0)
   where
-    go : (fault-code res cs ≡ 0) ⊎ Row (fault-code res cs) → (r : Result Cty) → res c ≡ r → On Any Row (Unit {0}) r → (fault-code res (c ∷ cs) ≡ 0) ⊎ Row (fault-code res (c ∷ cs))
+    go : (fault-code res cs ≡ 0) ⊎ Row (fault-code res cs) → (r : Result Cty) → res c ≡ r → On Any Row ⊥ r → (fault-code res (c ∷ cs) ≡ 0) ⊎ Row (fault-code res (c ∷ cs))
     go ih (ok t) q k = rw q ih
     go ih (fault f) q k = rw q (inr k)
-    go ih spent q k = rw q ih
+    go ih spent q k = absurd k
 
 -- ---- types that resolve without fault
 pub record Resolved (limit : ℕ) (lay : ℕ → Unfold) (k : ℕ) (c : Cty) : Type 0 where
@@ -780,18 +780,23 @@ module _ (limit : ℕ) (lay : ℕ → Unfold) (k : ℕ) where
   pub resolved-answered : (c : Cty) → Resolved limit lay k c → Answered (resolve-checked limit lay k c)
   resolved-answered c r = record { type = resolve lay k c; is-ok = r .answers }
 
-  -- no fault and no fuel that runs out: every type resolves
-  pub fault-none : (cs : List Cty) → Every (λ c. Unspent (resolve-checked limit lay k c)) cs → fault-code (resolve-checked limit lay k) cs ≡ 0 → Every (Resolved limit lay k) cs
-  fault-none cs h e =
+  row-on : (c : Cty) → On Any Row (Unit {0}) (resolve-checked limit lay k c)
+  row-on c =
+      on-map (λ t. ((resolve lay k c ≡ t) × Normal lay t) × (size t ≤ limit)) Any Row Row (Unit {0}) (Unit {0}) (λ t p. tt) (λ f p. p) (λ u. u) (resolve-checked limit lay k c) (resolve-sound lay limit k c)
+
+  -- no fault: every type resolves
+  pub fault-none : (cs : List Cty) → fault-code (resolve-checked limit lay k) cs ≡ 0 → Every (Resolved limit lay k) cs
+  fault-none cs e =
       every-map (λ c. Answered (resolve-checked limit lay k c)) (Resolved limit lay k) answered-resolved cs
-      (fault-code-none (resolve-checked limit lay k) cs
+      (fault-code-none (resolve-checked limit lay k) cs (mem-every (λ c. On Any Row (Unit {0}) (resolve-checked limit lay k c)) cs (λ c m. row-on c)) e)
+
+  -- a fault is 9 or 10 where no fuel runs out
+  pub fault-row : (cs : List Cty) → Every (λ c. Unspent (resolve-checked limit lay k c)) cs
+      → (fault-code (resolve-checked limit lay k) cs ≡ 0) ⊎ Row (fault-code (resolve-checked limit lay k) cs)
+  fault-row cs h =
+      fault-code-row (resolve-checked limit lay k) cs
       (every-map (λ c. Unspent (resolve-checked limit lay k c)) (λ c. On Any Row ⊥ (resolve-checked limit lay k c))
       (λ c u. unspent-on Any Row (Unit {0}) (resolve-checked limit lay k c) u (row-on c)) cs h)
-      e)
-    where
-      row-on : (c : Cty) → On Any Row (Unit {0}) (resolve-checked limit lay k c)
-      row-on c =
-          on-map (λ t. ((resolve lay k c ≡ t) × Normal lay t) × (size t ≤ limit)) Any Row Row (Unit {0}) (Unit {0}) (λ t p. tt) (λ f p. p) (λ u. u) (resolve-checked limit lay k c) (resolve-sound lay limit k c)
 
   pub resolved-fault : (cs : List Cty) → Every (Resolved limit lay k) cs → fault-code (resolve-checked limit lay k) cs ≡ 0
   resolved-fault cs h =
@@ -799,28 +804,27 @@ module _ (limit : ℕ) (lay : ℕ → Unfold) (k : ℕ) where
 
 -- ---- one declaration
 -- rows 9 and 10 depend on the names that are met alone
-pub decl-fault-local : (limit : ℕ) (ds ds′ : List Decl) (ls ls′ : List Layout) (i j : ℕ) (P : ℕ → Type 0)
+pub decl-fault-local : (limit fuel : ℕ) (ds ds′ : List Decl) (ls ls′ : List Layout) (i j : ℕ) (P : ℕ → Type 0)
     → Closed (unfold-name ds ls) P → Agree (unfold-name ds ls) (unfold-name ds′ ls′) P
     → getD ls i L-opaque ≡ getD ls′ j L-opaque → Every (All P) (resolves (getD ls i L-opaque))
-    → decl-fault limit ds ls i ≡ decl-fault limit ds′ ls′ j
+    → decl-fault limit fuel ds ls i ≡ decl-fault limit fuel ds′ ls′ j
 unfolding decl-fault
-decl-fault-local limit ds ds′ ls ls′ i j P closed agree e h =
+decl-fault-local limit fuel ds ds′ ls ls′ i j P closed agree e h =
     fault-code-cong (resolve-checked limit (unfold-name ds ls) fuel) (resolve-checked limit (unfold-name ds′ ls′) fuel) (resolves (getD ls i L-opaque))
     (every-map (All P) (λ c. resolve-checked limit (unfold-name ds ls) fuel c ≡ resolve-checked limit (unfold-name ds′ ls′) fuel c)
     (λ c a. checked-local (unfold-name ds ls) P closed (unfold-name ds′ ls′) agree limit fuel c a) (resolves (getD ls i L-opaque)) h)
     ∙ ap (λ (l : Layout). fault-code (resolve-checked limit (unfold-name ds′ ls′) fuel) (resolves l)) e
 
--- no fault at a declaration, and no fuel that runs out: its types resolve
-pub decl-resolved : (limit : ℕ) (ds : List Decl) (ls : List Layout) (i : ℕ)
-    → Every (λ c. Unspent (resolve-checked limit (unfold-name ds ls) fuel c)) (resolves (getD ls i L-opaque))
-    → decl-fault limit ds ls i ≡ 0 → Every (Resolved limit (unfold-name ds ls) fuel) (resolves (getD ls i L-opaque))
+-- no fault at a declaration: its types resolve
+pub decl-resolved : (limit fuel : ℕ) (ds : List Decl) (ls : List Layout) (i : ℕ)
+    → decl-fault limit fuel ds ls i ≡ 0 → Every (Resolved limit (unfold-name ds ls) fuel) (resolves (getD ls i L-opaque))
 unfolding decl-fault
-decl-resolved limit ds ls i h e = fault-none limit (unfold-name ds ls) fuel (resolves (getD ls i L-opaque)) h e
+decl-resolved limit fuel ds ls i e = fault-none limit (unfold-name ds ls) fuel (resolves (getD ls i L-opaque)) e
 
-pub resolved-decl : (limit : ℕ) (ds : List Decl) (ls : List Layout) (i : ℕ)
-    → Every (Resolved limit (unfold-name ds ls) fuel) (resolves (getD ls i L-opaque)) → decl-fault limit ds ls i ≡ 0
+pub resolved-decl : (limit fuel : ℕ) (ds : List Decl) (ls : List Layout) (i : ℕ)
+    → Every (Resolved limit (unfold-name ds ls) fuel) (resolves (getD ls i L-opaque)) → decl-fault limit fuel ds ls i ≡ 0
 unfolding decl-fault
-resolved-decl limit ds ls i h = resolved-fault limit (unfold-name ds ls) fuel (resolves (getD ls i L-opaque)) h
+resolved-decl limit fuel ds ls i h = resolved-fault limit (unfold-name ds ls) fuel (resolves (getD ls i L-opaque)) h
 
 -- ---- the left declaration
 module _ (res res′ : Cty → Cty) where

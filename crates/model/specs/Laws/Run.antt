@@ -11,42 +11,26 @@ use Rattle.model.specs.Erasure.{marked, erasure-fixpoint}
 use Rattle.model.specs.Reach.{cyclic}
 use Rattle.model.specs.Layout.{type-names, steps}
 use Rattle.model.specs.Resolve.{Unfold, stays, unfolded, unfold-of, unfolds, unfold-name, resolve, resolve-checked}
-use Rattle.model.specs.Run.{fuel, rw-decl, info, layouts-of, somes, run, unfold-next, returns, resolves, fault-code, decl-fault}
+use Rattle.model.specs.Run.{rw-decl, info, layouts-of, run, lay, layout-of-decl, left-at, info-at, unfold-next, returns, resolves, fault-code, decl-fault}
 use Rattle.model.specs.Laws.Names.{position-same}
 use Rattle.model.specs.Laws.Layout.{positions-same}
 use Rattle.model.specs.Laws.Lists.{length-table, getD-table, table-cong}
 
 -- ---- one declaration
--- what the names of a program become
-abbrev pub lay : List Decl → ℕ → Unfold
-lay ds = unfold-name ds (layouts-of ds)
-
-abbrev pub layout-of-decl : List Decl → ℕ → Layout
-layout-of-decl ds i = getD (layouts-of ds) i L-opaque
-
--- the left declaration of declaration i
-unfoldable pub left-at : List Decl → ℕ → Option Dtype
-left-at ds i = rw-decl (resolve (lay ds) fuel) (dtype-at ds i) (layout-of-decl ds i)
-
--- the verdict of declaration i
-unfoldable pub info-at : List Decl → ℕ → TypeInfo
-info-at ds i =
-    info (marked ds (erasure-fixpoint ds .marks)) (dtype-at ds i) (origin-at ds i) (getD (erasure-fixpoint ds .marks) i false) (layout-of-decl ds i) (left-at ds i)
-
-pub run-program : (ds : List Decl) → run ds .program ≡ somes (table (left-at ds) (length ds))
+pub run-lefts : (fuel : ℕ) (ds : List Decl) → run fuel ds .lefts ≡ table (left-at fuel ds) (length ds)
 unfolding run layouts-of left-at
-run-program ds = refl
+run-lefts fuel ds = refl
 
-pub run-infos : (ds : List Decl) → run ds .infos ≡ table (info-at ds) (length ds)
+pub run-infos : (fuel : ℕ) (ds : List Decl) → run fuel ds .infos ≡ table (info-at fuel ds) (length ds)
 unfolding run layouts-of left-at info-at
-run-infos ds =
+run-infos fuel ds =
     table-cong _ _ (length ds) (λ i h. ap (info (marked ds (erasure-fixpoint ds .marks)) (dtype-at ds i) (origin-at ds i) (getD (erasure-fixpoint ds .marks) i false) (layout-of-decl ds i)) (getD-table _ (length ds) i none h))
 
-pub getD-infos : (ds : List Decl) (i : ℕ) (d : TypeInfo) → i < length ds → getD (run ds .infos) i d ≡ info-at ds i
-getD-infos ds i d h = rw run-infos (getD-table (info-at ds) (length ds) i d h)
+pub getD-infos : (fuel : ℕ) (ds : List Decl) (i : ℕ) (d : TypeInfo) → i < length ds → getD (run fuel ds .infos) i d ≡ info-at fuel ds i
+getD-infos fuel ds i d h = rw run-infos (getD-table (info-at fuel ds) (length ds) i d h)
 
-pub length-infos : (ds : List Decl) → length (run ds .infos) ≡ length ds
-length-infos ds = rw run-infos (length-table (info-at ds) (length ds))
+pub length-infos : (fuel : ℕ) (ds : List Decl) → length (run fuel ds .infos) ≡ length ds
+length-infos fuel ds = rw run-infos (length-table (info-at fuel ds) (length ds))
 
 -- ---- the same types and layouts
 -- Origins apart, all but the verdicts follows from the declarations' types and the layouts.
@@ -62,21 +46,21 @@ module _ (ds ds' : List Decl) (e : length ds ≡ length ds') (t : (i : ℕ) → 
     unfolding unfold-name
     lay-same = fun-ext (λ n. ap₂ (λ (us : List Unfold) (i : ℕ). getD us i stays) unfolds-same (position-same ds ds' n e t))
 
-    pub left-same : (i : ℕ) → i < length ds → left-at ds i ≡ left-at ds' i
+    pub left-same : (fuel i : ℕ) → i < length ds → left-at fuel ds i ≡ left-at fuel ds' i
     unfolding left-at
-    left-same i h =
+    left-same fuel i h =
         ap₂ (λ (u : ℕ → Unfold) (d : Dtype). rw-decl (resolve u fuel) d (layout-of-decl ds i)) lay-same (t i h)
         ∙ ap (λ (l : List Layout). rw-decl (resolve (lay ds') fuel) (dtype-at ds' i) (getD l i L-opaque)) q
 
-    pub program-same : run ds .program ≡ run ds' .program
-    program-same =
-        run-program ds
-        ∙ (ap somes (table-cong (left-at ds) (left-at ds') (length ds) left-same ∙ ap (table (left-at ds')) e)
-        ∙ sym (run-program ds'))
+    pub lefts-same : (fuel : ℕ) → run fuel ds .lefts ≡ run fuel ds' .lefts
+    lefts-same fuel =
+        run-lefts fuel ds
+        ∙ (table-cong (left-at fuel ds) (left-at fuel ds') (length ds) (left-same fuel) ∙ ap (table (left-at fuel ds')) e)
+        ∙ sym (run-lefts fuel ds')
 
-    pub fault-same : (limit i : ℕ) → decl-fault limit ds (layouts-of ds) i ≡ decl-fault limit ds' (layouts-of ds') i
+    pub fault-same : (limit fuel i : ℕ) → decl-fault limit fuel ds (layouts-of ds) i ≡ decl-fault limit fuel ds' (layouts-of ds') i
     unfolding decl-fault
-    fault-same limit i =
+    fault-same limit fuel i =
         ap₂ (λ (u : ℕ → Unfold) (l : List Layout). fault-code (resolve-checked limit u fuel) (resolves (getD l i L-opaque))) lay-same q
 
     type-names-same : (o : Option Cty) → type-names ds o ≡ type-names ds' o
