@@ -11,9 +11,9 @@ use Rattle.columns.specs.Column.{pick}
 use Rattle.sheet.specs.Format.{Format}
 use Rattle.sheet.specs.Sheet.{lines}
 use Rattle.model.specs.Cty.{Cty}
-use Rattle.model.specs.Decl.{Field, Ctor, CtorLayout, TypeInfo, Origin, here, imported, Decl, dtype-at, origin-at}
+use Rattle.model.specs.Decl.{table, Field, Ctor, CtorLayout, TypeInfo, Origin, here, imported, Decl, dtype-at, origin-at}
 use Rattle.model.specs.Erasure.{cty-erased, marked, erasure-fixpoint}
-use Rattle.model.specs.Layout.{slots, kept, ctor-layout, ctor-layouts}
+use Rattle.model.specs.Layout.{layouts-of-ctors, slots, kept, ctor-layout, ctor-layouts}
 use Rattle.model.specs.Run.{info, run, info-at, left-at, layout-of-decl}
 use Rattle.meaning.specs.Program.{program}
 use Rattle.answer.specs.Answer.{Answer, verdict-sheet, left-sheet, answered, answer}
@@ -70,9 +70,9 @@ kept-unerased er (f ∷ fs) = go (cty-erased er (f .fd-type)) (kept-unerased er 
     go false h = ap (λ (gs : List Field). f ∷ gs) h
 
 pub map-ctors : (er : ℕ → Bool) (cs : List Ctor)
-    → map (λ c. ctor-layout c (slots er (c .ct-fields))) cs
+    → layouts-of-ctors er cs
     ≡ map (λ c. record { cl-name = c .ct-name; cl-slots = map (λ x. not (cty-erased er (x .fd-type))) (c .ct-fields); cl-fields = unerased er (c .ct-fields) }) cs
-unfolding ctor-layout slots
+unfolding table ctor-layout slots
 map-ctors er [] = refl
 map-ctors er (c ∷ cs) =
     ap₂ (λ (fs : List Field) (r : List CtorLayout). record { cl-name = c .ct-name; cl-slots = slots er (c .ct-fields); cl-fields = fs } ∷ r) (kept-unerased er (c .ct-fields)) (map-ctors er cs)

@@ -17,6 +17,10 @@ pub record Ctor : Type 0 where
   pub ct-name : ℕ
   pub ct-fields : List Field
 
+-- what stands for a constructor past the last
+abbrev pub no-ctor : Ctor
+no-ctor = record { ct-name = 0; ct-fields = [] }
+
 pub data Body : Type 0 where
   TAbstract : Body
   TAbbrev : Cty → Body

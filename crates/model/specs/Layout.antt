@@ -11,6 +11,7 @@ use Rattle.model.specs.Cty.{Cty, uninline, names-of-cty}
 use Rattle.model.specs.Decl.{
   Field,
   Ctor,
+  no-ctor,
   Body,
   TAbstract,
   TAbbrev,
@@ -52,9 +53,13 @@ kept (b ∷ bs) (f ∷ fs) = let gs : List Field = kept bs fs in pick b (f ∷ g
 unfoldable pub ctor-layout : Ctor → List Bool → CtorLayout
 ctor-layout c bs = record { cl-name = c .ct-name; cl-slots = bs; cl-fields = kept bs (c .ct-fields) }
 
+-- the layouts of constructors, by their places
+abbrev pub layouts-of-ctors : (ℕ → Bool) → List Ctor → List CtorLayout
+layouts-of-ctors er cs = table (λ i. ctor-layout (getD cs i no-ctor) (slots er (getD cs i no-ctor .ct-fields))) (length cs)
+
 -- Layout's `ctor_layouts`
 unfoldable pub ctor-layouts : (ℕ → Bool) → Dtype → List CtorLayout
-ctor-layouts er d = map (λ c. ctor-layout c (slots er (c .ct-fields))) (ctors-of-tydef d)
+ctor-layouts er d = layouts-of-ctors er (ctors-of-tydef d)
 
 -- ---- newtypes
 -- the place of the first kept field

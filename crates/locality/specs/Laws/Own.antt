@@ -7,7 +7,7 @@ use mathlib.Core.Option.{Option, none, some}
 use Prim.Native.Nat.{ℕ}
 use Rattle.columns.specs.Column.{pick}
 use Rattle.model.specs.Cty.{names-of-cty}
-use Rattle.model.specs.Decl.{
+use Rattle.model.specs.Decl.{table, 
   Field,
   Ctor,
   Body,
@@ -31,7 +31,7 @@ use Rattle.model.specs.Decl.{
   here,
   imported,
 }
-use Rattle.model.specs.Layout.{ctor-layout, ctor-layouts, newtype-of-ctor, newtype-of, candidate, collapse, layout-of-body, layout-of}
+use Rattle.model.specs.Layout.{slots, layouts-of-ctors, ctor-layout, ctor-layouts, newtype-of-ctor, newtype-of, candidate, collapse, layout-of-body, layout-of}
 use Rattle.model.specs.Names.{fields-names, ctors-names, body-names, dtype-names}
 use Rattle.model.specs.Laws.Cty.{uninline-names}
 use Rattle.model.specs.Laws.Names.{Among, among-append, kept-names, ctors-own}
@@ -49,10 +49,10 @@ layout-names (L-struct cls) = cls-names cls
 layout-names (L-abbrev c) = names-of-cty c
 layout-names L-opaque = []
 
-cls-by-map : (er : Ctor → List Bool) (cs : List Ctor) → Among (cls-names (map (λ c. ctor-layout c (er c)) cs)) (ctors-names cs)
-unfolding cls-names ctors-names ctor-layout
-cls-by-map er [] n m = m
-cls-by-map er (c ∷ cs) n m = among-append _ _ _ _ (kept-names (er c) (c .ct-fields)) (cls-by-map er cs) n m
+ctors-own-layouts : (er : ℕ → Bool) (cs : List Ctor) → Among (cls-names (layouts-of-ctors er cs)) (ctors-names cs)
+unfolding table cls-names ctors-names ctor-layout
+ctors-own-layouts er [] n m = m
+ctors-own-layouts er (c ∷ cs) n m = among-append _ _ _ _ (kept-names (slots er (c .ct-fields)) (c .ct-fields)) (ctors-own-layouts er cs) n m
 
 -- the constructors' layouts of a declaration, however the slots were found
 abbrev pub Own : Dtype → List CtorLayout → Type 0
@@ -60,7 +60,7 @@ Own d cls = Among (cls-names cls) (dtype-names d)
 
 pub ctor-layouts-own : (er : ℕ → Bool) (d : Dtype) → Own d (ctor-layouts er d)
 unfolding ctor-layouts dtype-names
-ctor-layouts-own er d n m = ctors-own (d .dt-name) (d .dt-body) n (cls-by-map _ (ctors-of-tydef d) n m)
+ctor-layouts-own er d n m = ctors-own (d .dt-name) (d .dt-body) n (ctors-own-layouts er (ctors-of-tydef d) n m)
 
 -- ---- newtypes
 abbrev pub OptionNames : List ℕ → Option NewtypeLayout → Type 0

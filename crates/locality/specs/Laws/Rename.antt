@@ -135,7 +135,7 @@ use Rattle.model.specs.Resolve.{
   checkeds,
   resolve-checked,
 }
-use Rattle.model.specs.Layout.{
+use Rattle.model.specs.Layout.{layouts-of-ctors, 
   slots,
   kept,
   ctor-layout,
@@ -628,11 +628,14 @@ module _ (ρ : ℕ → ℕ) where
         ap (ctor-layout (rename-ctor ρ c)) (slots-rename (c .ct-fields))
         ∙ ap (λ (fs : List Field). record { cl-name = ρ (c .ct-name); cl-slots = slots er (c .ct-fields); cl-fields = fs }) (kept-rename (slots er (c .ct-fields)) (c .ct-fields))
 
+    layouts-of-ctors-rename : (cs : List Ctor) → layouts-of-ctors er' (map (rename-ctor ρ) cs) ≡ map (rename-ctor-layout ρ) (layouts-of-ctors er cs)
+    unfolding table
+    layouts-of-ctors-rename [] = refl
+    layouts-of-ctors-rename (c ∷ cs) = ap₂ _∷_ (ctor-layout-rename c) (layouts-of-ctors-rename cs)
+
     pub ctor-layouts-rename : (d : Dtype) → ctor-layouts er' (rename-dtype ρ d) ≡ map (rename-ctor-layout ρ) (ctor-layouts er d)
     unfolding ctor-layouts
-    ctor-layouts-rename d =
-        ap (map (λ c. ctor-layout c (slots er' (c .ct-fields)))) (ctors-rename (d .dt-name) (d .dt-body))
-        ∙ map-square (λ c. ctor-layout c (slots er (c .ct-fields))) (rename-ctor ρ) (rename-ctor-layout ρ) (λ c. ctor-layout c (slots er' (c .ct-fields))) ctor-layout-rename (ctors-of-tydef d)
+    ctor-layouts-rename d = ap (layouts-of-ctors er') (ctors-rename (d .dt-name) (d .dt-body)) ∙ layouts-of-ctors-rename (ctors-of-tydef d)
 
   -- ---- newtypes
   newtype-of-ctor-rename : (n : ℕ) (bs : List Bool) (fs : List Field) → newtype-of-ctor (ρ n) bs (map (rename-field ρ) fs) ≡ rename-candidate ρ (newtype-of-ctor n bs fs)

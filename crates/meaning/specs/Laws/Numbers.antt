@@ -90,7 +90,7 @@ use Rattle.model.specs.Decl.{
   close-fields,
 }
 use Rattle.model.specs.Erasure.{marked, erasure-fixpoint}
-use Rattle.model.specs.Layout.{slots, kept, ctor-layout, ctor-layouts, newtype-of-ctor, newtype-of, candidate, dropped, collapse, layout-of-body, layout-of, compute-layouts}
+use Rattle.model.specs.Layout.{layouts-of-ctors, slots, kept, ctor-layout, ctor-layouts, newtype-of-ctor, newtype-of, candidate, dropped, collapse, layout-of-body, layout-of, compute-layouts}
 use Rattle.model.specs.Run.{left-program, with-body, all-in, collapsed-abbrev, resolved-field, resolved-ctor, struct-body, rw-decl, somes, layouts-of, run, lay, left-at}
 use Rattle.meaning.specs.Program.{
   arg-line,
@@ -130,7 +130,7 @@ use Rattle.model.specs.Laws.Resolve.{Stays, Normal, Fields, Ctors, BodyTypes, L
 use Rattle.model.specs.Laws.Layout.{candidates-of, getD-candidates, getD-layouts, getD-layouts-past}
 use Rattle.model.specs.Laws.Run.{run-lefts}
 use Rattle.meaning.specs.Laws.Output.{types-of-fields, types-of-ctors, types-of-body, types-of, TypeNumbers, TypesNumbers, FieldNumbers, CtorNumbers, BodyNumbers, DtypeNumbers, total, total-bound, ProgramFits, every-select, number-fits, left-fits, NamesIn, left-names, columns-positive}
-use Rattle.model.specs.Laws.Lists.{getD-table, getD-table-past}
+use Rattle.model.specs.Laws.Lists.{length-table, getD-table, getD-table-past}
 use Rattle.model.specs.Laws.Names.{declared-cases}
 
 -- ---- the numbers of types
@@ -369,8 +369,8 @@ module _ (Q : ℕ → Type 0) (kind : (n : ℕ) → n ≤ 12 → Q n) (down : (m
   ctor-layout-full c bs h = (h .0, down (length (kept bs (c .ct-fields))) (length (c .ct-fields)) (length-kept bs (c .ct-fields)) (h .1), every-kept (FullField Q) bs (c .ct-fields) (h .2))
 
   layouts-by : (er : ℕ → Bool) (cs : List Ctor) → Every (FullCtor Q) cs →
-      Every (FullLayouts Q) (map (λ c. ctor-layout c (slots er (c .ct-fields))) cs) × (kept-fields (map (λ c. ctor-layout c (slots er (c .ct-fields))) cs) ≤ ctor-fields cs)
-  unfolding kept-fields ctor-fields ctor-layout
+      Every (FullLayouts Q) (layouts-of-ctors er cs) × (kept-fields (layouts-of-ctors er cs) ≤ ctor-fields cs)
+  unfolding table kept-fields ctor-fields ctor-layout
   layouts-by er [] h = (tt, omega arith)
   layouts-by er (c ∷ cs) h =
       let k = layouts-by er cs (h .1) in
@@ -381,7 +381,7 @@ module _ (Q : ℕ → Type 0) (kind : (n : ℕ) → n ≤ 12 → Q n) (down : (m
   ctor-layouts-full er d h =
       let k = ctors-full (d .dt-name) (d .dt-body) (h .name) (h .body) in
       let r = layouts-by er (ctors-of-tydef d) (k .1) in
-      (rw length-map (k .0), r .0, omega (arith, r .1, k .2))
+      (rw length-table (k .0), r .0, omega (arith, r .1, k .2))
 
   newtype-ctor-full : (b n : ℕ) (bs : List Bool) (fs : List Field) → Every (FullField Q) fs → FullOption Q b (newtype-of-ctor n bs fs)
   unfolding newtype-of-ctor

@@ -51,7 +51,7 @@ use Rattle.model.specs.Decl.{
   close-fields,
 }
 use Rattle.model.specs.Erasure.{cty-erased, marked, erasure-fixpoint}
-use Rattle.model.specs.Layout.{slots, ctor-layout, ctor-layouts, newtype-of-ctor, newtype-of, candidate, candidates, dropped, collapse, layout-of-body, layout-of}
+use Rattle.model.specs.Layout.{layouts-of-ctors, slots, ctor-layout, ctor-layouts, newtype-of-ctor, newtype-of, candidate, candidates, dropped, collapse, layout-of-body, layout-of}
 use Rattle.model.specs.Names.{pin, pins}
 use Rattle.model.specs.Run.{info, run}
 use Rattle.meaning.specs.Program.{
@@ -1028,13 +1028,13 @@ concat (bs ∷ bss) = bs ++ concat bss
 abbrev pub slots-of : (ℕ → Bool) → List Ctor → List (List Bool)
 slots-of er cs = map (λ c. slots er (c .ct-fields)) cs
 
-pub all-slots-concat : (er : ℕ → Bool) (cs : List Ctor) → all-slots (map (λ c. ctor-layout c (slots er (c .ct-fields))) cs) ≡ concat (slots-of er cs)
-unfolding all-slots concat ctor-layout
+pub all-slots-concat : (er : ℕ → Bool) (cs : List Ctor) → all-slots (layouts-of-ctors er cs) ≡ concat (slots-of er cs)
+unfolding table all-slots concat ctor-layout
 all-slots-concat er [] = refl
 all-slots-concat er (c ∷ cs) = ap (λ (r : List Bool). slots er (c .ct-fields) ++ r) (all-slots-concat er cs)
 
-ctor-layouts-slots : (er : ℕ → Bool) (cs : List Ctor) → ctor-layouts-by cs (slots-of er cs) ≡ map (λ c. ctor-layout c (slots er (c .ct-fields))) cs
-unfolding ctor-layouts-by
+ctor-layouts-slots : (er : ℕ → Bool) (cs : List Ctor) → ctor-layouts-by cs (slots-of er cs) ≡ layouts-of-ctors er cs
+unfolding table ctor-layouts-by
 ctor-layouts-slots er [] = refl
 ctor-layouts-slots er (c ∷ cs) = ap (λ (r : List CtorLayout). ctor-layout c (slots er (c .ct-fields)) ∷ r) (ctor-layouts-slots er cs)
 

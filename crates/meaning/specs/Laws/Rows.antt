@@ -49,7 +49,7 @@ use Rattle.model.specs.Decl.{
   close-body,
   close-fields,
 }
-use Rattle.model.specs.Layout.{slots, kept, ctor-layout, ctor-layouts, newtype-of-ctor, newtype-of}
+use Rattle.model.specs.Layout.{layouts-of-ctors, slots, kept, ctor-layout, ctor-layouts, newtype-of-ctor, newtype-of}
 use Rattle.meaning.specs.declared.Due.{Due}
 use Rattle.meaning.specs.declared.Due.the-variants.{Header, Within, Broken}
 use Rattle.meaning.specs.Program.{
@@ -1107,9 +1107,9 @@ one-field n bs (f ∷ []) l e = refl
 one-field n bs (f ∷ g ∷ fs) l e = none-some l e
 
 -- a newtype has one constructor with one kept field
-newtype-one : (er : ℕ → Bool) (cs : List Ctor) (l : NewtypeLayout) → newtype-of (map (λ c. ctor-layout c (slots er (c .ct-fields))) cs) ≡ some l
+newtype-one : (er : ℕ → Bool) (cs : List Ctor) (l : NewtypeLayout) → newtype-of (layouts-of-ctors er cs) ≡ some l
     → (length cs ≡ 1) × (trues (concat (slots-of er cs)) ≡ 1)
-unfolding newtype-of ctor-layout concat
+unfolding table newtype-of ctor-layout concat
 newtype-one er [] l e = none-some l e
 newtype-one er (c ∷ []) l e = (
   refl,

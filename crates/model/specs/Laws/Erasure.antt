@@ -14,7 +14,7 @@ use Rattle.sheet.specs.ListLaws.{getD-within}
 use Rattle.model.specs.Cty.{Cty, Ctys, TUnit, TAny, TExn, TVar, TInt, TFloat, TConst, TArrow, TApp, TTuple, TBuf, TRef, TInline, nil, cons, gather, gathers, names-of-cty}
 use Rattle.model.specs.Decl.{Field, Ctor, Body, TAbstract, TAbbrev, TRecord, TVariant, Dtype, Erased, Realized, has-flag, ctors-of, CtorLayout, bit, TypeInfo, Origin, here, imported, Decl, no-decl, dtype-at, origin-at, table, position}
 use Rattle.model.specs.Erasure.{is-pure, cty-erased, ctys-erased, fields-erased, body-erased, dtype-erased, marked, rule-of, rule, start-of, start, erasure-fixpoint}
-use Rattle.model.specs.Layout.{slots, ctor-layout, ctor-layouts}
+use Rattle.model.specs.Layout.{layouts-of-ctors, slots, ctor-layout, ctor-layouts}
 use Rattle.model.specs.Names.{fields-names, ctors-names, body-names, dtype-names, Declared, Distinct, Agree, Pin, Pinned}
 use Rattle.model.specs.Laws.Names.{position-name, position-declared, position-distinct, position-same, agree-sym, ctors-own}
 use Rattle.model.specs.Laws.Rounds.{At, Le, At-lt, Le-antisym, Monotone, Sound, Closed, Made, settle-length, settle-sound, settle-least, settle-closed, settle-made, settle-rounds}
@@ -156,8 +156,8 @@ module _ (er er' : ℕ → Bool) where
       (slots-local fs (λ n m. h n (Memᴰ·append-right (names-of-cty (f .fd-type)) m)))
 
   ctors-local : (cs : List Ctor) → Alike er er' (ctors-names cs)
-      → map (λ (c : Ctor). ctor-layout c (slots er (c .ct-fields))) cs ≡ map (λ (c : Ctor). ctor-layout c (slots er' (c .ct-fields))) cs
-  unfolding ctors-names
+      → layouts-of-ctors er cs ≡ layouts-of-ctors er' cs
+  unfolding ctors-names table
   ctors-local [] h = refl
   ctors-local (c ∷ cs) h =
       ap₂ (λ (x : List Bool) (l : List CtorLayout). ctor-layout c x ∷ l)

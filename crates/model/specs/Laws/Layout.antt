@@ -13,9 +13,9 @@ use borrow.Author.Tests.{ltb-false}
 use Rattle.columns.specs.Column.{pick}
 use Rattle.sheet.specs.ListLaws.{false-true, same-test}
 use Rattle.model.specs.Cty.{Cty, names-of-cty, uninline}
-use Rattle.model.specs.Decl.{Field, Ctor, Body, TAbstract, TAbbrev, TRecord, TVariant, Dtype, NoNewtype, has-flag, ctors-of, ctors-of-tydef, CtorLayout, NewtypeLayout, Layout, L-erased, L-newtype, L-struct, L-abbrev, L-opaque, Origin, here, imported, Decl, dtype-at, origin-at, position}
+use Rattle.model.specs.Decl.{table, Field, Ctor, Body, TAbstract, TAbbrev, TRecord, TVariant, Dtype, NoNewtype, has-flag, ctors-of, ctors-of-tydef, CtorLayout, NewtypeLayout, Layout, L-erased, L-newtype, L-struct, L-abbrev, L-opaque, Origin, here, imported, Decl, dtype-at, origin-at, position}
 use Rattle.model.specs.Erasure.{marked}
-use Rattle.model.specs.Layout.{
+use Rattle.model.specs.Layout.{layouts-of-ctors, 
   slots,
   kept,
   ctor-layout,
@@ -208,7 +208,7 @@ pub record Candidate (er : ℕ → Bool) (d : Dtype) (e : Bool) (nt : NewtypeLay
 
 module _ (er : ℕ → Bool) (d : Dtype) (e : Bool) (nt : NewtypeLayout) where
   newtype-is : e ≡ false → has-flag d NoNewtype ≡ false → newtype-of (ctor-layouts er d) ≡ some nt → Candidate er d e nt
-  unfolding ctor-layouts ctor-layout newtype-of newtype-of-ctor
+  unfolding table ctor-layouts ctor-layout newtype-of newtype-of-ctor
   newtype-is p q h = by (ctors-of-tydef d) refl h
     where
       on : (c : Ctor) → ctors-of-tydef d ≡ c ∷ [] → (fs : List Field) → kept (slots er (c .ct-fields)) (c .ct-fields) ≡ fs
@@ -218,13 +218,13 @@ module _ (er : ℕ → Bool) (d : Dtype) (e : Bool) (nt : NewtypeLayout) where
           record { ctor = c; field = f; not-erased = p; allowed = q; one-ctor = u; one-kept = v; made = cc }
       on c u (f ∷ g ∷ fs) v z = let y : _≡_ {A = ℕ} 0 1 = cc in absurd (omega arith)
 
-      by : (cs : List Ctor) → ctors-of-tydef d ≡ cs → newtype-of (map (λ c. ctor-layout c (slots er (c .ct-fields))) cs) ≡ some nt → Candidate er d e nt
+      by : (cs : List Ctor) → ctors-of-tydef d ≡ cs → newtype-of (layouts-of-ctors er cs) ≡ some nt → Candidate er d e nt
       by [] u z = let y : _≡_ {A = ℕ} 0 1 = cc in absurd (omega arith)
       by (c ∷ []) u z = on c u (kept (slots er (c .ct-fields)) (c .ct-fields)) refl z
       by (c ∷ c₁ ∷ cs) u z = let y : _≡_ {A = ℕ} 0 1 = cc in absurd (omega arith)
 
   pub candidate-iff : (candidate d here e (ctor-layouts er d) ≡ some nt) ↔ Candidate er d e nt
-  unfolding candidate ctor-layouts ctor-layout newtype-of newtype-of-ctor
+  unfolding table candidate ctor-layouts ctor-layout newtype-of newtype-of-ctor
   candidate-iff = (λ h. by e (has-flag d NoNewtype) refl refl h, λ k. rw (k .not-erased, k .allowed, k .one-ctor, k .one-kept, k .made))
     where
       by : (x y : Bool) → e ≡ x → has-flag d NoNewtype ≡ y → pick (x || y) none (newtype-of (ctor-layouts er d)) ≡ some nt → Candidate er d e nt

@@ -82,7 +82,7 @@ use Rattle.model.specs.Resolve.{
   checkeds,
   resolve-checked,
 }
-use Rattle.model.specs.Decl.{
+use Rattle.model.specs.Decl.{table, 
   Field,
   Ctor,
   Body,
@@ -108,7 +108,7 @@ use Rattle.model.specs.Decl.{
   Decl,
   member,
 }
-use Rattle.model.specs.Layout.{
+use Rattle.model.specs.Layout.{layouts-of-ctors, 
   slots,
   ctor-layout,
   ctor-layouts,
@@ -959,12 +959,12 @@ module _ (b : Body) (cls : List CtorLayout) (m : StructMatches b cls) where
   collapse-matches false (some nt) = tt
 
 pub layout-matches : (er : ℕ → Bool) (d : Dtype) (e drop : Bool) (cand : Option NewtypeLayout) → Matches (d .dt-body) (layout-of d here e drop cand (ctor-layouts er d))
-unfolding layout-of layout-of-body ctor-layouts ctors-of
+unfolding table layout-of layout-of-body ctor-layouts ctors-of
 layout-matches er d true drop cand = tt
 layout-matches er d false drop cand = go (d .dt-body)
   where
-    go : (b : Body) → Matches b (layout-of-body b drop cand (map (λ c. ctor-layout c (slots er (c .ct-fields))) (ctors-of (d .dt-name) b)))
+    go : (b : Body) → Matches b (layout-of-body b drop cand (layouts-of-ctors er (ctors-of (d .dt-name) b)))
     go TAbstract = tt
     go (TAbbrev c) = tt
-    go (TRecord fs) = collapse-matches (TRecord fs) (map (λ c. ctor-layout c (slots er (c .ct-fields))) (ctors-of (d .dt-name) (TRecord fs))) tt drop cand
-    go (TVariant cs) = collapse-matches (TVariant cs) (map (λ c. ctor-layout c (slots er (c .ct-fields))) (ctors-of (d .dt-name) (TVariant cs))) tt drop cand
+    go (TRecord fs) = collapse-matches (TRecord fs) (layouts-of-ctors er (ctors-of (d .dt-name) (TRecord fs))) tt drop cand
+    go (TVariant cs) = collapse-matches (TVariant cs) (layouts-of-ctors er (ctors-of (d .dt-name) (TVariant cs))) tt drop cand
