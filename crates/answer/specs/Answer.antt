@@ -1,9 +1,10 @@
 -- The answer that the build owes: code, place, rounds and what is written to each output, as a
 -- function of the sheet's bytes and the two outputs' lengths (document 01, "What a call returns").
 -- Assumes nothing.
+use mathlib.Core.Path.{_≡_}
 use mathlib.Core.List.{List, [], _∷_, _++_}
 use mathlib.Core.Bool.{Bool, true, false, not}
-use Prim.Native.Nat.{ℕ, suc}
+use Prim.Native.Nat.{_+_, _*_, _^_, _≤_, _<_, ℕ, suc}
 use lib.Dec.{eqb, ltb}
 use lib.ListN.{length, drop}
 use Rattle.sheet.specs.Format.{Format}
@@ -126,3 +127,29 @@ answer f b v l = answered f b (refusal (rows f b v l))
 -- an output after the call: what is written, and then its bytes as they were
 abbrev pub after : List ℕ → List ℕ → List ℕ
 after written old = written ++ drop (length written) old
+
+-- ---- what is claimed of it
+-- the test of a row holds nowhere below its bound
+abbrev pub Clear : ℕ → (ℕ → Bool) → Type 0
+Clear n p = (i : ℕ) → i < n → p i ≡ false
+
+-- no row applies
+pub record Passes (f : Format) (b : List ℕ) (v l : ℕ) : Type 0 where
+  pub pass1 : row1 f b ≡ false
+  pub pass2 : Clear (count (f .columns) b) (λ i. isBad (line (f .columns) b i))
+  pub pass3 : Clear (suc (count (f .columns) b)) (row3 (raws (f .columns) b))
+  pub pass4 : Clear (count (f .columns) b) (row4 f (lines (f .columns) b))
+  pub pass5 : Clear (count (f .columns) b) (row5 (lines (f .columns) b))
+  pub pass6 : Clear (count (f .columns) b) (row6 (lines (f .columns) b))
+  pub pass7 : Clear (count (f .columns) b) (row7 (lines (f .columns) b))
+  pub pass8 : Clear (count (f .columns) b) (row8 (program (lines (f .columns) b)) (lines (f .columns) b))
+  pub pass9-10 : Clear (count (f .columns) b) (row9-10 f (program (lines (f .columns) b)) (lines (f .columns) b))
+  pub pass11 : length b ≤ v
+  pub pass12 : length (left-sheet f (lines (f .columns) b)) ≤ l
+
+-- Columns and fuel that a format's limits do not outgrow: its kinds, its lines, and the nodes of a type for each declaration and each field.
+pub record Ample (f : Format) : Type 0 where
+  pub kinds : 12 < 10 ^ f .columns
+  pub counts : f .lines < 10 ^ f .columns
+  pub nodes : f .nodes * (f .decls + f .fields) < 10 ^ f .columns
+  pub depth : f .decls < f .fuel

@@ -29,27 +29,25 @@ use Rattle.model.specs.Decl.{
   position,
   ctors-of-tydef,
 }
-use Rattle.model.specs.Erasure.{cty-erased, marked, rule, start, erasure-fixpoint}
+use Rattle.model.specs.Erasure.{cty-erased, marked, rule, start, erasure-fixpoint, Made, locals}
 use Rattle.model.specs.Reach.{Reach}
-use Rattle.model.specs.Layout.{ctor-layouts, guard-next}
+use Rattle.model.specs.Layout.{ctor-layouts, guard-next, Candidate, candidates-of}
 use Rattle.model.specs.Resolve.{stays, resolve, ok, resolve-checked}
 use Rattle.model.specs.Run.{left-program, run, layouts-of, resolves, decl-fault, returns, lay, layout-of-decl, left-at, info-at}
 use Rattle.meaning.specs.Program.{type-line, program}
 use Rattle.meaning.specs.Output.{verdict-lines, left-lines}
-use Rattle.answer.specs.Answer.{Answer, verdict-sheet, left-sheet, answered, answer, after}
-use Rattle.model.specs.Names.{Declared, Agree}
+use Rattle.answer.specs.Answer.{Answer, verdict-sheet, left-sheet, answered, answer, after, Passes, Ample}
+use Rattle.model.specs.Names.{Declared, Agree, OwnImports}
 use Rattle.answer.specs.Cut.{Sheets, build, builds, join, Cut}
-use Rattle.model.specs.Laws.Rounds.{Made}
-use Rattle.model.specs.Laws.Erasure.{locals, erasure-solves, erasure-least, erasure-made, erasure-rounds}
-use Rattle.model.specs.Laws.Layout.{Candidate, candidates-of}
+use Rattle.model.specs.Laws.Erasure.{erasure-solves, erasure-least, erasure-made, erasure-rounds}
 use Rattle.model.specs.Laws.Layout as layouts
 use Rattle.model.specs.Laws.Cty.{every-mem}
 use Rattle.model.specs.Laws.Run.{getD-infos}
-use Rattle.locality.specs.Laws.Locality.{OwnImports, marks-local, layouts-local, info-local, left-local, fault-local, returns-local}
+use Rattle.locality.specs.Laws.Locality.{marks-local, layouts-local, info-local, left-local, fault-local, returns-local}
 use Rattle.locality.specs.Laws.Fuel.{fuel-same}
 use Rattle.locality.specs.Laws.Rename.{Injective, rename-decls, SameRenamed, locality-renamed}
-use Rattle.answer.specs.Laws.Answer.{Passes, sheets, build-passes, accepted-passes, passes-accepted, Nothing, refused-nothing, after-length, after-past}
-use Rattle.answer.specs.Laws.Left.{Ample, pass-no-return, pass-resolved, few-decls, left-sheet-names, verdict-sheet-length}
+use Rattle.answer.specs.Laws.Answer.{sheets, build-passes, accepted-passes, passes-accepted, Nothing, refused-nothing, after-length, after-past}
+use Rattle.answer.specs.Laws.Left.{pass-no-return, pass-resolved, few-decls, left-sheet-names, verdict-sheet-length}
 use Rattle.answer.specs.Laws.Build.{Split, split-steps, split-nothing, prefix-verdict, pass-whole}
 use Rattle.answer.specs.Laws.Split.{joined-parts, cut-splits, cut-first, cut-builds}
 use Rattle.claims.specs.Unerased.{unerased}

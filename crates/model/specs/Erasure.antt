@@ -1,7 +1,9 @@
 -- Erasure: section 5.1 of the source's Layout file. Assumes nothing.
+use mathlib.Core.Logic.{_≢_}
+use mathlib.Core.Path.{_≡_}
 use mathlib.Core.List.{List, [], _∷_, map}
 use mathlib.Core.Bool.{Bool, true, false, _&&_, not}
-use Prim.Native.Nat.{ℕ, zero, suc}
+use Prim.Native.Nat.{_<_, _+_, ℕ, zero, suc}
 use lib.Dec.{eqb}
 use lib.ListN.{length, getD, set}
 use Rattle.columns.specs.Column.{pick}
@@ -81,6 +83,10 @@ same (true ∷ s) (false ∷ t) = false
 same (false ∷ s) (true ∷ t) = false
 same (false ∷ s) (false ∷ t) = same s t
 
+-- one round
+unfoldable pub round : (List Bool → ℕ → Bool) → List Bool → List Bool
+round r s = sweep r (length s) 0 s
+
 -- the marks that the rounds end in, and how many there were, the last one, which changes nothing, included
 pub record Settled : Type 0 where
   pub marks : List Bool
@@ -89,7 +95,7 @@ pub record Settled : Type 0 where
 unfoldable pub settle : (List Bool → ℕ → Bool) → ℕ → List Bool → Settled
 settle r zero s = record { marks = s; rounds = 0 }
 settle r (suc k) s =
-    let t : List Bool = sweep r (length s) 0 s in
+    let t : List Bool = round r s in
     elim (same t s) [
       | true ↦ record { marks = s; rounds = 1 }
       | false ↦ let u : Settled = settle r k t in record { marks = u .marks; rounds = suc (u .rounds) }
@@ -106,3 +112,28 @@ start ds = map (λ d. start-of (d .origin)) ds
 -- Layout's `erasure_fixpoint`, its fuel one more than there are declarations
 unfoldable pub erasure-fixpoint : List Decl → Settled
 erasure-fixpoint ds = settle (rule ds) (suc (length ds)) (start ds)
+
+-- ---- what is claimed of it
+-- the marks after k rounds
+unfoldable pub rounds-made : (List Bool → ℕ → Bool) → ℕ → List Bool → List Bool
+rounds-made r zero s = s
+rounds-made r (suc k) s = round r (rounds-made r k s)
+
+-- `rounds` is the number of rounds made, the last one, which changes nothing, included.
+pub record Made (r : List Bool → ℕ → Bool) (s : List Bool) (e : Settled) : Type 0 where
+  -- rounds that changed a mark
+  pub before : ℕ
+  pub counted : e .rounds ≡ suc before
+  pub reached : e .marks ≡ rounds-made r before s
+  pub still : round r (e .marks) ≡ e .marks
+  pub changed : (j : ℕ) → j < before → rounds-made r (suc j) s ≢ rounds-made r j s
+
+-- how many marks a declaration adds at the most: an import's is given
+unfoldable pub local : Origin → ℕ
+local here = 1
+local (imported ti) = 0
+
+-- the number of declarations that are not imports
+unfoldable pub locals : List Decl → ℕ
+locals [] = 0
+locals (d ∷ ds) = local (d .origin) + locals ds

@@ -1,5 +1,6 @@
 -- Constructor layouts and newtype collapse: section 5.2 of the source's Layout file.
 -- Assumes nothing.
+use mathlib.Core.Path.{_≡_}
 use mathlib.Core.List.{List, [], _∷_, map}
 use mathlib.Core.Bool.{Bool, true, false, _||_, not}
 use mathlib.Core.Option.{Option, none, some}
@@ -90,6 +91,10 @@ unfoldable pub candidates : List Decl → (ℕ → Bool) → List Bool → List 
 candidates ds er s =
     table (λ i. candidate (dtype-at ds i) (origin-at ds i) (getD s i false) (ctor-layouts er (dtype-at ds i))) (length ds)
 
+-- the candidates of a program with these marks
+abbrev pub candidates-of : List Decl → List Bool → List (Option NewtypeLayout)
+candidates-of ds s = candidates ds (marked ds s) s
+
 -- ---- acyclic_candidates
 unfoldable pub positions : List Decl → List ℕ → List ℕ
 positions ds [] = []
@@ -143,3 +148,17 @@ compute-layouts ds s =
     let er : ℕ → Bool = marked ds s in
     let cands : List (Option NewtypeLayout) = candidates ds er s in
     table (λ i. layout-of (dtype-at ds i) (origin-at ds i) (getD s i false) (dropped ds cands i) (getD cands i none) (ctor-layouts er (dtype-at ds i))) (length ds)
+
+-- ---- what is claimed of them
+-- What makes a declaration a candidate for a newtype: it is not erased, has not the flag `NoNewtype`,
+-- and has one constructor (a record counts as one, an abstract type or an abbreviation has none) of
+-- which one field is kept. `e` is its mark, and `nt` the newtype that it can become.
+pub record Candidate (er : ℕ → Bool) (d : Dtype) (e : Bool) (nt : NewtypeLayout) : Type 0 where
+  pub ctor : Ctor
+  pub field : Field
+  pub not-erased : e ≡ false
+  pub allowed : has-flag d NoNewtype ≡ false
+  pub one-ctor : ctors-of-tydef d ≡ ctor ∷ []
+  pub one-kept : kept (slots er (ctor .ct-fields)) (ctor .ct-fields) ≡ field ∷ []
+  pub made :
+      nt ≡ record { nt-ctor = ctor .ct-name; nt-field = field .fd-name; nt-index = first-kept (slots er (ctor .ct-fields)); nt-ty = uninline (field .fd-type) }

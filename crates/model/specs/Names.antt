@@ -8,7 +8,7 @@ use Prim.Native.Nat.{ℕ, _<_}
 use lib.Dec.{ltb}
 use lib.ListN.{length}
 use Rattle.model.specs.Cty.{names-of-cty}
-use Rattle.model.specs.Decl.{Field, Ctor, Body, TAbstract, TAbbrev, TRecord, TVariant, Dtype, TypeInfo, imported, Decl, dtype-at, origin-at, position}
+use Rattle.model.specs.Decl.{L-erased, L-newtype, L-struct, L-abbrev, L-opaque, Layout, CtorLayout, Field, Ctor, Body, TAbstract, TAbbrev, TRecord, TVariant, Dtype, TypeInfo, imported, Decl, dtype-at, origin-at, position}
 
 -- ---- names
 unfoldable pub fields-names : List Field → List ℕ
@@ -28,6 +28,11 @@ body-names (TVariant cs) = ctors-names cs
 
 unfoldable pub dtype-names : Dtype → List ℕ
 dtype-names d = body-names (d .dt-body)
+
+-- ---- names among others
+-- all of ms are among ns
+abbrev pub Among : List ℕ → List ℕ → Type 0
+Among ms ns = (n : ℕ) → List·Memᴰ n ms → List·Memᴰ n ns
 
 -- ---- declared names
 abbrev pub Declared : List Decl → ℕ → Type 0
@@ -69,3 +74,21 @@ unfoldable pub pins : List Decl → List TypeInfo → List Decl
 pins [] tis = []
 pins (d ∷ ds) [] = []
 pins (d ∷ ds) (ti ∷ tis) = pin d ti ∷ pins ds tis
+
+-- ---- what a layout names
+unfoldable pub cls-names : List CtorLayout → List ℕ
+cls-names [] = []
+cls-names (cl ∷ cls) = fields-names (cl .cl-fields) ++ cls-names cls
+
+-- the names of the types that are resolved for a layout
+unfoldable pub layout-names : Layout → List ℕ
+layout-names L-erased = []
+layout-names (L-newtype nt) = names-of-cty (nt .nt-ty)
+layout-names (L-struct cls) = cls-names cls
+layout-names (L-abbrev c) = names-of-cty c
+layout-names L-opaque = []
+
+-- ---- layouts name what their declarations name
+-- an import's layout is made of its own declaration's types
+abbrev pub OwnImports : List Decl → Type 0
+OwnImports ds = (i : ℕ) (ti : TypeInfo) → i < length ds → origin-at ds i ≡ imported ti → Among (layout-names (ti .ti-layout)) (dtype-names (dtype-at ds i))

@@ -23,6 +23,8 @@ use Rattle.model.specs.Decl.{Decl}
 use Rattle.meaning.specs.Program.{is-head, program}
 use Rattle.meaning.specs.Rows.{line-at, heads-before, raws, row3, row4, row5, row6, row7}
 use Rattle.answer.specs.Answer.{
+  Passes,
+  Clear,
   Row,
   row8,
   row9-10,
@@ -40,24 +42,6 @@ use Rattle.answer.specs.Answer.{
   after,
 }
 use Rattle.answer.specs.Cut.{Sheets, sheets-of, build}
-
--- the test of a row holds nowhere below its bound
-abbrev pub Clear : ℕ → (ℕ → Bool) → Type 0
-Clear n p = (i : ℕ) → i < n → p i ≡ false
-
--- no row applies
-pub record Passes (f : Format) (b : List ℕ) (v l : ℕ) : Type 0 where
-  pub pass1 : row1 f b ≡ false
-  pub pass2 : Clear (count (f .columns) b) (λ i. isBad (line (f .columns) b i))
-  pub pass3 : Clear (suc (count (f .columns) b)) (row3 (raws (f .columns) b))
-  pub pass4 : Clear (count (f .columns) b) (row4 f (lines (f .columns) b))
-  pub pass5 : Clear (count (f .columns) b) (row5 (lines (f .columns) b))
-  pub pass6 : Clear (count (f .columns) b) (row6 (lines (f .columns) b))
-  pub pass7 : Clear (count (f .columns) b) (row7 (lines (f .columns) b))
-  pub pass8 : Clear (count (f .columns) b) (row8 (program (lines (f .columns) b)) (lines (f .columns) b))
-  pub pass9-10 : Clear (count (f .columns) b) (row9-10 f (program (lines (f .columns) b)) (lines (f .columns) b))
-  pub pass11 : length b ≤ v
-  pub pass12 : length (left-sheet f (lines (f .columns) b)) ≤ l
 
 -- ---- a list of rows
 abbrev pub AllClear : List Row → Type 0

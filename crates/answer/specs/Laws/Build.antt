@@ -22,13 +22,13 @@ use Rattle.meaning.specs.Program.{name-line, is-head, select, groups, program}
 use Rattle.meaning.specs.Rows.{row5, row6}
 use Rattle.model.specs.Run.{left-program, run, layouts-of, somes, returns, decl-fault}
 use Rattle.meaning.specs.Output.{fill-all, verdict-lines, left-lines}
-use Rattle.answer.specs.Answer.{row8, row9-10, verdict-sheet, left-sheet}
+use Rattle.answer.specs.Answer.{row8, row9-10, verdict-sheet, left-sheet, Clear, Passes}
 use Rattle.answer.specs.Cut.{Sheets, build, Whole}
 use Rattle.model.specs.Names.{Distinct, undeclared}
 use Rattle.meaning.specs.Laws.Program.{None, Starts, select-append, told-groups, run-told, verdict-lines-append, none-left, none-right, none-append}
 use Rattle.meaning.specs.Laws.Rows.{Ends, row3-ends, ends-row3, row3-raws, NoHeader, no-header, row5-prefix}
 use Rattle.meaning.specs.Laws.Output.{Sized, fits-sized, left-bytes-prefix, ten, verdict-fits, verdict-bytes, verdict-round}
-use Rattle.answer.specs.Laws.Answer.{Clear, Passes, sheets, passes-build, build-passes, build-equal}
+use Rattle.answer.specs.Laws.Answer.{sheets, passes-build, build-passes, build-equal}
 use Rattle.answer.specs.Laws.Pass.{clear-heads, heads-clear, own-imports}
 use Rattle.locality.specs.Laws.Pinning.{Apart, prefix-program, prefix-infos}
 use Rattle.answer.specs.Laws.Step.{

@@ -46,7 +46,7 @@ use Rattle.model.specs.Decl.{
   close-fields,
 }
 use Rattle.model.specs.Erasure.{marked, erasure-fixpoint}
-use Rattle.model.specs.Layout.{collapse, ctor-layouts, newtype-of-ctor, newtype-of, dropped, layout-of}
+use Rattle.model.specs.Layout.{collapse, ctor-layouts, newtype-of-ctor, newtype-of, dropped, layout-of, candidates-of}
 use Rattle.model.specs.Resolve.{stays, resolve, resolve-checked}
 use Rattle.model.specs.Run.{left-program, layouts-of, run, returns, resolves, decl-fault, lay, layout-of-decl, left-at}
 use Rattle.meaning.specs.Program.{
@@ -78,8 +78,7 @@ use Rattle.meaning.specs.Program.{
 }
 use Rattle.meaning.specs.Rows.{line-at, count-of, count-before, heads-before, params-after, row4, last-head, head-of, kept-after, one-ctor, good-verdict, good-verdicts, row7}
 use Rattle.meaning.specs.Output.{verdict-lines, left-lines}
-use Rattle.answer.specs.Answer.{row8, row9-10, verdict-sheet, left-sheet}
-use Rattle.answer.specs.Laws.Answer.{Clear, Passes}
+use Rattle.answer.specs.Answer.{Ample, row8, row9-10, verdict-sheet, left-sheet, Clear, Passes}
 use Rattle.answer.specs.Laws.Pass.{clear-heads}
 use Rattle.locality.specs.Laws.Fuel.{NoReturn, fuel-unspent}
 use Rattle.meaning.specs.Laws.Output.{verdict-bytes, verdict-round, columns-positive}
@@ -87,7 +86,7 @@ use Rattle.meaning.specs.Laws.Written.{left-program-read}
 use Rattle.meaning.specs.Laws.Numbers.{sheet-round, left-sheet-normal}
 use Rattle.meaning.specs.Laws.Program.{None, heads, head-cases, length-groups, length-program, program-at, HeadAt, head-at, body-number, body-of-number, close-number}
 use Rattle.model.specs.Laws.Resolve.{StructMatches, OpaqueMatches, Matches, layout-matches, Unspent, Normal, Resolved, decl-resolved, LeftTypes, left-types}
-use Rattle.model.specs.Laws.Layout.{candidates-of, getD-candidates, getD-layouts}
+use Rattle.model.specs.Laws.Layout.{getD-candidates, getD-layouts}
 use Rattle.model.specs.Laws.Run.{length-infos}
 use Rattle.answer.specs.Laws.Build.{row1-small, whole-length, pass-whole}
 use Rattle.meaning.specs.Laws.Rows.{last-head-append, last-head-none}
@@ -367,13 +366,6 @@ lines-limit f b e =
     go w h false q = omega (arith, length-lines w b, ltb-false (f .lines) (count w b) q)
 
 -- ---- the left sheet of an accepted sheet
--- Columns and fuel that a format's limits do not outgrow: its kinds, its lines, and the nodes of a type for each declaration and each field.
-pub record Ample (f : Format) : Type 0 where
-  pub kinds : 12 < 10 ^ f .columns
-  pub counts : f .lines < 10 ^ f .columns
-  pub nodes : f .nodes * (f .decls + f .fields) < 10 ^ f .columns
-  pub depth : f .decls < f .fuel
-
 -- document 01's own
 pub base-ample : Ample base
 base-ample = record { kinds = omega arith; counts = omega arith; nodes = omega arith; depth = omega arith }

@@ -28,14 +28,10 @@ use Rattle.meaning.specs.Program.{
   program,
 }
 use Rattle.meaning.specs.Rows.{line-at, heads-before, equal, repeats, row6}
-use Rattle.model.specs.Names.{dtype-names, Distinct}
+use Rattle.model.specs.Names.{dtype-names, Distinct, Among, layout-names, OwnImports}
 use Rattle.meaning.specs.Laws.Program.{length-program, heads-before-program, program-at, HeadAt, head-at}
-use Rattle.locality.specs.Laws.Own.{layout-names}
 use Rattle.meaning.specs.Laws.Imports.{info-own}
-use Rattle.locality.specs.Laws.Locality.{OwnImports}
-use Rattle.answer.specs.Answer.{at-head}
-use Rattle.answer.specs.Laws.Answer.{Clear}
-use Rattle.model.specs.Laws.Names.{Among}
+use Rattle.answer.specs.Answer.{at-head, Clear}
 
 -- ---- rows at declarations
 -- A row that is tested at the lines where declarations begin passes exactly if each declaration does.

@@ -40,7 +40,7 @@ use Rattle.model.specs.Laws.Names.{position-name, position-first, position-appe
 use Rattle.answer.specs.Cut.{build, builds, join, Whole, Declarations, program-names, Cut}
 use Rattle.meaning.specs.Laws.Program.{Starts, None, select-append, program-append, groups-append, groups-none, length-program, HeadAt, head-at, heads-before-program, none-left, none-right}
 use Rattle.meaning.specs.Laws.Rows.{Ends, raw-rawly, ends-prefix, NoHeader, no-header, row5-prefix}
-use Rattle.answer.specs.Laws.Answer.{Clear}
+use Rattle.answer.specs.Answer.{Clear}
 use Rattle.answer.specs.Laws.Pass.{name-at, distinct-program}
 use Rattle.locality.specs.Laws.Pinning.{Apart, distinct-undeclared}
 use Rattle.answer.specs.Laws.Step.{later, program-parts}

@@ -15,13 +15,12 @@ use Rattle.meaning.specs.Program.{is-head, groups, trees, decl-of, program}
 use Rattle.meaning.specs.Rows.{row3, row4, row5, row6, row7}
 use Rattle.model.specs.Run.{somes, left-program, run, layouts-of, returns, decl-fault}
 use Rattle.meaning.specs.Output.{verdict-lines, left-lines}
-use Rattle.model.specs.Names.{Distinct, pins}
+use Rattle.model.specs.Names.{Distinct, pins, OwnImports}
 use Rattle.meaning.specs.Laws.Program.{Starts, program-append, AllEnded, AllTold, length-verdict-lines, told-groups, run-told, program-cut, verdict-lines-cut, left-lines-cut}
 use Rattle.meaning.specs.Laws.Rows.{Ends, row3-ends, ends-row3, ends-prefix, ends-whole, ended-row5, row3-verdict, row4-verdict, row5-verdict, row6-verdict, row7-cut, NoHeader, no-header, row4-prefix, row5-prefix, row6-prefix, row7-prefix}
-use Rattle.answer.specs.Laws.Answer.{Clear}
+use Rattle.answer.specs.Answer.{Clear}
 use Rattle.answer.specs.Laws.Pass.{distinct-program, own-imports}
 use Rattle.locality.specs.Laws.Pinning.{Apart, prefix-fault, prefix-returns, first-length, prefix-infos, imported-lefts, imported-infos, imported-fault, imported-returns}
-use Rattle.locality.specs.Laws.Locality.{OwnImports}
 
 -- ---- rows 3 to 10 on lines
 pub record Checks (f : Format) (ls : List Line) : Type 0 where

@@ -41,34 +41,18 @@ use Rattle.model.specs.Decl.{
   position,
 }
 use Rattle.model.specs.Erasure.{marked, erasure-fixpoint}
-use Rattle.model.specs.Layout.{steps, type-names, ctor-layouts, candidate, dropped, names-in, layout-of}
+use Rattle.model.specs.Layout.{steps, type-names, ctor-layouts, candidate, dropped, names-in, layout-of, candidates-of}
 use Rattle.model.specs.Resolve.{unfolded, Unfold, gone, newtype, abbreviation, stays, unfold-body, unfold-dtype, unfold-of, unfolds, unfold-name, resolve}
 use Rattle.model.specs.Run.{rw-decl, record-of, info, layouts-of, unfold-next, returns, resolves, decl-fault, lay, layout-of-decl, left-at, info-at}
-use Rattle.model.specs.Names.{fields-names, dtype-names, body-names, Declared, Agree}
-use Rattle.model.specs.Laws.Names.{agree-sym, Among, declared-cases, agree-foreign}
+use Rattle.model.specs.Names.{OwnImports, fields-names, dtype-names, body-names, Declared, Agree, Among, cls-names, layout-names}
+use Rattle.model.specs.Laws.Names.{agree-sym, declared-cases, agree-foreign}
 use Rattle.model.specs.Laws.Erasure.{erasure-local, ctor-layouts-local}
 use Rattle.model.specs.Laws.Reach.{cyclic-iff, reach-loop}
-use Rattle.model.specs.Laws.Layout.{
-  candidates-of,
-  getD-layouts,
-  getD-candidates,
-  layout-same,
-  Alike,
-  Places,
-  places-only,
-  Placed,
-  names-in-iff,
-  unfold-below,
-}
+use Rattle.model.specs.Laws.Layout.{getD-layouts, getD-candidates, layout-same, Alike, Places, places-only, Placed, names-in-iff, unfold-below}
 use Rattle.model.specs.Laws.Cty.{All, names-all, all-names}
 use Rattle.model.specs.Laws.Resolve.{BodyAll, Fields, Kept, kept-field-types, rw-decl-local, decl-fault-local}
-use Rattle.locality.specs.Laws.Own.{cls-names, layout-names, layout-own}
+use Rattle.locality.specs.Laws.Own.{layout-own}
 use Rattle.model.specs.Laws.Lists.{getD-table, getD-table-past}
-
--- ---- layouts name what their declarations name
--- an import's layout is made of its own declaration's types
-abbrev pub OwnImports : List Decl → Type 0
-OwnImports ds = (i : ℕ) (ti : TypeInfo) → i < length ds → origin-at ds i ≡ imported ti → Among (layout-names (ti .ti-layout)) (dtype-names (dtype-at ds i))
 
 pub layouts-own : (ds : List Decl) → OwnImports ds → (i : ℕ) → i < length ds → Among (layout-names (layout-of-decl ds i)) (dtype-names (dtype-at ds i))
 unfolding layouts-of layout-of

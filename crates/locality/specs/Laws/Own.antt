@@ -7,7 +7,8 @@ use mathlib.Core.Option.{Option, none, some}
 use Prim.Native.Nat.{ℕ}
 use Rattle.columns.specs.Column.{pick}
 use Rattle.model.specs.Cty.{names-of-cty}
-use Rattle.model.specs.Decl.{table, 
+use Rattle.model.specs.Decl.{
+  table,
   Field,
   Ctor,
   Body,
@@ -32,22 +33,9 @@ use Rattle.model.specs.Decl.{table,
   imported,
 }
 use Rattle.model.specs.Layout.{slots, layouts-of-ctors, ctor-layout, ctor-layouts, newtype-of-ctor, newtype-of, candidate, collapse, layout-of-body, layout-of}
-use Rattle.model.specs.Names.{fields-names, ctors-names, body-names, dtype-names}
+use Rattle.model.specs.Names.{layout-names, cls-names, fields-names, ctors-names, body-names, dtype-names, Among}
 use Rattle.model.specs.Laws.Cty.{uninline-names}
-use Rattle.model.specs.Laws.Names.{Among, among-append, kept-names, ctors-own}
-
--- ---- what a layout names
-unfoldable pub cls-names : List CtorLayout → List ℕ
-cls-names [] = []
-cls-names (cl ∷ cls) = fields-names (cl .cl-fields) ++ cls-names cls
-
--- the names of the types that are resolved for a layout
-unfoldable pub layout-names : Layout → List ℕ
-layout-names L-erased = []
-layout-names (L-newtype nt) = names-of-cty (nt .nt-ty)
-layout-names (L-struct cls) = cls-names cls
-layout-names (L-abbrev c) = names-of-cty c
-layout-names L-opaque = []
+use Rattle.model.specs.Laws.Names.{among-append, kept-names, ctors-own}
 
 ctors-own-layouts : (er : ℕ → Bool) (cs : List Ctor) → Among (cls-names (layouts-of-ctors er cs)) (ctors-names cs)
 unfolding table cls-names ctors-names ctor-layout

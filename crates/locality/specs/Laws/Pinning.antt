@@ -26,14 +26,14 @@ use Rattle.model.specs.Decl.{
   position,
 }
 use Rattle.model.specs.Erasure.{marked, rule, rule-of, erasure-fixpoint}
-use Rattle.model.specs.Layout.{ctor-layouts, dropped, layout-of, compute-layouts}
+use Rattle.model.specs.Layout.{ctor-layouts, dropped, layout-of, compute-layouts, candidates-of}
 use Rattle.model.specs.Run.{left-program, info, layouts-of, somes, run, returns, decl-fault, layout-of-decl, left-at, info-at}
-use Rattle.model.specs.Names.{dtype-names, Declared, undeclared, Distinct, Agree, Pin, pins}
+use Rattle.model.specs.Names.{dtype-names, Declared, undeclared, Distinct, Agree, Pin, pins, OwnImports}
 use Rattle.model.specs.Laws.Names.{position-name, position-distinct, position-declared, position-append-left, agree-prefix, undeclared-of, position-same, not-declared}
 use Rattle.model.specs.Laws.Erasure.{erasure-solves, erasure-pinned}
-use Rattle.model.specs.Laws.Layout.{Placed, candidates-of, layout-at, pinned-layouts, getD-layouts}
+use Rattle.model.specs.Laws.Layout.{Placed, layout-at, pinned-layouts, getD-layouts}
 use Rattle.model.specs.Laws.Run.{run-lefts, run-infos, getD-infos, length-infos, left-same, lefts-same, fault-same, returns-same}
-use Rattle.locality.specs.Laws.Locality.{OwnImports, info-local, left-local, fault-local, returns-local}
+use Rattle.locality.specs.Laws.Locality.{info-local, left-local, fault-local, returns-local}
 use Rattle.model.specs.Laws.Lists.{length-table, getD-table, table-cong}
 
 -- ---- pinned programs

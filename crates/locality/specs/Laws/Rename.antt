@@ -135,37 +135,14 @@ use Rattle.model.specs.Resolve.{
   checkeds,
   resolve-checked,
 }
-use Rattle.model.specs.Layout.{layouts-of-ctors, 
-  slots,
-  kept,
-  ctor-layout,
-  ctor-layouts,
-  first-kept,
-  newtype-of-ctor,
-  newtype-of,
-  candidate,
-  candidates,
-  positions,
-  names-in,
-  type-names,
-  steps,
-  payload,
-  guard-next,
-  dropped,
-  collapse,
-  layout-of-body,
-  layout-of,
-  compute-layouts,
-}
+use Rattle.model.specs.Layout.{layouts-of-ctors, slots, kept, ctor-layout, ctor-layouts, first-kept, newtype-of-ctor, newtype-of, candidate, candidates, positions, names-in, type-names, steps, payload, guard-next, dropped, collapse, layout-of-body, layout-of, compute-layouts, candidates-of}
 use Rattle.model.specs.Reach.{cyclic}
 use Rattle.model.specs.Run.{with-body, all-in, collapsed-abbrev, resolved-field, resolved-ctor, struct-body, rw-decl, record-body, record-verdict, record-of, info, somes, layouts-of, Ran, run, unfold-next, returns, field-types, resolves, fault-code, decl-fault, lay, layout-of-decl, left-at, info-at}
-use Rattle.model.specs.Names.{fields-names, ctors-names, body-names, dtype-names, Declared, Agree}
-use Rattle.model.specs.Laws.Layout.{candidate-at, candidates-of, layout-at}
-use Rattle.locality.specs.Laws.Own.{cls-names, layout-names}
-use Rattle.locality.specs.Laws.Locality.{OwnImports, marks-local, layouts-local, left-local, fault-local, info-local, returns-local}
+use Rattle.model.specs.Names.{fields-names, ctors-names, body-names, dtype-names, Declared, Agree, Among, cls-names, layout-names, OwnImports}
+use Rattle.model.specs.Laws.Layout.{candidate-at, layout-at}
+use Rattle.locality.specs.Laws.Locality.{marks-local, layouts-local, left-local, fault-local, info-local, returns-local}
 use Rattle.model.specs.Laws.Run.{run-lefts, run-infos}
 use Rattle.model.specs.Laws.Lists.{getD-map, table-cong}
-use Rattle.model.specs.Laws.Names.{Among}
 
 -- ---- lists
 -- two ways round through two maps

@@ -90,7 +90,7 @@ use Rattle.model.specs.Decl.{
   close-fields,
 }
 use Rattle.model.specs.Erasure.{marked, erasure-fixpoint}
-use Rattle.model.specs.Layout.{layouts-of-ctors, slots, kept, ctor-layout, ctor-layouts, newtype-of-ctor, newtype-of, candidate, dropped, collapse, layout-of-body, layout-of, compute-layouts}
+use Rattle.model.specs.Layout.{layouts-of-ctors, slots, kept, ctor-layout, ctor-layouts, newtype-of-ctor, newtype-of, candidate, dropped, collapse, layout-of-body, layout-of, compute-layouts, candidates-of}
 use Rattle.model.specs.Run.{left-program, with-body, all-in, collapsed-abbrev, resolved-field, resolved-ctor, struct-body, rw-decl, somes, layouts-of, run, lay, left-at}
 use Rattle.meaning.specs.Program.{
   arg-line,
@@ -127,7 +127,7 @@ use Rattle.meaning.specs.Laws.Program.{select-append, flat, before-flat,
 use Rattle.meaning.specs.Output.{left-lines}
 use Rattle.model.specs.Laws.Cty.{all-names}
 use Rattle.model.specs.Laws.Resolve.{Stays, Normal, Fields, Ctors, BodyTypes, LeftTypes, Left}
-use Rattle.model.specs.Laws.Layout.{candidates-of, getD-candidates, getD-layouts, getD-layouts-past}
+use Rattle.model.specs.Laws.Layout.{getD-candidates, getD-layouts, getD-layouts-past}
 use Rattle.model.specs.Laws.Run.{run-lefts}
 use Rattle.meaning.specs.Laws.Output.{types-of-fields, types-of-ctors, types-of-body, types-of, TypeNumbers, TypesNumbers, FieldNumbers, CtorNumbers, BodyNumbers, DtypeNumbers, total, total-bound, ProgramFits, every-select, number-fits, left-fits, NamesIn, left-names, columns-positive}
 use Rattle.model.specs.Laws.Lists.{length-table, getD-table, getD-table-past}

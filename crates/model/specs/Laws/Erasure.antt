@@ -13,11 +13,11 @@ use Rattle.columns.specs.Column.{pick}
 use Rattle.sheet.specs.ListLaws.{getD-within}
 use Rattle.model.specs.Cty.{Cty, Ctys, TUnit, TAny, TExn, TVar, TInt, TFloat, TConst, TArrow, TApp, TTuple, TBuf, TRef, TInline, nil, cons, gather, gathers, names-of-cty}
 use Rattle.model.specs.Decl.{Field, Ctor, Body, TAbstract, TAbbrev, TRecord, TVariant, Dtype, Erased, Realized, has-flag, ctors-of, CtorLayout, bit, TypeInfo, Origin, here, imported, Decl, no-decl, dtype-at, origin-at, table, position}
-use Rattle.model.specs.Erasure.{is-pure, cty-erased, ctys-erased, fields-erased, body-erased, dtype-erased, marked, rule-of, rule, start-of, start, erasure-fixpoint}
+use Rattle.model.specs.Erasure.{local, locals, is-pure, cty-erased, ctys-erased, fields-erased, body-erased, dtype-erased, marked, rule-of, rule, start-of, start, erasure-fixpoint, Made}
 use Rattle.model.specs.Layout.{layouts-of-ctors, slots, ctor-layout, ctor-layouts}
 use Rattle.model.specs.Names.{fields-names, ctors-names, body-names, dtype-names, Declared, Distinct, Agree, Pin, Pinned}
 use Rattle.model.specs.Laws.Names.{position-name, position-declared, position-distinct, position-same, agree-sym, ctors-own}
-use Rattle.model.specs.Laws.Rounds.{At, Le, At-lt, Le-antisym, Monotone, Sound, Closed, Made, settle-length, settle-sound, settle-least, settle-closed, settle-made, settle-rounds}
+use Rattle.model.specs.Laws.Rounds.{At, Le, At-lt, Le-antisym, Monotone, Sound, Closed, settle-length, settle-sound, settle-least, settle-closed, settle-made, settle-rounds}
 use Rattle.model.specs.Laws.Lists.{true-of, T-ext, trues, length-table, getD-table}
 
 -- ---- tests
@@ -170,16 +170,6 @@ module _ (er er' : ℕ → Bool) where
 
 -- ---- lists
 -- ---- the program's rules
--- how many marks a declaration adds at the most: an import's is given
-unfoldable pub local : Origin → ℕ
-local here = 1
-local (imported ti) = 0
-
--- the number of declarations that are not imports
-unfoldable pub locals : List Decl → ℕ
-locals [] = 0
-locals (d ∷ ds) = local (d .origin) + locals ds
-
 -- all marks but those that an import's verdict denies
 most-of : Origin → Bool
 most-of here = true

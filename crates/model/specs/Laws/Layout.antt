@@ -15,7 +15,10 @@ use Rattle.sheet.specs.ListLaws.{false-true, same-test}
 use Rattle.model.specs.Cty.{Cty, names-of-cty, uninline}
 use Rattle.model.specs.Decl.{table, Field, Ctor, Body, TAbstract, TAbbrev, TRecord, TVariant, Dtype, NoNewtype, has-flag, ctors-of, ctors-of-tydef, CtorLayout, NewtypeLayout, Layout, L-erased, L-newtype, L-struct, L-abbrev, L-opaque, Origin, here, imported, Decl, dtype-at, origin-at, position}
 use Rattle.model.specs.Erasure.{marked}
-use Rattle.model.specs.Layout.{layouts-of-ctors, 
+use Rattle.model.specs.Layout.{
+  Candidate,
+  candidates-of,
+  layouts-of-ctors,
   slots,
   kept,
   ctor-layout,
@@ -53,10 +56,6 @@ use Rattle.model.specs.Laws.Cty.{uninline-names}
 -- what the table of candidates has at place i
 abbrev pub candidate-at : List Decl → (ℕ → Bool) → List Bool → ℕ → Option NewtypeLayout
 candidate-at ds er s i = candidate (dtype-at ds i) (origin-at ds i) (getD s i false) (ctor-layouts er (dtype-at ds i))
-
--- the candidates of a program with these marks
-abbrev pub candidates-of : List Decl → List Bool → List (Option NewtypeLayout)
-candidates-of ds s = candidates ds (marked ds s) s
 
 pub getD-candidates : (ds : List Decl) (er : ℕ → Bool) (s : List Bool) (i : ℕ) (d : Option NewtypeLayout) → i < length ds → getD (candidates ds er s) i d ≡ candidate-at ds er s i
 unfolding candidates
@@ -193,19 +192,6 @@ not-dropped ds cands i =
     by n false e = refl
 
 -- ---- candidates
--- What makes a declaration a candidate for a newtype: it is not erased, has not the flag `NoNewtype`,
--- and has one constructor (a record counts as one, an abstract type or an abbreviation has none) of
--- which one field is kept. `e` is its mark, and `nt` the newtype that it can become.
-pub record Candidate (er : ℕ → Bool) (d : Dtype) (e : Bool) (nt : NewtypeLayout) : Type 0 where
-  pub ctor : Ctor
-  pub field : Field
-  pub not-erased : e ≡ false
-  pub allowed : has-flag d NoNewtype ≡ false
-  pub one-ctor : ctors-of-tydef d ≡ ctor ∷ []
-  pub one-kept : kept (slots er (ctor .ct-fields)) (ctor .ct-fields) ≡ field ∷ []
-  pub made :
-      nt ≡ record { nt-ctor = ctor .ct-name; nt-field = field .fd-name; nt-index = first-kept (slots er (ctor .ct-fields)); nt-ty = uninline (field .fd-type) }
-
 module _ (er : ℕ → Bool) (d : Dtype) (e : Bool) (nt : NewtypeLayout) where
   newtype-is : e ≡ false → has-flag d NoNewtype ≡ false → newtype-of (ctor-layouts er d) ≡ some nt → Candidate er d e nt
   unfolding table ctor-layouts ctor-layout newtype-of newtype-of-ctor

@@ -13,7 +13,7 @@ use Rattle.columns.specs.Column.{pick}
 use Rattle.model.specs.Cty.{names-of-cty}
 use Rattle.model.specs.Decl.{Field, Body, TAbstract, TAbbrev, TRecord, TVariant, ctors-of, Decl, no-decl, dtype-at, position}
 use Rattle.model.specs.Layout.{kept}
-use Rattle.model.specs.Names.{fields-names, ctors-names, body-names, dtype-names, Declared, undeclared, Distinct, Agree}
+use Rattle.model.specs.Names.{Among, fields-names, ctors-names, body-names, dtype-names, Declared, undeclared, Distinct, Agree}
 
 -- ---- position
 pub position-le : (ds : List Decl) (n : ℕ) → position ds n ≤ length ds
@@ -146,11 +146,6 @@ agree-prefix ds es f = record {
   same-origin = λ n s h. rw (position-append-left ds es n h) (ap (λ (d : Decl). d .origin) (sym (List·getD-append ds es no-decl (position ds n) h)));
   closed = λ n s h m k. f (position ds n) h m k;
 }
-
--- ---- names among others
--- all of ms are among ns
-abbrev pub Among : List ℕ → List ℕ → Type 0
-Among ms ns = (n : ℕ) → List·Memᴰ n ms → List·Memᴰ n ns
 
 pub among-append : (a b c d : List ℕ) → Among a c → Among b d → Among (a ++ b) (c ++ d)
 among-append a b c d f g n m = ⊎-elim (λ x. Memᴰ·append-left d (f n x)) (λ x. Memᴰ·append-right c (g n x)) (List·Memᴰ·append-cases a m)

@@ -82,7 +82,8 @@ use Rattle.model.specs.Resolve.{
   checkeds,
   resolve-checked,
 }
-use Rattle.model.specs.Decl.{table, 
+use Rattle.model.specs.Decl.{
+  table,
   Field,
   Ctor,
   Body,
@@ -108,7 +109,8 @@ use Rattle.model.specs.Decl.{table,
   Decl,
   member,
 }
-use Rattle.model.specs.Layout.{layouts-of-ctors, 
+use Rattle.model.specs.Layout.{
+  layouts-of-ctors,
   slots,
   ctor-layout,
   ctor-layouts,

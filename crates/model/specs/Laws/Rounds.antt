@@ -10,7 +10,7 @@ use native.Mathlib.Decide.{ℕ-discrete}
 use lib.Dec.{T}
 use lib.ListN.{length, getD, length-set}
 use lib.Seq.{getD-set-same, getD-set-other, ext-getD}
-use Rattle.model.specs.Erasure.{update, sweep, same, Settled, settle}
+use Rattle.model.specs.Erasure.{Made, round, rounds-made, update, sweep, same, Settled, settle}
 use Rattle.model.specs.Laws.Lists.{T-ext, trues}
 
 -- ---- tests and lists of marks
@@ -98,24 +98,6 @@ Sound r s = (i : ℕ) → At s i → T (r s i)
 -- each mark that the rule gives is set
 abbrev pub Closed : (List Bool → ℕ → Bool) → List Bool → Type 0
 Closed r t = (i : ℕ) → i < length t → T (r t i) → At t i
-
--- one round
-unfoldable pub round : (List Bool → ℕ → Bool) → List Bool → List Bool
-round r s = sweep r (length s) 0 s
-
--- the marks after k rounds
-unfoldable pub rounds-made : (List Bool → ℕ → Bool) → ℕ → List Bool → List Bool
-rounds-made r zero s = s
-rounds-made r (suc k) s = round r (rounds-made r k s)
-
--- `rounds` is the number of rounds made, the last one, which changes nothing, included.
-pub record Made (r : List Bool → ℕ → Bool) (s : List Bool) (e : Settled) : Type 0 where
-  -- rounds that changed a mark
-  pub before : ℕ
-  pub counted : e .rounds ≡ suc before
-  pub reached : e .marks ≡ rounds-made r before s
-  pub still : round r (e .marks) ≡ e .marks
-  pub changed : (j : ℕ) → j < before → rounds-made r (suc j) s ≢ rounds-made r j s
 
 -- a first round, then k
 pub rounds-made-first : (r : List Bool → ℕ → Bool) (k : ℕ) (s : List Bool) → rounds-made r k (round r s) ≡ rounds-made r (suc k) s
