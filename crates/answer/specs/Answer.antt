@@ -9,6 +9,7 @@ use lib.Dec.{eqb, ltb}
 use lib.ListN.{length, drop}
 use Rattle.sheet.specs.Format.{Format}
 use Rattle.sheet.specs.Line.{Line, isBad}
+use Rattle.sheet.specs.ListLaws.{Every}
 use Rattle.sheet.specs.Sheet.{first, count, line, lines, encodes, row1}
 use Rattle.answer.specs.declared.Refusal.{Refusal}
 use Rattle.answer.specs.declared.Refusal.the-variants.{Accepted, Refused}
@@ -128,6 +129,20 @@ answer f b v l = answered f b (refusal (rows f b v l))
 abbrev pub after : List ℕ → List ℕ → List ℕ
 after written old = written ++ drop (length written) old
 
+-- What a call gives: code, place, rounds, and all that both outputs hold afterwards. It is given the sheet
+-- and the outputs as they are. The contract of the build is one equation with this.
+pub record Given : Type 0 where
+  pub code : ℕ
+  pub place : ℕ
+  pub rounds : ℕ
+  pub verdict-output : List ℕ
+  pub left-output : List ℕ
+
+unfoldable pub called : Format → List ℕ → List ℕ → List ℕ → Given
+called f sheet verdict left =
+    let a : Answer = answer f sheet (length verdict) (length left) in
+    record { code = a .code; place = a .place; rounds = a .rounds; verdict-output = after (a .verdict) verdict; left-output = after (a .left) left }
+
 -- ---- what is claimed of it
 -- the test of a row holds nowhere below its bound
 abbrev pub Clear : ℕ → (ℕ → Bool) → Type 0
@@ -153,3 +168,18 @@ pub record Ample (f : Format) : Type 0 where
   pub counts : f .lines < 10 ^ f .columns
   pub nodes : f .nodes * (f .decls + f .fields) < 10 ^ f .columns
   pub depth : f .decls < f .fuel
+
+-- The rows refuse with this code and place: of the rows one applies at the place that it gives, at no
+-- earlier number, and no row before it applies at all.
+pub record Refuses (rs : List Row) (code place : ℕ) : Type 0 where
+  pub earlier : List Row
+  pub row : Row
+  pub later : List Row
+  pub split : rs ≡ earlier ++ (row ∷ later)
+  pub passed : Every (λ r. Clear (r .bound) (r .test)) earlier
+  pub at : ℕ
+  pub inside : at < row .bound
+  pub applies : row .test at ≡ true
+  pub first-of : (j : ℕ) → j < at → row .test j ≡ false
+  pub code-of : code ≡ row .code at
+  pub place-of : place ≡ row .place at

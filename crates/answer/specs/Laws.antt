@@ -1,7 +1,9 @@
 pub mod Answer
 pub mod Pass
 pub mod Left
+pub mod Refused
 pub mod Step
 pub mod Build
 pub mod Split
 pub mod Cut
+pub mod Calls

@@ -5,10 +5,10 @@
 -- and the left sheet. f is the format; `base` is document 01's own, and `Ample f` says that its limits do
 -- not outgrow its columns and the fuel, which `base-ample` of `Laws.Left` shows of it. Assumes nothing.
 use mathlib.Core.Logic.{_↔_}
-use mathlib.Core.Path.{_≡_, sym, _∙_, ap, subst}
+use mathlib.Core.Path.{_≡_, refl, sym, _∙_, ap, subst}
 use mathlib.Core.List.{List, [], _∷_, _++_, map, append-nil, List·Memᴰ}
 use mathlib.Core.Bool.{Bool, true, false, not}
-use mathlib.Core.Option.{some}
+use mathlib.Core.Option.{Option, some}
 use Prim.Native.Nat.{ℕ, suc, _≤_, _<_}
 use native.Mathlib.Omega.{arith}
 use lib.Dec.{T}
@@ -18,6 +18,7 @@ use Rattle.sheet.specs.Line.{Line, letter, number}
 use Rattle.sheet.specs.Sheet.{lines, encodes}
 use Rattle.model.specs.Cty.{Cty}
 use Rattle.model.specs.Decl.{
+  Dtype,
   NewtypeLayout,
   L-newtype,
   TypeInfo,
@@ -33,22 +34,24 @@ use Rattle.model.specs.Erasure.{cty-erased, marked, rule, start, erasure-fixpoi
 use Rattle.model.specs.Reach.{Reach}
 use Rattle.model.specs.Layout.{ctor-layouts, guard-next, Candidate, candidates-of}
 use Rattle.model.specs.Resolve.{stays, resolve, ok, resolve-checked}
-use Rattle.model.specs.Run.{left-program, run, layouts-of, resolves, decl-fault, returns, lay, layout-of-decl, left-at, info-at}
+use Rattle.model.specs.Run.{record-of, left-program, run, layouts-of, resolves, decl-fault, returns, lay, layout-of-decl, left-at, info-at}
 use Rattle.meaning.specs.Program.{type-line, program}
 use Rattle.meaning.specs.Output.{verdict-lines, left-lines}
-use Rattle.answer.specs.Answer.{Answer, verdict-sheet, left-sheet, answered, answer, after, Passes, Ample}
+use Rattle.answer.specs.Answer.{rows, Refuses, Answer, verdict-sheet, left-sheet, answered, answer, after, Passes, Ample}
 use Rattle.model.specs.Names.{Declared, Agree, OwnImports}
-use Rattle.answer.specs.Cut.{Sheets, build, builds, join, Cut}
+use Rattle.answer.specs.Cut.{Sheets, build, builds, join, Cut, Call, Over, InTurn, last-call, AllAccept, Wrote}
 use Rattle.model.specs.Laws.Erasure.{erasure-solves, erasure-least, erasure-made, erasure-rounds}
 use Rattle.model.specs.Laws.Layout as layouts
 use Rattle.model.specs.Laws.Cty.{every-mem}
-use Rattle.model.specs.Laws.Run.{getD-infos}
+use Rattle.model.specs.Laws.Run.{getD-infos, local-info, import-info, import-layout}
 use Rattle.locality.specs.Laws.Locality.{marks-local, layouts-local, info-local, left-local, fault-local, returns-local}
 use Rattle.locality.specs.Laws.Fuel.{fuel-same}
 use Rattle.locality.specs.Laws.Rename.{Injective, rename-decls, SameRenamed, locality-renamed}
 use Rattle.answer.specs.Laws.Answer.{sheets, build-passes, accepted-passes, passes-accepted, Nothing, refused-nothing, after-length, after-past}
-use Rattle.answer.specs.Laws.Left.{pass-no-return, pass-resolved, few-decls, left-sheet-names, verdict-sheet-length}
-use Rattle.answer.specs.Laws.Build.{Split, split-steps, split-nothing, prefix-verdict, pass-whole}
+use Rattle.answer.specs.Laws.Left.{pass-no-return, pass-resolved, few-decls, left-sheet-names}
+use Rattle.answer.specs.Laws.Build.{Split, split-steps, split-nothing, prefix-verdict, prefix-left-table, pass-whole, verdict-sheet-length}
+use Rattle.answer.specs.Laws.Refused.{answer-refuses}
+use Rattle.answer.specs.Laws.Calls.{cut-accepts, cut-wrote}
 use Rattle.answer.specs.Laws.Split.{joined-parts, cut-splits, cut-first, cut-builds}
 use Rattle.claims.specs.Unerased.{unerased}
 use Rattle.claims.specs.ClaimsLaws.{
@@ -56,17 +59,14 @@ use Rattle.claims.specs.ClaimsLaws.{
   answer-rounds,
   answer-verdict,
   answer-left,
-  local-erased,
-  local-ctors,
-  import-info,
   map-ctors,
   first-accepted,
 }
 
 -- ---- words
 -- accepted: the refusal line shows code 0
-abbrev pub Accepted : Format → List ℕ → ℕ → ℕ → Type 0
-Accepted f b v l = answer f b v l .code ≡ 0
+abbrev pub Accepts : Format → List ℕ → ℕ → ℕ → Type 0
+Accepts f b v l = answer f b v l .code ≡ 0
 
 -- the declarations of a sheet, which of them are erased, and which names
 abbrev pub decls : Format → List ℕ → List Decl
@@ -87,7 +87,7 @@ pub record Least (ds : List Decl) : Type 0 where
       (t : List Bool) → length t ≡ length ds → ((i : ℕ) → i < length ds → getD t i false ≡ rule ds t i)
       → (i : ℕ) → getD (marks ds) i false ≡ true → getD t i false ≡ true
 
-pub least : (f : Format) (b : List ℕ) (v l : ℕ) → Accepted f b v l → Least (decls f b)
+pub least : (f : Format) (b : List ℕ) (v l : ℕ) → Accepts f b v l → Least (decls f b)
 least f b v l a =
     let ds : List Decl = decls f b in
     record {
@@ -102,36 +102,44 @@ pub record Rounds (ds : List Decl) (n : ℕ) : Type 0 where
   pub made : Made (rule ds) (start ds) (erasure-fixpoint ds)
   pub few : n ≤ suc (locals ds)
 
-pub rounds : (f : Format) (b : List ℕ) (v l : ℕ) → Accepted f b v l → Rounds (decls f b) (answer f b v l .rounds)
+pub rounds : (f : Format) (b : List ℕ) (v l : ℕ) → Accepts f b v l → Rounds (decls f b) (answer f b v l .rounds)
 rounds f b v l a =
     let ds : List Decl = decls f b in
     let e : answer f b v l .rounds ≡ erasure-fixpoint ds .rounds = answer-rounds f b v l a in
     record { reported = e; made = erasure-made ds; few = rw e (erasure-rounds ds) }
 
--- KEPT. A local type keeps exactly the fields whose types are not erased, in order, and its verdict says
--- whether it is erased.
-pub record Kept (ds : List Decl) (i : ℕ) (ti : TypeInfo) : Type 0 where
+-- KEPT. A local type keeps exactly the fields whose types are not erased, in order. Its verdict says
+-- whether it is erased, its layout is the computed one, and its record number is read off what is left of
+-- it (no where nothing is).
+pub record LocalVerdict (fuel : ℕ) (ds : List Decl) (i : ℕ) (ti : TypeInfo) : Type 0 where
   pub is-erased : ti .ti-erased ≡ getD (marks ds) i false
+  pub layout : ti .ti-layout ≡ layout-of-decl ds i
   pub fields :
       ti .ti-ctors
       ≡ map (λ c. record { cl-name = c .ct-name; cl-slots = map (λ x. not (cty-erased (erased ds) (x .fd-type))) (c .ct-fields); cl-fields = unerased (erased ds) (c .ct-fields) }) (ctors-of-tydef (dtype-at ds i))
+  pub record-number : ti .ti-record ≡ record-of (left-at fuel ds i)
 
-pub kept-fields : (f : Format) (b : List ℕ) (v l : ℕ) → Accepted f b v l → (i : ℕ) → i < length (decls f b) → origin-at (decls f b) i ≡ here
-    → (d : TypeInfo) → Kept (decls f b) i (getD (run (f .fuel) (decls f b) .infos) i d)
+pub kept-fields : (f : Format) (b : List ℕ) (v l : ℕ) → Accepts f b v l → (i : ℕ) → i < length (decls f b) → origin-at (decls f b) i ≡ here
+    → (d : TypeInfo) → LocalVerdict (f .fuel) (decls f b) i (getD (run (f .fuel) (decls f b) .infos) i d)
 unfolding ctor-layouts
 kept-fields f b v l a i h o d =
     let ds : List Decl = decls f b in
-    rw (getD-infos (f .fuel) ds i d h) (record { is-erased = local-erased (f .fuel) ds i o; fields = local-ctors (f .fuel) ds i o ∙ map-ctors (erased ds) (ctors-of-tydef (dtype-at ds i)) })
+    rw (getD-infos (f .fuel) ds i d h, local-info (f .fuel) ds i o)
+    (record { is-erased = refl; layout = refl; fields = map-ctors (erased ds) (ctors-of-tydef (dtype-at ds i)); record-number = refl })
 
--- IMPORTS. An import keeps what its lines say: erasure, layout, kept fields and record.
-pub imports : (f : Format) (b : List ℕ) (v l : ℕ) → Accepted f b v l → (i : ℕ) (ti : TypeInfo) → i < length (decls f b) → origin-at (decls f b) i ≡ imported ti
-    → (d : TypeInfo) → getD (run (f .fuel) (decls f b) .infos) i d ≡ ti
-imports f b v l a i ti h o d = getD-infos (f .fuel) (decls f b) i d h ∙ import-info (f .fuel) (decls f b) i ti o
+-- IMPORTS. An import keeps what its lines say: erasure, layout, kept fields and record; and the layout that
+-- its lines say is the one that resolution goes by.
+pub imports : (f : Format) (b : List ℕ) (v l : ℕ) → Accepts f b v l → (i : ℕ) (ti : TypeInfo) → i < length (decls f b) → origin-at (decls f b) i ≡ imported ti
+    → ((d : TypeInfo) → getD (run (f .fuel) (decls f b) .infos) i d ≡ ti) × (layout-of-decl (decls f b) i ≡ ti .ti-layout)
+imports f b v l a i ti h o = (
+  λ d. getD-infos (f .fuel) (decls f b) i d h ∙ import-info (f .fuel) (decls f b) i ti o,
+  import-layout (decls f b) i ti h o,
+)
 
 -- COLLAPSED. A local type is a newtype exactly where its guards allow it (`Candidate`: not erased, without
 -- `NoNewtype`, one constructor, one kept field, whose type less one `TInline` is the payload) and its own
 -- name can't be reached from its payload through payloads of candidates, dropped ones too.
-pub collapsed : (f : Format) (b : List ℕ) (v l : ℕ) → Accepted f b v l → (i : ℕ) → i < length (decls f b) → origin-at (decls f b) i ≡ here → (nt : NewtypeLayout)
+pub collapsed : (f : Format) (b : List ℕ) (v l : ℕ) → Accepts f b v l → (i : ℕ) → i < length (decls f b) → origin-at (decls f b) i ≡ here → (nt : NewtypeLayout)
     → (layout-of-decl (decls f b) i ≡ L-newtype nt)
     ↔ (Candidate (erased (decls f b)) (dtype-at (decls f b) i) (getD (marks (decls f b)) i false) nt
     × (Reach (guard-next (decls f b) (candidates-of (decls f b) (marks (decls f b)))) i i → ⊥))
@@ -140,41 +148,41 @@ collapsed f b v l a i h o nt = layouts.collapsed (decls f b) (marks (decls f b))
 
 -- RESOLVED. No type in the left sheet names a collapsed, erased or unfolded type: the name of every `TApp`
 -- line read from its bytes stays. (The checklist's third line.)
-pub resolved : (f : Format) (b : List ℕ) (v l : ℕ) → Ample f → Accepted f b v l → (y : Line) → List·Memᴰ y (lines (f .columns) (answer f b v l .left))
+pub resolved : (f : Format) (b : List ℕ) (v l : ℕ) → Ample f → Accepts f b v l → (y : Line) → List·Memᴰ y (lines (f .columns) (answer f b v l .left))
     → letter y ≡ type-line → number y 0 ≡ 8 → lay (decls f b) (number y 1) ≡ stays
 resolved f b v l ample a =
     subst (λ (x : List ℕ). (y : Line) → List·Memᴰ y (lines (f .columns) x) → letter y ≡ type-line → number y 0 ≡ 8 → lay (decls f b) (number y 1) ≡ stays)
     (sym (answer-left f b v l a)) (left-sheet-names f b v l ample (accepted-passes f b v l a))
 
--- UNSPENT. The fuel of 100 is never spent: every type that is resolved is resolved to the end, without a
+-- UNSPENT. The fuel, 100 in the base, is never spent: every type that is resolved is resolved to the end, without a
 -- fault, and any larger fuel gives the same.
 pub record Unspent (f : Format) (ds : List Decl) (c : Cty) : Type 0 where
-  pub answered : resolve-checked (f .nodes) (lay ds) (f .fuel) c ≡ ok (resolve (lay ds) (f .fuel) c)
+  pub to-the-end : resolve-checked (f .nodes) (lay ds) (f .fuel) c ≡ ok (resolve (lay ds) (f .fuel) c)
   pub more : (m : ℕ) → f .fuel ≤ m → resolve (lay ds) m c ≡ resolve (lay ds) (f .fuel) c
 
-pub unspent : (f : Format) (b : List ℕ) (v l : ℕ) → Ample f → Accepted f b v l → (i : ℕ) → i < length (decls f b)
+pub unspent : (f : Format) (b : List ℕ) (v l : ℕ) → Ample f → Accepts f b v l → (i : ℕ) → i < length (decls f b)
     → (c : Cty) → List·Memᴰ c (resolves (layout-of-decl (decls f b) i)) → Unspent f (decls f b) c
 unspent f b v l ample a i h c m =
     let p : Passes f b v l = accepted-passes f b v l a in
     let few : length (decls f b) < f .fuel = few-decls f b v l ample p in
     record {
-      answered = every-mem _ (resolves (layout-of-decl (decls f b) i)) (pass-resolved f b v l ample p i h) c m .answers;
+      to-the-end = every-mem _ (resolves (layout-of-decl (decls f b) i)) (pass-resolved f b v l ample p i h) c m .answers;
       more = λ m q. fuel-same (decls f b) (pass-no-return f b v l ample p) m (f .fuel) (omega (arith, few)) few c;
     }
 
 -- RUN. The verdicts and the declarations that are left are those of the model of the source's `run`.
-pub record Ran (f : Format) (b : List ℕ) (a : Answer) : Type 0 where
+pub record OfSource (f : Format) (b : List ℕ) (a : Answer) : Type 0 where
   pub verdicts : a .verdict ≡ encodes (f .columns) (verdict-lines (lines (f .columns) b) (run (f .fuel) (decls f b) .infos))
   pub declarations : a .left ≡ encodes (f .columns) (left-lines (lines (f .columns) b) (left-program (run (f .fuel) (decls f b))))
 
-pub run-of-source : (f : Format) (b : List ℕ) (v l : ℕ) → Accepted f b v l → Ran f b (answer f b v l)
+pub run-of-source : (f : Format) (b : List ℕ) (v l : ℕ) → Accepts f b v l → OfSource f b (answer f b v l)
 unfolding verdict-sheet left-sheet
 run-of-source f b v l a = record { verdicts = answer-verdict f b v l a; declarations = answer-left f b v l a }
 
 -- VERDICT LENGTH. The verdict sheet is as long as the sheet (the checklist's first line), and building it
 -- alone is accepted and gives it back with the same left sheet.
-pub verdict-length : (f : Format) (b : List ℕ) (v l : ℕ) → Ample f → Accepted f b v l → length (answer f b v l .verdict) ≡ length b
-verdict-length f b v l ample a = ap length (answer-verdict f b v l a) ∙ verdict-sheet-length f b v l ample (accepted-passes f b v l a)
+pub verdict-length : (f : Format) (b : List ℕ) (v l : ℕ) → 0 < f .columns → Accepts f b v l → length (answer f b v l .verdict) ≡ length b
+verdict-length f b v l pos a = ap length (answer-verdict f b v l a) ∙ verdict-sheet-length f b v l pos (accepted-passes f b v l a)
 
 pub verdict-again : (f : Format) (b : List ℕ) (v l : ℕ) → 0 < f .columns → (x : Sheets) → build f v l b ≡ some x → build f v l (x .verdict) ≡ some x
 verdict-again f b v l pos x e =
@@ -182,18 +190,24 @@ verdict-again f b v l pos x e =
     ∙ (split-steps f v l pos .import-step b [] x (split-nothing (f .columns) b (pass-whole f b v l (build-passes f b v l x e))) e
     ∙ (ap (build f v l) (append-nil b) ∙ e))
 
--- REFUSED. The refusal line shows 0 exactly where no row of document 01's table applies (the checklist's
--- fourth line). On every refusal both outputs keep their bytes. On acceptance both sheets fit their outputs,
--- and past a sheet its output keeps its bytes.
-pub refused : (f : Format) (b : List ℕ) (v l : ℕ) → Accepted f b v l ↔ Passes f b v l
+-- REFUSED. The refusal line shows 0 exactly where no row of the table applies (the checklist's fourth
+-- line). Any other code is one of 1 to 12, and its row is the first that applies: it applies at the given
+-- place, at no earlier one, and no row before it applies anywhere.
+pub refused : (f : Format) (b : List ℕ) (v l : ℕ) → Accepts f b v l ↔ Passes f b v l
 refused f b v l = (accepted-passes f b v l, passes-accepted f b v l)
 
+pub refused-by : (f : Format) (b : List ℕ) (v l : ℕ) → Ample f → (Accepts f b v l → ⊥)
+    → Refuses (rows f b v l) (answer f b v l .code) (answer f b v l .place) × (1 ≤ answer f b v l .code) × (answer f b v l .code ≤ 12)
+refused-by f b v l ample h = let r = answer-refuses f b ample v l h in (r .0, r .1 .0, r .1 .1)
+
+-- On every refusal both outputs keep their bytes. On acceptance both sheets fit their outputs, and past a
+-- sheet its output keeps its bytes.
 pub record Unchanged (a : Answer) : Type 0 where
   pub no-rounds : a .rounds ≡ 0
   pub verdict-output : (old : List ℕ) → after (a .verdict) old ≡ old
   pub left-output : (old : List ℕ) → after (a .left) old ≡ old
 
-pub unchanged : (f : Format) (b : List ℕ) (v l : ℕ) → (Accepted f b v l → ⊥) → Unchanged (answer f b v l)
+pub unchanged : (f : Format) (b : List ℕ) (v l : ℕ) → (Accepts f b v l → ⊥) → Unchanged (answer f b v l)
 unchanged f b v l h =
     let n : Nothing (answer f b v l) = refused-nothing f b v l h in
     record {
@@ -202,20 +216,20 @@ unchanged f b v l h =
       left-output = λ old. ap (λ (x : List ℕ). after x old) (n .no-left);
     }
 
-pub record Written (sheet old : List ℕ) : Type 0 where
+pub record Holds (sheet old : List ℕ) : Type 0 where
   pub same-length : length (after sheet old) ≡ length old
   pub begins : (k : ℕ) → k < length sheet → getD (after sheet old) k 0 ≡ getD sheet k 0
   pub past : (k : ℕ) → length sheet ≤ k → getD (after sheet old) k 0 ≡ getD old k 0
 
-pub written : (f : Format) (b : List ℕ) (v l : ℕ) → Ample f → Accepted f b v l → (old old' : List ℕ) → length old ≡ v → length old' ≡ l
-    → Written (answer f b v l .verdict) old × Written (answer f b v l .left) old'
-written f b v l ample a old old' e e' =
+pub written : (f : Format) (b : List ℕ) (v l : ℕ) → 0 < f .columns → Accepts f b v l → (old old' : List ℕ) → length old ≡ v → length old' ≡ l
+    → Holds (answer f b v l .verdict) old × Holds (answer f b v l .left) old'
+written f b v l pos a old old' e e' =
     let p : Passes f b v l = accepted-passes f b v l a in (
-      fitted (answer f b v l .verdict) old (omega (arith, verdict-length f b v l ample a, p .pass11)),
+      fitted (answer f b v l .verdict) old (omega (arith, verdict-length f b v l pos a, p .pass11)),
       fitted (answer f b v l .left) old' (omega (arith, ap length (answer-left f b v l a), p .pass12)),
     )
   where
-    fitted : (w o : List ℕ) → length w ≤ length o → Written w o
+    fitted : (w o : List ℕ) → length w ≤ length o → Holds w o
     fitted w o h = record { same-length = after-length w o h; begins = List·getD-append w (drop (length w) o) 0; past = after-past w o }
 
 -- ---- locality
@@ -259,19 +273,46 @@ pub cut : (f : Format) (v l : ℕ) (b header u : List ℕ) (us : List (List ℕ)
     → builds f v l header u us ≡ build f v l b
 cut = cut-builds
 
+-- The same of calls, each of which does what the build's contract says of it (`Call`). The calls build the
+-- units in turn: the first is given the N, A and Y lines and the first unit; each later one the first bytes,
+-- as many as its sheet had, of the verdict output that the call before left, and its own unit. `whole` is
+-- one call with the whole sheet. All calls have outputs of v and l bytes, and whatever these held: every call
+-- shows code 0 exactly where the whole's does, and then the last call's outputs and the whole's begin with
+-- the same two sheets, past which each output holds what it held.
+pub cut-calls : (f : Format) (v l : ℕ) (b header u : List ℕ) (us : List (List ℕ)) → 0 < f .columns → Cut (f .columns) b header (u ∷ us)
+    → (c : Call f) (cs : List (Call f)) → InTurn f v l header u us c cs → (whole : Call f) → Over f v l [] b whole
+    → (AllAccept c cs ↔ (whole .gave .code ≡ 0)) × (whole .gave .code ≡ 0 → (x : Sheets) × Wrote whole x × Wrote (last-call c cs) x)
+cut-calls f v l b header u us pos cut c cs o whole w =
+    (cut-accepts f v l pos b header u us cut c cs o whole w, cut-wrote f v l pos b header u us cut c cs o whole w)
+
 -- SAME FIELDS (the checklist's second line). In an accepted sheet that is cut so, the first units build as
 -- well, and their verdict sheet begins the whole's: every line of a type, its keeps among them, is the same
--- in every unit from the one that declares it.
+-- in every unit from the one that declares it. So is what is left of it: for each declaration of the first
+-- units the left declaration, if there is one, is the whole's.
+pub record FirstUnits (f : Format) (v l : ℕ) (b header u : List ℕ) (us : List (List ℕ)) (y : Sheets) : Type 0 where
+  pub built : Sheets
+  pub are-built : builds f v l header u us ≡ some built
+  pub verdict-rest : List ℕ
+  pub begin-verdict : y .verdict ≡ built .verdict ++ verdict-rest
+  pub left-rest : List (Option Dtype)
+  pub begin-left : run (f .fuel) (decls f b) .lefts ≡ run (f .fuel) (decls f (header ++ join (u ∷ us))) .lefts ++ left-rest
+
 pub same-fields : (f : Format) (v l : ℕ) (b header u : List ℕ) (us ys : List (List ℕ)) → 0 < f .columns → Cut (f .columns) b header (u ∷ (us ++ ys))
-    → (y : Sheets) → build f v l b ≡ some y
-    → (x : Sheets) × (builds f v l header u us ≡ some x) × ((r : List ℕ) × (y .verdict ≡ x .verdict ++ r))
+    → (y : Sheets) → build f v l b ≡ some y → FirstUnits f v l b header u us y
 same-fields f v l b header u us ys pos c y e =
     let xs : List (List ℕ) = u ∷ us in
     let p : List ℕ = header ++ join xs in
     let q : List ℕ = join ys in
     let s : Split (f .columns) p q = cut-splits (f .columns) b header (xs ++ ys) c xs ys [] (ap (λ (t : List (List ℕ)). xs ++ t) (sym (append-nil ys))) in
-    let k : build f v l (p ++ q) ≡ some y = ap (build f v l) (sym (c .joined ∙ joined-parts header xs ys)) ∙ e in (
-      sheets f p,
-      cut f v l p header u us pos (cut-first (f .columns) b header xs ys c) ∙ first-accepted f v l pos p q s y k,
-      prefix-verdict f v l p q s y k,
-    )
+    let j : b ≡ p ++ q = c .joined ∙ joined-parts header xs ys in
+    let k : build f v l (p ++ q) ≡ some y = ap (build f v l) (sym j) ∙ e in
+    let r = prefix-verdict f v l p q s y k in
+    let t = prefix-left-table f v l p q s y k in
+    record {
+      built = sheets f p;
+      are-built = cut f v l p header u us pos (cut-first (f .columns) b header xs ys c) ∙ first-accepted f v l pos p q s y k;
+      verdict-rest = r .0;
+      begin-verdict = r .1;
+      left-rest = t .0;
+      begin-left = ap (λ (x : List ℕ). run (f .fuel) (decls f x) .lefts) j ∙ t .1;
+    }

@@ -40,26 +40,7 @@ module _ (f : Format) (b : List ℕ) (v l : ℕ) (a : answer f b v l .code ≡ 0
   unfolding answered
   answer-left = ap (λ (x : Answer). x .left) (passes-answer f b v l (accepted-passes f b v l a))
 
--- ---- one verdict
-local-info : (fuel : ℕ) (ds : List Decl) (i : ℕ) → origin-at ds i ≡ here
-    → info-at fuel ds i ≡ info (marked ds (erasure-fixpoint ds .marks)) (dtype-at ds i) here (getD (erasure-fixpoint ds .marks) i false) (layout-of-decl ds i) (left-at fuel ds i)
-unfolding info-at
-local-info fuel ds i o =
-    ap (λ (x : Origin). info (marked ds (erasure-fixpoint ds .marks)) (dtype-at ds i) x (getD (erasure-fixpoint ds .marks) i false) (layout-of-decl ds i) (left-at fuel ds i)) o
-
-pub local-erased : (fuel : ℕ) (ds : List Decl) (i : ℕ) → origin-at ds i ≡ here → info-at fuel ds i .ti-erased ≡ getD (erasure-fixpoint ds .marks) i false
-unfolding info
-local-erased fuel ds i o = ap (λ (t : TypeInfo). t .ti-erased) (local-info fuel ds i o)
-
-pub local-ctors : (fuel : ℕ) (ds : List Decl) (i : ℕ) → origin-at ds i ≡ here → info-at fuel ds i .ti-ctors ≡ ctor-layouts (marked ds (erasure-fixpoint ds .marks)) (dtype-at ds i)
-unfolding info
-local-ctors fuel ds i o = ap (λ (t : TypeInfo). t .ti-ctors) (local-info fuel ds i o)
-
-pub import-info : (fuel : ℕ) (ds : List Decl) (i : ℕ) (ti : TypeInfo) → origin-at ds i ≡ imported ti → info-at fuel ds i ≡ ti
-unfolding info-at info
-import-info fuel ds i ti o =
-    ap (λ (x : Origin). info (marked ds (erasure-fixpoint ds .marks)) (dtype-at ds i) x (getD (erasure-fixpoint ds .marks) i false) (layout-of-decl ds i) (left-at fuel ds i)) o
-
+-- ---- kept fields
 kept-unerased : (er : ℕ → Bool) (fs : List Field) → kept (slots er fs) fs ≡ unerased er fs
 unfolding kept slots unerased
 kept-unerased er [] = refl

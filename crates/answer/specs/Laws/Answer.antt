@@ -50,7 +50,7 @@ AllClear = Every (λ r. Clear (r .bound) (r .test))
 clear-first : (r : Row) → Clear (r .bound) (r .test) → ltb (first (r .test) (r .bound)) (r .bound) ≡ false
 clear-first r h = le-ltb (first (r .test) (r .bound)) (r .bound) (omega (arith, first-none (r .test) (r .bound) h))
 
-first-clear : (r : Row) → ltb (first (r .test) (r .bound)) (r .bound) ≡ false → Clear (r .bound) (r .test)
+pub first-clear : (r : Row) → ltb (first (r .test) (r .bound)) (r .bound) ≡ false → Clear (r .bound) (r .test)
 first-clear r h =
     let k : first (r .test) (r .bound) ≡ r .bound = omega (arith, ltb-false (first (r .test) (r .bound)) (r .bound) h, first-le (r .test) (r .bound)) in
     none-first (r .test) (r .bound) k
@@ -111,7 +111,7 @@ refusal-coded (r ∷ rs) h = go (refusal-coded rs (h .1)) (ltb (first (r .test) 
     go ih false e = ih
 
 -- ---- the rows of a sheet
-head-test : (ls : List Line) (p : ℕ → Bool) (i : ℕ) (b : Bool) → is-head (line-at ls i) ≡ b
+pub head-test : (ls : List Line) (p : ℕ → Bool) (i : ℕ) (b : Bool) → is-head (line-at ls i) ≡ b
     → elim b [ true ↦ p (heads-before ls i) | false ↦ false ] ≡ true → p (heads-before ls i) ≡ true
 head-test ls p i true e h = h
 head-test ls p i false e h = let z : _≡_ {A = ℕ} 0 1 = cc in absurd (omega arith)

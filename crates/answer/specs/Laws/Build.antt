@@ -30,7 +30,7 @@ use Rattle.meaning.specs.Laws.Rows.{Ends, row3-ends, ends-row3, row3-raws, NoHe
 use Rattle.meaning.specs.Laws.Output.{Sized, fits-sized, left-bytes-prefix, ten, verdict-fits, verdict-bytes, verdict-round}
 use Rattle.answer.specs.Laws.Answer.{sheets, passes-build, build-passes, build-equal}
 use Rattle.answer.specs.Laws.Pass.{clear-heads, heads-clear, own-imports}
-use Rattle.locality.specs.Laws.Pinning.{Apart, prefix-program, prefix-infos}
+use Rattle.locality.specs.Laws.Pinning.{prefix-lefts, Apart, prefix-program, prefix-infos}
 use Rattle.answer.specs.Laws.Step.{
   Checks,
   later,
@@ -326,34 +326,59 @@ split-steps f v l pos =
     some-same : (x y : Sheets) → _≡_ {A = Option Sheets} (some x) (some y) → x ≡ y
     some-same x y e = cc
 
--- ---- the verdict sheet of the first part begins that of the whole
-pub prefix-verdict : (f : Format) (v l : ℕ) (p q : List ℕ) → Split (f .columns) p q → (y : Sheets) → build f v l (p ++ q) ≡ some y → (r : List ℕ) × (y .verdict ≡ sheets f p .verdict ++ r)
-unfolding sheets verdict-sheet
-prefix-verdict f v l p q s y e =
-    let k : Sound f (p ++ q) v l = passes-sound f (p ++ q) v l (build-passes f (p ++ q) v l y e) in
-    let z : y ≡ sheets f (p ++ q) = some-sheets y (sheets f (p ++ q)) (sym e ∙ passes-build f (p ++ q) v l (build-passes f (p ++ q) v l y e)) in
-    let ps : List Line = lines (f .columns) p in
-    let qs : List Line = lines (f .columns) q in
-    let parts : lines (f .columns) (p ++ q) ≡ ps ++ qs = lines-parts f v l p q s in
-    let nb : NoBad (ps ++ qs) = subst NoBad parts (k .no-bad) in
-    let c : Checks f (ps ++ qs) = subst (Checks f) parts (k .checks) in
-    let h : Sound f p v l = sound-prefix f v l p q s k in
-    let st : Starts is-head qs = s .starts (none-right isBad ps qs nb) in
-    let far : Apart (program ps) (later ps qs) = s .apart nb (c .ends) (h .checks .clear5) (c .clear6) in
-    let d : Distinct (program ps ++ later ps qs) = parts-distinct ps qs st (c .ends) (c .clear6) in
-    let tis : List TypeInfo = run (f .fuel) (program ps) .infos in
-    let us : List TypeInfo = drop (length (program ps)) (run (f .fuel) (program ps ++ later ps qs) .infos) in
-    let i : run (f .fuel) (program (ps ++ qs)) .infos ≡ tis ++ us = ap (λ (ds : List Decl). run (f .fuel) ds .infos) (whole-parts ps qs st (c .ends)) ∙ prefix-infos (program ps) (later ps qs) d far (f .fuel) (own-imports ps) in
-    let n : length tis ≡ length (groups is-head ps) = told-groups ps tis (run-told (f .fuel) (program ps)) in (
-      encodes (f .columns) (fill-all (groups is-head qs) us),
-      ap (λ (x : Sheets). x .verdict) z
-          ∙ (ap (λ (ls : List Line). encodes (f .columns) (verdict-lines ls (run (f .fuel) (program ls) .infos))) parts
-          ∙ (ap (λ (t : List TypeInfo). encodes (f .columns) (verdict-lines (ps ++ qs) t)) i
-          ∙ (ap (encodes (f .columns)) (verdict-lines-append ps qs tis us st n) ∙ encodes-append (f .columns) (verdict-lines ps tis) (fill-all (groups is-head qs) us)))),
-    )
-  where
-    some-sheets : (x y : Sheets) → _≡_ {A = Option Sheets} (some x) (some y) → x ≡ y
-    some-sheets x y e = cc
+-- ---- what the first part has begins what the whole has
+-- two parts of an accepted sheet
+record Parts (f : Format) (ps qs : List Line) : Type 0 where
+  starts : Starts is-head qs
+  ends : Ends (ps ++ qs)
+  apart : Apart (program ps) (later ps qs)
+  distinct : Distinct (program ps ++ later ps qs)
+
+module _ (f : Format) (v l : ℕ) (p q : List ℕ) (s : Split (f .columns) p q) (y : Sheets) (e : build f v l (p ++ q) ≡ some y) where
+  accepted-parts : Parts f (lines (f .columns) p) (lines (f .columns) q)
+  accepted-parts =
+      let ps : List Line = lines (f .columns) p in
+      let qs : List Line = lines (f .columns) q in
+      let k : Sound f (p ++ q) v l = passes-sound f (p ++ q) v l (build-passes f (p ++ q) v l y e) in
+      let nb : NoBad (ps ++ qs) = subst NoBad (lines-parts f v l p q s) (k .no-bad) in
+      let c : Checks f (ps ++ qs) = subst (Checks f) (lines-parts f v l p q s) (k .checks) in
+      let h : Sound f p v l = sound-prefix f v l p q s k in
+      let st : Starts is-head qs = s .starts (none-right isBad ps qs nb) in
+      record { starts = st; ends = c .ends; apart = s .apart nb (c .ends) (h .checks .clear5) (c .clear6); distinct = parts-distinct ps qs st (c .ends) (c .clear6) }
+
+  -- the verdict sheet
+  pub prefix-verdict : (r : List ℕ) × (y .verdict ≡ sheets f p .verdict ++ r)
+  unfolding sheets verdict-sheet
+  prefix-verdict =
+      let ps : List Line = lines (f .columns) p in
+      let qs : List Line = lines (f .columns) q in
+      let z : y ≡ sheets f (p ++ q) = some-sheets y (sheets f (p ++ q)) (sym e ∙ passes-build f (p ++ q) v l (build-passes f (p ++ q) v l y e)) in
+      let t : Parts f ps qs = accepted-parts in
+      let tis : List TypeInfo = run (f .fuel) (program ps) .infos in
+      let us : List TypeInfo = drop (length (program ps)) (run (f .fuel) (program ps ++ later ps qs) .infos) in
+      let i : run (f .fuel) (program (ps ++ qs)) .infos ≡ tis ++ us = ap (λ (ds : List Decl). run (f .fuel) ds .infos) (whole-parts ps qs (t .starts) (t .ends)) ∙ prefix-infos (program ps) (later ps qs) (t .distinct) (t .apart) (f .fuel) (own-imports ps) in
+      let n : length tis ≡ length (groups is-head ps) = told-groups ps tis (run-told (f .fuel) (program ps)) in (
+        encodes (f .columns) (fill-all (groups is-head qs) us),
+        ap (λ (x : Sheets). x .verdict) z
+            ∙ (ap (λ (ls : List Line). encodes (f .columns) (verdict-lines ls (run (f .fuel) (program ls) .infos))) (lines-parts f v l p q s)
+            ∙ (ap (λ (t : List TypeInfo). encodes (f .columns) (verdict-lines (ps ++ qs) t)) i
+            ∙ (ap (encodes (f .columns)) (verdict-lines-append ps qs tis us (t .starts) n) ∙ encodes-append (f .columns) (verdict-lines ps tis) (fill-all (groups is-head qs) us)))),
+      )
+    where
+      some-sheets : (x y : Sheets) → _≡_ {A = Option Sheets} (some x) (some y) → x ≡ y
+      some-sheets x y e = cc
+
+  -- and what is left of each declaration
+  pub prefix-left-table : (xs : List (Option Dtype)) × (run (f .fuel) (program (lines (f .columns) (p ++ q))) .lefts ≡ run (f .fuel) (program (lines (f .columns) p)) .lefts ++ xs)
+  prefix-left-table =
+      let ps : List Line = lines (f .columns) p in
+      let qs : List Line = lines (f .columns) q in
+      let t : Parts f ps qs = accepted-parts in
+      let x = prefix-lefts (program ps) (later ps qs) (t .distinct) (t .apart) (f .fuel) (own-imports ps) in (
+        x .0,
+        ap (λ (ls : List Line). run (f .fuel) (program ls) .lefts) (lines-parts f v l p q s)
+            ∙ (ap (λ (ds : List Decl). run (f .fuel) ds .lefts) (whole-parts ps qs (t .starts) (t .ends)) ∙ x .1),
+      )
 
 -- every sheet is its own first part, with nothing behind it
 pub split-nothing : (w : ℕ) (p : List ℕ) → Whole w p → Split w p []
@@ -373,3 +398,9 @@ unfolding row1
 pass-whole f b v l h =
     let r = length b % lineBytes (f .columns) in
     eqb-true r 0 (not-false (eqb r 0) (neither (ltb (lineBytes (f .columns) * f .lines) (length b)) (not (eqb r 0)) (h .pass1) .1))
+
+-- The verdict sheet of an accepted sheet is as long as the sheet.
+pub verdict-sheet-length : (f : Format) (b : List ℕ) (v l : ℕ) → 0 < f .columns → Passes f b v l → length (verdict-sheet f (lines (f .columns) b)) ≡ length b
+unfolding verdict-sheet
+verdict-sheet-length f b v l pos h =
+    verdict-length f v l b [] (split-nothing (f .columns) b (pass-whole f b v l h)) pos (passes-sound f b v l h)

@@ -432,12 +432,3 @@ module _ (f : Format) (b : List ℕ) (v l : ℕ) (ample : Ample f) (pass : Passe
   pub verdict-sheet-lines : lines (f .columns) (verdict-sheet f sheet-lines) ≡ verdict-lines sheet-lines (run (f .fuel) sheet-program .infos)
   unfolding verdict-sheet
   verdict-sheet-lines = verdict-round (f .columns) sheet-lines (run (f .fuel) sheet-program .infos) (columns-positive (f .columns) (ample .kinds)) pass-fit
-
-  -- It is as long as the sheet.
-  pub verdict-sheet-length : length (verdict-sheet f sheet-lines) ≡ length b
-  unfolding verdict-sheet
-  verdict-sheet-length =
-      let w : ℕ = f .columns in
-      let e : length (groups is-head sheet-lines) ≡ length (run (f .fuel) sheet-program .infos) = length-groups sheet-lines ∙ sym (length-infos (f .fuel) sheet-program ∙ length-program sheet-lines) in
-      verdict-bytes w sheet-lines (run (f .fuel) sheet-program .infos) (omega (arith, ample .kinds)) pass-fit e
-      ∙ (ap (λ (n : ℕ). lineBytes w * n) (length-lines w b) ∙ sym (whole-length w b (pass-whole f b v l pass)))

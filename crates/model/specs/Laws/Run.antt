@@ -6,14 +6,14 @@ use mathlib.Core.Option.{Option, none, some}
 use Prim.Native.Nat.{ℕ, _<_}
 use lib.ListN.{length, getD}
 use Rattle.model.specs.Cty.{Cty}
-use Rattle.model.specs.Decl.{Dtype, Layout, L-opaque, TypeInfo, Decl, dtype-at, origin-at, table}
+use Rattle.model.specs.Decl.{Origin, imported, here, Dtype, Layout, L-opaque, TypeInfo, Decl, dtype-at, origin-at, table}
 use Rattle.model.specs.Erasure.{marked, erasure-fixpoint}
 use Rattle.model.specs.Reach.{cyclic}
-use Rattle.model.specs.Layout.{type-names, steps}
+use Rattle.model.specs.Layout.{ctor-layouts, layout-of, type-names, steps}
 use Rattle.model.specs.Resolve.{Unfold, stays, unfolded, unfold-of, unfolds, unfold-name, resolve, resolve-checked}
-use Rattle.model.specs.Run.{rw-decl, info, layouts-of, run, lay, layout-of-decl, left-at, info-at, unfold-next, returns, resolves, fault-code, decl-fault}
+use Rattle.model.specs.Run.{record-of, rw-decl, info, layouts-of, run, lay, layout-of-decl, left-at, info-at, unfold-next, returns, resolves, fault-code, decl-fault}
 use Rattle.model.specs.Laws.Names.{position-same}
-use Rattle.model.specs.Laws.Layout.{positions-same}
+use Rattle.model.specs.Laws.Layout.{positions-same, getD-layouts}
 use Rattle.model.specs.Laws.Lists.{length-table, getD-table, table-cong}
 
 -- ---- one declaration
@@ -31,6 +31,30 @@ getD-infos fuel ds i d h = rw run-infos (getD-table (info-at fuel ds) (length ds
 
 pub length-infos : (fuel : ℕ) (ds : List Decl) → length (run fuel ds .infos) ≡ length ds
 length-infos fuel ds = rw run-infos (length-table (info-at fuel ds) (length ds))
+
+-- ---- the verdict of a declaration
+-- a local type's: its mark, its layout, its fields by their types, and the record number read off what is left of it
+pub local-info : (fuel : ℕ) (ds : List Decl) (i : ℕ) → origin-at ds i ≡ here
+    → info-at fuel ds i
+    ≡ record {
+      ti-erased = getD (erasure-fixpoint ds .marks) i false;
+      ti-layout = layout-of-decl ds i;
+      ti-ctors = ctor-layouts (marked ds (erasure-fixpoint ds .marks)) (dtype-at ds i);
+      ti-record = record-of (left-at fuel ds i);
+    }
+unfolding info-at info
+local-info fuel ds i o =
+    ap (λ (x : Origin). info (marked ds (erasure-fixpoint ds .marks)) (dtype-at ds i) x (getD (erasure-fixpoint ds .marks) i false) (layout-of-decl ds i) (left-at fuel ds i)) o
+
+-- an import's is its own, and so is its layout
+pub import-info : (fuel : ℕ) (ds : List Decl) (i : ℕ) (ti : TypeInfo) → origin-at ds i ≡ imported ti → info-at fuel ds i ≡ ti
+unfolding info-at info
+import-info fuel ds i ti o =
+    ap (λ (x : Origin). info (marked ds (erasure-fixpoint ds .marks)) (dtype-at ds i) x (getD (erasure-fixpoint ds .marks) i false) (layout-of-decl ds i) (left-at fuel ds i)) o
+
+pub import-layout : (ds : List Decl) (i : ℕ) (ti : TypeInfo) → i < length ds → origin-at ds i ≡ imported ti → layout-of-decl ds i ≡ ti .ti-layout
+unfolding layouts-of layout-of
+import-layout ds i ti h o = getD-layouts ds (erasure-fixpoint ds .marks) i L-opaque h ∙ rw o
 
 -- ---- the same types and layouts
 -- Origins apart, all but the verdicts follows from the declarations' types and the layouts.

@@ -1,0 +1,108 @@
+-- Calls that build the units of a cut in turn give what one call gives. Assumes nothing.
+use mathlib.Core.Logic.{_↔_}
+use mathlib.Core.Path.{_≡_, refl, sym, _∙_, ap, subst}
+use mathlib.Core.List.{List, [], _∷_, _++_}
+use mathlib.Core.Option.{Option, none, some}
+use Prim.Native.Nat.{ℕ, _<_}
+use native.Mathlib.Omega.{arith}
+use lib.ListN.{length, take, drop}
+use lib.Seq.{take-append-seam}
+use Rattle.sheet.specs.Format.{Format}
+use Rattle.sheet.specs.Sheet.{lines}
+use Rattle.answer.specs.declared.Refusal.the-variants.{Accepted}
+use Rattle.answer.specs.Answer.{Answer, answer, answered, after, Passes, Given, called, verdict-sheet}
+use Rattle.answer.specs.Cut.{Sheets, build, builds, Cut, Call, handed-on, Over, InTurn, last-call, AllAccept, Wrote}
+use Rattle.answer.specs.Laws.Answer.{sheets, passes-build, build-passes, accepted-passes, passes-accepted, passes-answer}
+use Rattle.answer.specs.Laws.Build.{verdict-sheet-length}
+use Rattle.answer.specs.Laws.Split.{cut-builds}
+
+module _ (f : Format) (v l : ℕ) (pos : 0 < f .columns) where
+  -- one call
+  module _ (s u : List ℕ) (c : Call f) (o : Over f v l s u c) where
+    given : c .gave ≡ called f (s ++ u) (c .verdict) (c .left)
+    given = c .is-called ∙ ap (λ (b : List ℕ). called f b (c .verdict) (c .left)) (o .sheet-is)
+
+    code-is : c .gave .code ≡ answer f (s ++ u) v l .code
+    unfolding called
+    code-is = ap (λ (g : Given). g .code) given ∙ rw (o .verdict-room, o .left-room)
+
+    pub accepts-passes : c .gave .code ≡ 0 → Passes f (s ++ u) v l
+    accepts-passes h = accepted-passes f (s ++ u) v l (sym code-is ∙ h)
+
+    pub passes-accepts : Passes f (s ++ u) v l → c .gave .code ≡ 0
+    passes-accepts p = code-is ∙ passes-accepted f (s ++ u) v l p
+
+    pub wrote : Passes f (s ++ u) v l → Wrote c (sheets f (s ++ u))
+    unfolding called sheets answered
+    wrote p =
+        let a : answer f (s ++ u) (length (c .verdict)) (length (c .left)) ≡ answered f (s ++ u) Accepted = rw (o .verdict-room, o .left-room) (passes-answer f (s ++ u) v l p) in
+        record {
+          verdict-holds = ap (λ (g : Given). g .verdict-output) given ∙ ap (λ (x : Answer). after (x .verdict) (c .verdict)) a;
+          left-holds = ap (λ (g : Given). g .left-output) given ∙ ap (λ (x : Answer). after (x .left) (c .left)) a;
+        }
+
+    -- what it hands on is its verdict sheet
+    pub handed : Passes f (s ++ u) v l → handed-on c ≡ sheets f (s ++ u) .verdict
+    unfolding sheets
+    handed p =
+        let e : length (sheets f (s ++ u) .verdict) ≡ length (c .sheet) = verdict-sheet-length f (s ++ u) v l pos p ∙ ap length (sym (o .sheet-is)) in
+        ap (take (length (c .sheet))) (wrote p .verdict-holds)
+        ∙ (ap (λ (n : ℕ). take n (after (sheets f (s ++ u) .verdict) (c .verdict))) (sym e)
+        ∙ take-append-seam (sheets f (s ++ u) .verdict) (drop (length (sheets f (s ++ u) .verdict)) (c .verdict)))
+
+  -- ---- the list of calls is the list of builds
+  pub calls-builds : (us : List (List ℕ)) (s u : List ℕ) (c : Call f) (cs : List (Call f)) → InTurn f v l s u us c cs → AllAccept c cs
+      → (x : Sheets) × (builds f v l s u us ≡ some x) × Wrote (last-call c cs) x
+  unfolding builds
+  calls-builds [] s u c [] o h =
+      let p : Passes f (s ++ u) v l = accepts-passes s u c o h in
+      (sheets f (s ++ u), passes-build f (s ++ u) v l p, wrote s u c o p)
+  calls-builds [] s u c (c' ∷ cs) o h = absurd o
+  calls-builds (u' ∷ us) s u c [] o h = absurd o
+  calls-builds (u' ∷ us) s u c (c' ∷ cs) o h =
+      let p : Passes f (s ++ u) v l = accepts-passes s u c (o .0) (h .0) in
+      let r = calls-builds us (handed-on c) u' c' cs (o .1) (h .1) in
+      let b : builds f v l (sheets f (s ++ u) .verdict) u' us ≡ some (r .0) = ap (λ (t : List ℕ). builds f v l t u' us) (sym (handed s u c (o .0) p)) ∙ r .1 in
+      (r .0, rw (passes-build f (s ++ u) v l p, builds) b, r .2)
+
+  pub builds-calls : (us : List (List ℕ)) (s u : List ℕ) (c : Call f) (cs : List (Call f)) → InTurn f v l s u us c cs → (x : Sheets) → builds f v l s u us ≡ some x → AllAccept c cs
+  unfolding builds
+  builds-calls [] s u c [] o x e = passes-accepts s u c o (build-passes f (s ++ u) v l x e)
+  builds-calls [] s u c (c' ∷ cs) o x e = absurd o
+  builds-calls (u' ∷ us) s u c [] o x e = absurd o
+  builds-calls (u' ∷ us) s u c (c' ∷ cs) o x e = go (λ k. builds-calls us (handed-on c) u' c' cs (o .1) x k) (build f v l (s ++ u)) refl e
+    where
+      go : (builds f v l (handed-on c) u' us ≡ some x → AllAccept c' cs) → (r : Option Sheets) → build f v l (s ++ u) ≡ r → elim r [ none ↦ none | some y ↦ builds f v l (y .verdict) u' us ] ≡ some x → AllAccept c (c' ∷ cs)
+      go ih none q k = let z : _≡_ {A = ℕ} 0 1 = cc in absurd (omega arith)
+      go ih (some y) q k =
+          let p : Passes f (s ++ u) v l = build-passes f (s ++ u) v l y q in
+          let z : y ≡ sheets f (s ++ u) = same y (sheets f (s ++ u)) (sym q ∙ passes-build f (s ++ u) v l p) in
+          let b : builds f v l (handed-on c) u' us ≡ some x = ap (λ (t : List ℕ). builds f v l t u' us) (handed s u c (o .0) p ∙ ap (λ (t : Sheets). t .verdict) (sym z)) ∙ k in
+          (passes-accepts s u c (o .0) p, ih b)
+        where
+          same : (x y : Sheets) → _≡_ {A = Option Sheets} (some x) (some y) → x ≡ y
+          same x y e = cc
+
+  -- ---- the cut
+  module _ (b header u : List ℕ) (us : List (List ℕ)) (cut : Cut (f .columns) b header (u ∷ us)) (c : Call f) (cs : List (Call f)) (o : InTurn f v l header u us c cs)
+      (whole : Call f) (w : Over f v l [] b whole) where
+    pub cut-accepts : AllAccept c cs ↔ (whole .gave .code ≡ 0)
+    cut-accepts = (
+      λ h.
+          let r = calls-builds us header u c cs o h in
+          passes-accepts [] b whole w (build-passes f b v l (r .0) (sym (cut-builds f v l b header u us pos cut) ∙ r .1)),
+      λ h.
+          let p : Passes f b v l = accepts-passes [] b whole w h in
+          builds-calls us header u c cs o (sheets f b) (cut-builds f v l b header u us pos cut ∙ passes-build f b v l p),
+    )
+
+    -- the last call and the whole's wrote the same two sheets
+    pub cut-wrote : whole .gave .code ≡ 0 → (x : Sheets) × Wrote whole x × Wrote (last-call c cs) x
+    cut-wrote h =
+        let p : Passes f b v l = accepts-passes [] b whole w h in
+        let r = calls-builds us header u c cs o (cut-accepts .1 h) in
+        let z : r .0 ≡ sheets f b = same (r .0) (sheets f b) (sym (r .1) ∙ (cut-builds f v l b header u us pos cut ∙ passes-build f b v l p)) in
+        (sheets f b, wrote [] b whole w p, subst (Wrote (last-call c cs)) z (r .2))
+      where
+        same : (x y : Sheets) → _≡_ {A = Option Sheets} (some x) (some y) → x ≡ y
+        same x y e = cc
