@@ -54,19 +54,23 @@ unfoldable pub program-names : List Decl → List ℕ
 program-names [] = []
 program-names (d ∷ ds) = dtype-names (d .dtype) ++ program-names ds
 
+-- no line of the sheet is faulted by row 2 or row 5
+pub record Faultless (w : ℕ) (b : List ℕ) : Type 0 where
+  pub no-bad : row2 w b ≡ count w b
+  pub in-range : first (row5 (lines w b)) (count w b) ≡ count w b
+
 -- The sheet b is cut into its N, A and Y lines and the units. Each unit names only its own types, those of
--- earlier units and names that the whole declares nowhere. (A line that row 2 or 5 faults names none:
--- nothing is asked of units from such a line on.) Nothing else is asked: not that row 3 passes, nor that
--- the declarations are local.
+-- earlier units and names that the whole declares nowhere. (A line that row 2 or 5 faults neither names nor
+-- declares: of a sheet with such a line nothing is asked.) Nothing else is asked: not that row 3 passes, nor
+-- that the declarations are local.
 pub record Cut (w : ℕ) (b header : List ℕ) (units : List (List ℕ)) : Type 0 where
   pub joined : b ≡ header ++ join units
   pub header-whole : Whole w header
   pub header-only : (i : ℕ) → i < count w header → is-head (raw w header i) ≡ false
   pub declarations : (xs ys : List (List ℕ)) (u : List ℕ) → units ≡ xs ++ (u ∷ ys) → Declarations w u
   pub named :
-      (xs ys : List (List ℕ)) (u : List ℕ) → units ≡ xs ++ (u ∷ ys)
-      → row2 w (header ++ join xs ++ u) ≡ count w (header ++ join xs ++ u)
-      → first (row5 (lines w (header ++ join xs ++ u))) (count w (header ++ join xs ++ u)) ≡ count w (header ++ join xs ++ u)
+      Faultless w b
+      → (xs ys : List (List ℕ)) (u : List ℕ) → units ≡ xs ++ (u ∷ ys)
       → (n : ℕ) → List·Memᴰ n (program-names (program (lines w (header ++ u))))
       → Declared (program (lines w (header ++ join xs ++ u))) n ⊎ (Declared (program (lines w b)) n → ⊥)
 

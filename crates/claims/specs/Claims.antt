@@ -39,7 +39,7 @@ use Rattle.meaning.specs.Program.{type-line, program}
 use Rattle.meaning.specs.Output.{verdict-lines, left-lines}
 use Rattle.answer.specs.Answer.{rows, Refuses, Answer, verdict-sheet, left-sheet, answered, answer, after, Passes, Ample}
 use Rattle.model.specs.Names.{Declared, Agree, OwnImports}
-use Rattle.answer.specs.Cut.{Sheets, build, builds, join, Cut, Call, Over, InTurn, last-call, AllAccept, Wrote}
+use Rattle.answer.specs.Cut.{Faultless, Sheets, build, builds, join, Cut, Call, Over, InTurn, last-call, AllAccept, Wrote}
 use Rattle.model.specs.Laws.Erasure.{erasure-solves, erasure-least, erasure-made, erasure-rounds}
 use Rattle.model.specs.Laws.Layout as layouts
 use Rattle.model.specs.Laws.Cty.{every-mem}
@@ -52,7 +52,7 @@ use Rattle.answer.specs.Laws.Left.{pass-no-return, pass-resolved, few-decls, le
 use Rattle.answer.specs.Laws.Build.{Split, split-steps, split-nothing, prefix-verdict, prefix-left-table, pass-whole, verdict-sheet-length}
 use Rattle.answer.specs.Laws.Refused.{answer-refuses}
 use Rattle.answer.specs.Laws.Calls.{cut-accepts, cut-wrote}
-use Rattle.answer.specs.Laws.Split.{joined-parts, cut-splits, cut-first, cut-builds}
+use Rattle.answer.specs.Laws.Split.{joined-parts, cut-splits, cut-first, cut-builds, passes-faultless}
 use Rattle.claims.specs.Unerased.{unerased}
 use Rattle.claims.specs.ClaimsLaws.{
   true-of,
@@ -303,14 +303,15 @@ same-fields f v l b header u us ys pos c y e =
     let xs : List (List ℕ) = u ∷ us in
     let p : List ℕ = header ++ join xs in
     let q : List ℕ = join ys in
-    let s : Split (f .columns) p q = cut-splits (f .columns) b header (xs ++ ys) c xs ys [] (ap (λ (t : List (List ℕ)). xs ++ t) (sym (append-nil ys))) in
+    let h : Faultless (f .columns) b = passes-faultless f b v l (build-passes f b v l y e) in
+    let s : Split (f .columns) p q = cut-splits (f .columns) b header (xs ++ ys) c h xs ys [] (ap (λ (t : List (List ℕ)). xs ++ t) (sym (append-nil ys))) in
     let j : b ≡ p ++ q = c .joined ∙ joined-parts header xs ys in
     let k : build f v l (p ++ q) ≡ some y = ap (build f v l) (sym j) ∙ e in
     let r = prefix-verdict f v l p q s y k in
     let t = prefix-left-table f v l p q s y k in
     record {
       built = sheets f p;
-      are-built = cut f v l p header u us pos (cut-first (f .columns) b header xs ys c) ∙ first-accepted f v l pos p q s y k;
+      are-built = cut f v l p header u us pos (cut-first (f .columns) b header xs ys c h) ∙ first-accepted f v l pos p q s y k;
       verdict-rest = r .0;
       begin-verdict = r .1;
       left-rest = t .0;

@@ -110,7 +110,7 @@ cut-met w header units h =
       header-whole = eqb-true (length header % lineBytes w) 0 (t .0);
       header-only = none-first p (count w header) k;
       declarations = λ xs ys x e. unit-met w x (at-unit w b header xs ys x [] (subst (λ (t : List (List ℕ)). units-test w b header [] t ≡ true) e u) .0);
-      named = λ xs ys x e r2 r5 n m.
+      named = λ whole xs ys x e n m.
           names-met (program (lines w (header ++ join xs ++ x))) (program (lines w b)) (program-names (program (lines w (header ++ x))))
           (at-unit w b header xs ys x [] (subst (λ (t : List (List ℕ)). units-test w b header [] t ≡ true) e u) .1) n m;
     }

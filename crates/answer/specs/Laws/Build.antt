@@ -404,3 +404,11 @@ pub verdict-sheet-length : (f : Format) (b : List ℕ) (v l : ℕ) → 0 < f .co
 unfolding verdict-sheet
 verdict-sheet-length f b v l pos h =
     verdict-length f v l b [] (split-nothing (f .columns) b (pass-whole f b v l h)) pos (passes-sound f b v l h)
+
+-- the lines of that sheet with lines behind it
+pub verdict-lines-behind : (f : Format) (v l : ℕ) → 0 < f .columns → (p q : List ℕ) → Passes f p v l → lines (f .columns) (verdict-sheet f (lines (f .columns) p) ++ q) ≡ verdicts f (lines (f .columns) p) ++ lines (f .columns) q
+unfolding verdict-sheet
+verdict-lines-behind f v l pos p q h =
+    let w : ℕ = f .columns in
+    lines-append w (count w p) (verdict-sheet f (lines w p)) q (verdict-sheet-length f p v l pos h ∙ whole-length w p (pass-whole f p v l h))
+    ∙ ap (λ (ls : List Line). ls ++ lines w q) (verdict-round w (lines w p) (run (f .fuel) (program (lines w p)) .infos) pos (no-bad-fit w p (pass-no-bad w p (h .pass2))))

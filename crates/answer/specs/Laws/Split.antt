@@ -25,6 +25,8 @@ use native.Mathlib.Omega.{arith}
 use native.Mathlib.Nat.{zero-div, zero-mod}
 use lib.Dec.{eqb}
 use lib.ListN.{length, getD, length-append, List·getD-append}
+use mathlib.Core.Option.{Option, none, some}
+use Rattle.answer.specs.Laws.Answer.{passes-build, build-passes, sheets}
 use Rattle.sheet.specs.Format.{Format, lineBytes}
 use Rattle.sheet.specs.Line.{Line, bad, isBad, letter, number}
 use Rattle.sheet.specs.Sheet.{first, count, line, linesFrom, lines, row2}
@@ -37,14 +39,14 @@ use Rattle.meaning.specs.Program.{arg-line, type-line, is-head, select, groups,
 use Rattle.meaning.specs.Rows.{line-at, raw, heads-before, row5, row6}
 use Rattle.model.specs.Names.{dtype-names, Declared, undeclared, Distinct}
 use Rattle.model.specs.Laws.Names.{position-name, position-first, position-append-left, position-append-right, undeclared-of, declared-cases, not-declared}
-use Rattle.answer.specs.Cut.{build, builds, join, Whole, Declarations, program-names, Cut}
-use Rattle.meaning.specs.Laws.Program.{Starts, None, select-append, program-append, groups-append, groups-none, length-program, HeadAt, head-at, heads-before-program, none-left, none-right}
+use Rattle.answer.specs.Cut.{Sheets, Faultless, build, builds, join, Whole, Declarations, program-names, Cut}
+use Rattle.meaning.specs.Laws.Program.{none-append, Starts, None, select-append, program-append, groups-append, groups-none, length-program, HeadAt, head-at, heads-before-program, none-left, none-right}
 use Rattle.meaning.specs.Laws.Rows.{Ends, raw-rawly, ends-prefix, NoHeader, no-header, row5-prefix}
-use Rattle.answer.specs.Answer.{Clear}
+use Rattle.answer.specs.Answer.{verdict-sheet, Passes, Clear}
 use Rattle.answer.specs.Laws.Pass.{name-at, distinct-program}
 use Rattle.locality.specs.Laws.Pinning.{Apart, distinct-undeclared}
-use Rattle.answer.specs.Laws.Step.{later, program-parts}
-use Rattle.answer.specs.Laws.Build.{whole-length, whole-append, NoBad, no-bad-pass, Split, split-steps}
+use Rattle.answer.specs.Laws.Step.{same-rows, SameRows, verdicts, later, program-parts}
+use Rattle.answer.specs.Laws.Build.{pass-whole, verdict-lines-behind, passes-sound, Sound, pass-no-bad, whole-length, whole-append, NoBad, no-bad-pass, Split, split-steps}
 use Rattle.answer.specs.Laws.Cut.{Splits, chain}
 
 -- ---- declared names, by the lines where declarations begin
@@ -259,7 +261,7 @@ module _ (w : ℕ) (header : List ℕ) (whole : Whole w header) (none : NoBad (l
       ∙ (program-append H U (unit-starts w u (uu .0) nu) (part arg-line (units-plain .args)) (part type-line (units-plain .types))
       ∙ ap (λ (ds : List Decl). ds ++ later H U) header-program)
 
-module _ (w : ℕ) (b header : List ℕ) (units : List (List ℕ)) (cut : Cut w b header units) where
+module _ (w : ℕ) (b header : List ℕ) (units : List (List ℕ)) (cut : Cut w b header units) (whole : Faultless w b) where
   all-units : Units w units
   all-units = units-of w units (cut .declarations)
 
@@ -299,10 +301,6 @@ module _ (w : ℕ) (b header : List ℕ) (units : List (List ℕ)) (cut : Cut w 
         ∙ (sym (append-assoc header (join xs) (join ys ++ join zs)) ∙ sym (append-assoc pre (join ys) (join zs))))))
         ∙ (lines-cut w (pre ++ join ys) (join zs) (whole-append w pre (join ys) pre-whole (join-whole w ys ys-units))
         ∙ ap (λ (r : List Line). r ++ R) (lines-cut w pre (join ys) pre-whole))
-
-    passed2 : (c : List ℕ) → NoBad (lines w c) → row2 w c ≡ count w c
-    unfolding row2
-    passed2 c h = first-none (λ i. isBad (line w c i)) (count w c) (no-bad-pass w c h)
 
     split-apart :
         NoBad (P ++ Q) → Ends (P ++ Q) → Clear (length P) (row5 P) → Clear (length (P ++ Q)) (row6 (P ++ Q)) → Apart (program P) (later P Q)
@@ -354,24 +352,15 @@ module _ (w : ℕ) (b header : List ℕ) (units : List (List ℕ)) (cut : Cut w 
             ap (λ (t : List (List ℕ)). header ++ join t) (r .split)
             ∙ (ap (λ (t : List ℕ). header ++ t) (join-append xs1 (u ∷ xs2)) ∙ (sym (append-assoc header (join xs1) (u ++ join xs2)) ∙ sym (append-assoc (header ++ join xs1) u (join xs2)))) in
             let parts1 : P ≡ P1 ++ P2 = ap (lines w) bytes ∙ lines-cut w (header ++ join xs1 ++ u) (join xs2) whole1 in
-            let nb1 : NoBad (P1 ++ P2) = subst NoBad parts1 np in
-            let st2 : Starts is-head P2 = join-starts w xs2 (u2 .1) (none-right isBad P1 P2 nb1) in
-            let nh : NoHeader P2 = no-header P1 P2 st2 (subst Ends parts1 ep) in
-            let c : Clear (length (P1 ++ P2)) (row5 (P1 ++ P2)) = subst (λ (ls : List Line). Clear (length ls) (row5 ls)) parts1 c5 in
             let split1 : units ≡ xs1 ++ (u ∷ (xs2 ++ (ys ++ zs))) =
             e ∙ (ap (λ (t : List (List ℕ)). t ++ (ys ++ zs)) (r .split) ∙ append-assoc xs1 (u ∷ xs2) (ys ++ zs)) in
-            let two : row2 w (header ++ join xs1 ++ u) ≡ count w (header ++ join xs1 ++ u) = passed2 (header ++ join xs1 ++ u) (none-left isBad P1 P2 nb1) in
-            let five : first (row5 P1) (count w (header ++ join xs1 ++ u)) ≡ count w (header ++ join xs1 ++ u) =
-            first-none (row5 P1) (count w (header ++ join xs1 ++ u)) (λ k q.
-            let t : k < length P1 = omega (arith, length-lines w (header ++ join xs1 ++ u)) in
-            sym (row5-prefix P1 P2 k (nh .names) (nh .args) (nh .types) t) ∙ c k (rw length-append (omega arith))) in
             let mem : List·Memᴰ n (program-names (program (lines w (header ++ u)))) =
             subst (λ (ds : List Decl). List·Memᴰ n (program-names ds)) (sym (unit-program w header (cut .header-whole) header-none xs xs-units np ep xs1 xs2 u (r .split)))
             (mem-names (map (decl-of (trees (lines w header))) (groups is-head (lines w u))) (getD (program P) i no-decl) n (r .declares) m) in
             ⊎-elim
             (λ d. inl (subst (λ (ls : List Line). Declared (program ls) n) (sym parts1) (declared-left P1 P2 n d)))
             (λ z. inr z)
-            (cut .named xs1 (xs2 ++ (ys ++ zs)) u split1 two five n mem)
+            (cut .named whole xs1 (xs2 ++ (ys ++ zs)) u split1 n mem)
 
   pub cut-splits : Splits (Split w) header units
   cut-splits xs ys zs e = record {
@@ -382,28 +371,100 @@ module _ (w : ℕ) (b header : List ℕ) (units : List (List ℕ)) (cut : Cut w 
   }
 
 -- The first units of a cut are a cut of what they declare.
-pub cut-first : (w : ℕ) (b header : List ℕ) (xs ys : List (List ℕ)) → Cut w b header (xs ++ ys) → Cut w (header ++ join xs) header xs
-cut-first w b header xs ys c =
+pub cut-first : (w : ℕ) (b header : List ℕ) (xs ys : List (List ℕ)) → Cut w b header (xs ++ ys) → Faultless w b → Cut w (header ++ join xs) header xs
+cut-first w b header xs ys c whole =
     record {
       joined = refl;
       header-whole = c .header-whole;
       header-only = c .header-only;
       declarations = λ ks bs u e. c .declarations ks (bs ++ ys) u (further ks bs u e);
-      named = λ ks bs u e two five n m. ⊎-elim inl (λ no. inr (λ d. no (subst (λ (ls : List Line). Declared (program ls) n) (sym parts) (declared-left (lines w (header ++ join xs)) (lines w (join ys)) n d)))) (c .named ks (bs ++ ys) u (further ks bs u e) two five n m);
+      named = λ _ ks bs u e n m. ⊎-elim inl (λ no. inr (λ d. no (subst (λ (ls : List Line). Declared (program ls) n) (sym parts) (declared-left (lines w (header ++ join xs)) (lines w (join ys)) n d)))) (c .named whole ks (bs ++ ys) u (further ks bs u e) n m);
     }
   where
     further : (ks bs : List (List ℕ)) (u : List ℕ) → xs ≡ ks ++ (u ∷ bs) → xs ++ ys ≡ ks ++ (u ∷ (bs ++ ys))
     further ks bs u e = ap (λ (t : List (List ℕ)). t ++ ys) e ∙ append-assoc ks (u ∷ bs) ys
 
     first-whole : Whole w (header ++ join xs)
-    first-whole = cut-splits w b header (xs ++ ys) c xs ys [] (ap (λ (t : List (List ℕ)). xs ++ t) (sym (append-nil ys))) .first-whole
+    first-whole = cut-splits w b header (xs ++ ys) c whole xs ys [] (ap (λ (t : List (List ℕ)). xs ++ t) (sym (append-nil ys))) .first-whole
 
     parts : lines w b ≡ lines w (header ++ join xs) ++ lines w (join ys)
     parts =
         ap (lines w) (c .joined ∙ joined-parts header xs ys)
         ∙ lines-cut w (header ++ join xs) (join ys) first-whole
 
+-- ---- lines that row 2 or 5 faults
+-- the same over lines
+record Sane (w : ℕ) (b : List ℕ) : Type 0 where
+  no-bad : NoBad (lines w b)
+  clear5 : Clear (length (lines w b)) (row5 (lines w b))
+
+sane-faultless : (w : ℕ) (b : List ℕ) → Sane w b → Faultless w b
+unfolding row2
+sane-faultless w b s =
+    record {
+      no-bad = first-none (λ i. isBad (line w b i)) (count w b) (no-bad-pass w b (s .no-bad));
+      in-range = first-none (row5 (lines w b)) (count w b) (λ i h. s .clear5 i (omega (arith, length-lines w b)));
+    }
+
+pub passes-faultless : (f : Format) (b : List ℕ) (v l : ℕ) → Passes f b v l → Faultless (f .columns) b
+unfolding row2
+passes-faultless f b v l p =
+    record { no-bad = first-none (λ i. isBad (line (f .columns) b i)) (count (f .columns) b) (p .pass2); in-range = first-none (row5 (lines (f .columns) b)) (count (f .columns) b) (p .pass5) }
+
+passes-sane : (f : Format) (b : List ℕ) (v l : ℕ) → Passes f b v l → Sane (f .columns) b
+passes-sane f b v l p = record { no-bad = pass-no-bad (f .columns) b (p .pass2); clear5 = λ i h. p .pass5 i (omega (arith, length-lines (f .columns) b)) }
+
+-- An accepted sheet's verdict sheet has faults with lines behind it only where the sheet has.
+sane-import : (f : Format) (v l : ℕ) → 0 < f .columns → (p q : List ℕ) → Passes f p v l → (NoBad (lines (f .columns) q) → Starts is-head (lines (f .columns) q))
+    → Sane (f .columns) (sheets f p .verdict ++ q) → Sane (f .columns) (p ++ q)
+unfolding sheets verdict-sheet
+sane-import f v l pos p q h starts k =
+    let w : ℕ = f .columns in
+    let ps : List Line = lines w p in
+    let qs : List Line = lines w q in
+    let s : Sound f p v l = passes-sound f p v l h in
+    let e : lines w (sheets f p .verdict ++ q) ≡ verdicts f ps ++ qs = verdict-lines-behind f v l pos p q h in
+    let nv : NoBad (verdicts f ps ++ qs) = subst NoBad e (k .no-bad) in
+    let nq : NoBad qs = none-right isBad (verdicts f ps) qs nv in
+    let r : SameRows f ps qs = same-rows f ps qs (s .checks) (starts nq) in
+    let c : Clear (length (verdicts f ps ++ qs)) (row5 (verdicts f ps ++ qs)) = subst (λ (ls : List Line). Clear (length ls) (row5 ls)) e (k .clear5) in
+    let parts : lines w (p ++ q) ≡ ps ++ qs = lines-cut w p q (pass-whole f p v l h) in
+    record {
+      no-bad = subst NoBad (sym parts) (none-append isBad ps qs (s .no-bad) nq);
+      clear5 = subst (λ (ls : List Line). Clear (length ls) (row5 ls)) (sym parts) (λ i j. sym (r .same5 i) ∙ c i (omega (arith, r .same-length)));
+    }
+
+-- where the units build, no line of them is faulted
+builds-sane : (f : Format) (v l : ℕ) → 0 < f .columns → (us : List (List ℕ)) (s u : List ℕ) → Units (f .columns) (u ∷ us) → (x : Sheets) → builds f v l s u us ≡ some x → Sane (f .columns) (s ++ join (u ∷ us))
+unfolding builds join
+builds-sane f v l pos [] s u d x e = rw append-nil (passes-sane f (s ++ u) v l (build-passes f (s ++ u) v l x e))
+builds-sane f v l pos (u' ∷ us) s u d x e = go (λ y k. builds-sane f v l pos us (y .verdict) u' (d .1) x k) (build f v l (s ++ u)) refl e
+  where
+    same : (x y : Sheets) → _≡_ {A = Option Sheets} (some x) (some y) → x ≡ y
+    same x y e = cc
+
+    go : ((y : Sheets) → builds f v l (y .verdict) u' us ≡ some x → Sane (f .columns) (y .verdict ++ join (u' ∷ us)))
+        → (r : Option Sheets) → build f v l (s ++ u) ≡ r → elim r [ none ↦ none | some y ↦ builds f v l (y .verdict) u' us ] ≡ some x → Sane (f .columns) (s ++ (u ++ join (u' ∷ us)))
+    go ih none q k = let z : _≡_ {A = ℕ} 0 1 = cc in absurd (omega arith)
+    go ih (some y) q k =
+        let p : Passes f (s ++ u) v l = build-passes f (s ++ u) v l y q in
+        let z : y ≡ sheets f (s ++ u) = same y (sheets f (s ++ u)) (sym q ∙ passes-build f (s ++ u) v l p) in
+        subst (Sane (f .columns)) (append-assoc s u (join (u' ∷ us)))
+        (sane-import f v l pos (s ++ u) (join (u' ∷ us)) p (join-starts (f .columns) (u' ∷ us) (d .1)) (subst (λ (t : Sheets). Sane (f .columns) (t .verdict ++ join (u' ∷ us))) z (ih y k)))
+
 -- The cut, of any sheet: building the units in turn is building the whole.
 pub cut-builds : (f : Format) (v l : ℕ) (b header u : List ℕ) (us : List (List ℕ)) → 0 < f .columns → Cut (f .columns) b header (u ∷ us) → builds f v l header u us ≡ build f v l b
-cut-builds f v l b header u us pos c =
-    chain f v l (Split (f .columns)) (split-steps f v l pos) us header header u (cut-splits (f .columns) b header (u ∷ us) c) refl ∙ ap (build f v l) (sym (c .joined))
+cut-builds f v l b header u us pos c = go (builds f v l header u us) (build f v l b) refl refl
+  where
+    -- where nothing is faulted, by the parts
+    equal : Faultless (f .columns) b → builds f v l header u us ≡ build f v l b
+    equal h =
+        chain f v l (Split (f .columns)) (split-steps f v l pos) us header header u (cut-splits (f .columns) b header (u ∷ us) c h) refl ∙ ap (build f v l) (sym (c .joined))
+
+    -- and where a line is, both are refused
+    go : (x y : Option Sheets) → builds f v l header u us ≡ x → build f v l b ≡ y → x ≡ y
+    go none none p q = refl
+    go (some x) y p q =
+        sym p
+        ∙ (equal (sane-faultless (f .columns) b (subst (Sane (f .columns)) (sym (c .joined)) (builds-sane f v l pos us header u (units-of (f .columns) (u ∷ us) (c .declarations)) x p))) ∙ q)
+    go none (some y) p q = sym p ∙ (equal (passes-faultless f b v l (build-passes f b v l y q)) ∙ q)
