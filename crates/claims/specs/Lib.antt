@@ -1,5 +1,6 @@
 pub mod Unerased
 pub mod ClaimsLaws
 pub mod Claims
+pub mod Base
 pub mod CutTest
 pub mod Instance

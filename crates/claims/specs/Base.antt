@@ -1,0 +1,115 @@
+-- What is promised of every call of the layout build, in document 01's own format: the claims of
+-- `Claims`, in short and with nothing assumed of the format. Read this first; `Claims` has the words in full.
+--
+-- b is the sheet, v and l the lengths of the outputs for the verdict sheet and the left sheet.
+-- Assumes nothing.
+use mathlib.Core.Logic.{_↔_}
+use mathlib.Core.Path.{_≡_}
+use mathlib.Core.List.{List, [], _∷_, _++_, List·Memᴰ}
+use mathlib.Core.Bool.{Bool, true, false}
+use mathlib.Core.Option.{some}
+use Prim.Native.Nat.{ℕ, _≤_, _<_}
+use native.Mathlib.Omega.{arith}
+use lib.ListN.{length, getD}
+use Rattle.sheet.specs.Format.{base}
+use Rattle.sheet.specs.Line.{Line, letter, number}
+use Rattle.sheet.specs.Sheet.{lines}
+use Rattle.model.specs.Cty.{Cty}
+use Rattle.model.specs.Decl.{NewtypeLayout, L-newtype, TypeInfo, here, imported, dtype-at, origin-at}
+use Rattle.model.specs.Reach.{Reach}
+use Rattle.model.specs.Layout.{guard-next, candidates-of, Candidate}
+use Rattle.model.specs.Resolve.{stays}
+use Rattle.model.specs.Run.{run, lay, layout-of-decl, resolves}
+use Rattle.model.specs.Names.{Declared, Agree}
+use Rattle.meaning.specs.Program.{type-line}
+use Rattle.answer.specs.Answer.{answer, rows, Passes, Refuses}
+use Rattle.answer.specs.Cut.{Sheets, build, builds, Cut, Call, Over, InTurn, last-call, AllAccept, Wrote}
+use Rattle.answer.specs.Laws.Left.{base-ample}
+use Rattle.answer.specs.Laws.Pass.{own-imports}
+use Rattle.claims.specs.Claims.{Accepts, decls, marks, erased, Least, Rounds, LocalVerdict, Unspent, OfSource, Unchanged, Holds, Same, FirstUnits}
+use Rattle.claims.specs.Claims as claims
+
+-- ---- demand 1: refusals
+-- code 0 exactly where no row of the table applies
+pub refused : (b : List ℕ) (v l : ℕ) → Accepts base b v l ↔ Passes base b v l
+refused = claims.refused base
+
+-- else one of the codes 1 to 12, of the first row that applies, at the first place where it does
+pub refused-by : (b : List ℕ) (v l : ℕ) → (Accepts base b v l → ⊥) → Refuses (rows base b v l) (answer base b v l .code) (answer base b v l .place) × (1 ≤ answer base b v l .code) × (answer base b v l .code ≤ 12)
+refused-by b v l = claims.refused-by base b v l base-ample
+
+-- then both outputs keep their bytes
+pub unchanged : (b : List ℕ) (v l : ℕ) → (Accepts base b v l → ⊥) → Unchanged (answer base b v l)
+unchanged = claims.unchanged base
+
+-- and on acceptance each begins with its sheet and keeps its bytes past it
+pub written : (b : List ℕ) (v l : ℕ) → Accepts base b v l → (old old' : List ℕ) → length old ≡ v → length old' ≡ l → Holds (answer base b v l .verdict) old × Holds (answer base b v l .left) old'
+written b v l = claims.written base b v l (omega arith)
+
+-- ---- demand 2: the source's answer
+-- erasure is the least solution of the rules
+pub least : (b : List ℕ) (v l : ℕ) → Accepts base b v l → Least (decls base b)
+least = claims.least base
+
+-- found in the rounds that are told, at most one more than there are local types
+pub rounds : (b : List ℕ) (v l : ℕ) → Accepts base b v l → Rounds (decls base b) (answer base b v l .rounds)
+rounds = claims.rounds base
+
+-- a local type keeps the fields that are not erased, in order; its layout and record number
+pub kept-fields : (b : List ℕ) (v l : ℕ) → Accepts base b v l → (i : ℕ) → i < length (decls base b) → origin-at (decls base b) i ≡ here
+    → (d : TypeInfo) → LocalVerdict 100 (decls base b) i (getD (run 100 (decls base b) .infos) i d)
+kept-fields = claims.kept-fields base
+
+-- a constructor collapses exactly where the guards allow
+pub collapsed : (b : List ℕ) (v l : ℕ) → Accepts base b v l → (i : ℕ) → i < length (decls base b) → origin-at (decls base b) i ≡ here → (nt : NewtypeLayout)
+    → (layout-of-decl (decls base b) i ≡ L-newtype nt)
+    ↔ (Candidate (erased (decls base b)) (dtype-at (decls base b) i) (getD (marks (decls base b)) i false) nt
+    × (Reach (guard-next (decls base b) (candidates-of (decls base b) (marks (decls base b)))) i i → ⊥))
+collapsed = claims.collapsed base
+
+-- imports keep what their lines say
+pub imports : (b : List ℕ) (v l : ℕ) → Accepts base b v l → (i : ℕ) (ti : TypeInfo) → i < length (decls base b) → origin-at (decls base b) i ≡ imported ti
+    → ((d : TypeInfo) → getD (run 100 (decls base b) .infos) i d ≡ ti) × (layout-of-decl (decls base b) i ≡ ti .ti-layout)
+imports = claims.imports base
+
+-- every type is resolved to the end, the fuel of 100 never spent
+pub unspent : (b : List ℕ) (v l : ℕ) → Accepts base b v l → (i : ℕ) → i < length (decls base b) → (c : Cty) → List·Memᴰ c (resolves (layout-of-decl (decls base b) i)) → Unspent base (decls base b) c
+unspent b v l = claims.unspent base b v l base-ample
+
+-- the two sheets are those of the source's `run`
+pub run-of-source : (b : List ℕ) (v l : ℕ) → Accepts base b v l → OfSource base b (answer base b v l)
+run-of-source = claims.run-of-source base
+
+-- ---- demand 3: the cut
+-- units built in turn give what the whole gives
+pub cut : (v l : ℕ) (b header u : List ℕ) (us : List (List ℕ)) → Cut 6 b header (u ∷ us) → builds base v l header u us ≡ build base v l b
+cut v l b header u us = claims.cut base v l b header u us (omega arith)
+
+-- and so do calls
+pub cut-calls : (v l : ℕ) (b header u : List ℕ) (us : List (List ℕ)) → Cut 6 b header (u ∷ us)
+    → (c : Call base) (cs : List (Call base)) → InTurn base v l header u us c cs → (whole : Call base) → Over base v l [] b whole
+    → (AllAccept c cs ↔ (whole .gave .code ≡ 0)) × (whole .gave .code ≡ 0 → (x : Sheets) × Wrote whole x × Wrote (last-call c cs) x)
+cut-calls v l b header u us = claims.cut-calls base v l b header u us (omega arith)
+
+-- ---- the operator's checklist
+-- 1: the verdict sheet is as long as the sheet; built again it gives itself
+pub verdict-length : (b : List ℕ) (v l : ℕ) → Accepts base b v l → length (answer base b v l .verdict) ≡ length b
+verdict-length b v l = claims.verdict-length base b v l (omega arith)
+
+pub verdict-again : (b : List ℕ) (v l : ℕ) (x : Sheets) → build base v l b ≡ some x → build base v l (x .verdict) ≡ some x
+verdict-again b v l = claims.verdict-again base b v l (omega arith)
+
+-- 2: a record keeps the same fields in every unit
+pub same-fields : (v l : ℕ) (b header u : List ℕ) (us ys : List (List ℕ)) → Cut 6 b header (u ∷ (us ++ ys)) → (y : Sheets) → build base v l b ≡ some y → FirstUnits base v l b header u us y
+same-fields v l b header u us ys = claims.same-fields base v l b header u us ys (omega arith)
+
+-- 3: nothing in the left sheet names a collapsed or erased type
+pub resolved : (b : List ℕ) (v l : ℕ) → Accepts base b v l → (y : Line) → List·Memᴰ y (lines 6 (answer base b v l .left)) → letter y ≡ type-line → number y 0 ≡ 8 → lay (decls base b) (number y 1) ≡ stays
+resolved b v l = claims.resolved base b v l base-ample
+
+-- 4: the refusal line shows 0 exactly on acceptance (`refused`)
+
+-- ---- locality
+-- what a type gets depends on what it reaches alone
+pub locality : (S : ℕ → Bool) (b b' : List ℕ) → Agree S (decls base b) (decls base b') → (n : ℕ) → S n ≡ true → Declared (decls base b) n → Same 1024 100 (decls base b) (decls base b') n
+locality S b b' agree = claims.locality 1024 100 S (decls base b) (decls base b') agree (own-imports (lines 6 b)) (own-imports (lines 6 b'))
