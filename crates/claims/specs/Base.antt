@@ -8,20 +8,22 @@ use mathlib.Core.Path.{_≡_}
 use mathlib.Core.List.{List, [], _∷_, _++_, List·Memᴰ}
 use mathlib.Core.Bool.{Bool, true, false}
 use mathlib.Core.Option.{some}
-use Prim.Native.Nat.{ℕ, _≤_, _<_}
+use Prim.Native.Nat.{ℕ, suc, _-_, _≤_, _<_}
 use native.Mathlib.Omega.{arith}
 use lib.ListN.{length, getD}
 use Rattle.sheet.specs.Format.{base}
 use Rattle.sheet.specs.Line.{Line, letter, number}
-use Rattle.sheet.specs.Sheet.{lines}
+use Rattle.sheet.specs.Sheet.{count, lines}
 use Rattle.model.specs.Cty.{Cty}
 use Rattle.model.specs.Decl.{NewtypeLayout, L-newtype, TypeInfo, here, imported, dtype-at, origin-at}
 use Rattle.model.specs.Reach.{Reach}
 use Rattle.model.specs.Layout.{guard-next, candidates-of, Candidate}
 use Rattle.model.specs.Resolve.{stays}
-use Rattle.model.specs.Run.{run, lay, layout-of-decl, resolves}
+use Rattle.model.specs.Run.{run, info-at, lay, layout-of-decl, resolves}
 use Rattle.model.specs.Names.{Declared, Agree}
-use Rattle.meaning.specs.Program.{type-line}
+use Rattle.meaning.specs.Program.{type-line, trees}
+use Rattle.meaning.specs.Rows.{line-at, heads-before, head-of}
+use Rattle.meaning.specs.Output.{verdict-line-of}
 use Rattle.answer.specs.Answer.{answer, rows, Passes, Refuses}
 use Rattle.answer.specs.Cut.{Sheets, build, builds, Cut, Call, Over, InTurn, last-call, AllAccept, Wrote}
 use Rattle.answer.specs.Laws.Left.{base-ample}
@@ -95,6 +97,12 @@ cut-calls v l b header u us = claims.cut-calls base v l b header u us (omega ari
 -- 1: the verdict sheet is as long as the sheet; built again it gives itself
 pub verdict-length : (b : List ℕ) (v l : ℕ) → Accepts base b v l → length (answer base b v l .verdict) ≡ length b
 verdict-length b v l = claims.verdict-length base b v l (omega arith)
+
+-- line by line: D has become I, and local declarations have their keep and V numbers
+pub verdict-lines-told : (b : List ℕ) (v l : ℕ) → Accepts base b v l → (i : ℕ) → i < count 6 b
+    → line-at (lines 6 (answer base b v l .verdict)) i
+    ≡ verdict-line-of (erased (decls base b)) (trees (lines 6 b)) (info-at 100 (decls base b) (heads-before (lines 6 b) (suc i) - 1)) (head-of (lines 6 b) i) (line-at (lines 6 b) i)
+verdict-lines-told b v l = claims.verdict-lines-told base b v l (omega arith)
 
 pub verdict-again : (b : List ℕ) (v l : ℕ) (x : Sheets) → build base v l b ≡ some x → build base v l (x .verdict) ≡ some x
 verdict-again b v l = claims.verdict-again base b v l (omega arith)

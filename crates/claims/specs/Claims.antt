@@ -9,13 +9,14 @@ use mathlib.Core.Path.{_≡_, refl, sym, _∙_, ap, subst}
 use mathlib.Core.List.{List, [], _∷_, _++_, map, append-nil, List·Memᴰ}
 use mathlib.Core.Bool.{Bool, true, false, not}
 use mathlib.Core.Option.{Option, some}
-use Prim.Native.Nat.{ℕ, suc, _≤_, _<_}
+use Prim.Native.Nat.{_-_, ℕ, suc, _≤_, _<_}
 use native.Mathlib.Omega.{arith}
 use lib.Dec.{T}
 use lib.ListN.{length, getD, drop, List·getD-append}
 use Rattle.sheet.specs.Format.{Format}
 use Rattle.sheet.specs.Line.{Line, letter, number}
-use Rattle.sheet.specs.Sheet.{lines, encodes}
+use Rattle.sheet.specs.SheetLaws.{length-lines}
+use Rattle.sheet.specs.Sheet.{count, lines, encodes}
 use Rattle.model.specs.Cty.{Cty}
 use Rattle.model.specs.Decl.{
   Dtype,
@@ -35,8 +36,10 @@ use Rattle.model.specs.Reach.{Reach}
 use Rattle.model.specs.Layout.{ctor-layouts, guard-next, Candidate, candidates-of}
 use Rattle.model.specs.Resolve.{stays, resolve, ok, resolve-checked}
 use Rattle.model.specs.Run.{record-of, left-program, run, layouts-of, resolves, decl-fault, returns, lay, layout-of-decl, left-at, info-at}
-use Rattle.meaning.specs.Program.{type-line, program}
-use Rattle.meaning.specs.Output.{verdict-lines, left-lines}
+use Rattle.meaning.specs.Program.{type-line, trees, program}
+use Rattle.meaning.specs.Rows.{line-at, heads-before, head-of}
+use Rattle.meaning.specs.Output.{verdict-lines, verdict-line-of, left-lines}
+use Rattle.meaning.specs.Laws.Verdict.{verdict-line-at}
 use Rattle.answer.specs.Answer.{rows, Refuses, Answer, verdict-sheet, left-sheet, answered, answer, after, Passes, Ample}
 use Rattle.model.specs.Names.{Declared, Agree, OwnImports}
 use Rattle.answer.specs.Cut.{Faultless, Sheets, build, builds, join, Cut, Call, Over, InTurn, last-call, AllAccept, Wrote}
@@ -49,7 +52,7 @@ use Rattle.locality.specs.Laws.Fuel.{fuel-same}
 use Rattle.locality.specs.Laws.Rename.{Injective, rename-decls, SameRenamed, locality-renamed}
 use Rattle.answer.specs.Laws.Answer.{sheets, build-passes, accepted-passes, passes-accepted, Nothing, refused-nothing, after-length, after-past}
 use Rattle.answer.specs.Laws.Left.{pass-no-return, pass-resolved, few-decls, left-sheet-names}
-use Rattle.answer.specs.Laws.Build.{Split, split-steps, split-nothing, prefix-verdict, prefix-left-table, pass-whole, verdict-sheet-length}
+use Rattle.answer.specs.Laws.Build.{Split, split-steps, split-nothing, prefix-verdict, prefix-left-table, pass-whole, verdict-sheet-length, verdict-sheet-lines, passes-whole}
 use Rattle.answer.specs.Laws.Refused.{answer-refuses}
 use Rattle.answer.specs.Laws.Calls.{cut-accepts, cut-wrote}
 use Rattle.answer.specs.Laws.Split.{joined-parts, cut-splits, cut-first, cut-builds, passes-faultless}
@@ -183,6 +186,18 @@ run-of-source f b v l a = record { verdicts = answer-verdict f b v l a; declarat
 -- alone is accepted and gives it back with the same left sheet.
 pub verdict-length : (f : Format) (b : List ℕ) (v l : ℕ) → 0 < f .columns → Accepts f b v l → length (answer f b v l .verdict) ≡ length b
 verdict-length f b v l pos a = ap length (answer-verdict f b v l a) ∙ verdict-sheet-length f b v l pos (accepted-passes f b v l a)
+
+-- VERDICT LINES. Line i of the verdict sheet is line i of the sheet, but for D lines and the F and V lines of
+-- D declarations (`verdict-line-of`): there D has become I, the keep number is 1 exactly where the field's
+-- type is not erased, and V has the verdict's numbers.
+pub verdict-lines-told : (f : Format) (b : List ℕ) (v l : ℕ) → 0 < f .columns → Accepts f b v l → (i : ℕ) → i < count (f .columns) b
+    → line-at (lines (f .columns) (answer f b v l .verdict)) i
+    ≡ verdict-line-of (erased (decls f b)) (trees (lines (f .columns) b)) (info-at (f .fuel) (decls f b) (heads-before (lines (f .columns) b) (suc i) - 1)) (head-of (lines (f .columns) b) i) (line-at (lines (f .columns) b) i)
+verdict-lines-told f b v l pos a i h =
+    let p : Passes f b v l = accepted-passes f b v l a in
+    ap (λ (x : List ℕ). line-at (lines (f .columns) x) i) (answer-verdict f b v l a)
+    ∙ (ap (λ (ls : List Line). line-at ls i) (verdict-sheet-lines f b v l pos p)
+    ∙ verdict-line-at (f .fuel) (lines (f .columns) b) (passes-whole f b v l p) i (omega (arith, length-lines (f .columns) b)))
 
 pub verdict-again : (f : Format) (b : List ℕ) (v l : ℕ) → 0 < f .columns → (x : Sheets) → build f v l b ≡ some x → build f v l (x .verdict) ≡ some x
 verdict-again f b v l pos x e =

@@ -4,3 +4,4 @@ pub mod Imports
 pub mod Output
 pub mod Written
 pub mod Numbers
+pub mod Verdict

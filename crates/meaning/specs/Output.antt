@@ -1,15 +1,17 @@
 -- The two sheets that an accepted build writes (document 01, "Verdict sheet" and "Left sheet"), as
 -- lines. Assumes nothing.
 use mathlib.Core.List.{List, [], _∷_, _++_, map}
-use mathlib.Core.Bool.{Bool, true, false}
+use mathlib.Core.Bool.{not, Bool, true, false}
 use Prim.Native.Nat.{ℕ, _+_, _-_}
 use lib.Dec.{eqb}
 use lib.ListN.{length}
-use Rattle.columns.specs.Column.{pick}
+use Rattle.columns.specs.Column.{_⇒_∥_, pick}
 use Rattle.sheet.specs.Line.{Line, row, number}
 use Rattle.model.specs.Cty.{Cty, Ctys, TUnit, TAny, TExn, TVar, TInt, TFloat, TConst, TArrow, TApp, TTuple, TBuf, TRef, TInline, nil, cons}
 use Rattle.model.specs.Decl.{Field, Ctor, Body, TAbstract, TAbbrev, TRecord, TVariant, Dtype, CtorLayout, TypeInfo, bit, layout-number}
+use Rattle.model.specs.Erasure.{cty-erased}
 use Rattle.meaning.specs.Program.{
+  type-at,
   name-line,
   arg-line,
   type-line,
@@ -64,6 +66,17 @@ fill-all (g ∷ gs) (ti ∷ tis) = fill g ti ++ fill-all gs tis
 
 unfoldable pub verdict-lines : List Line → List TypeInfo → List Line
 verdict-lines ls tis = before is-head ls ++ fill-all (groups is-head ls) tis
+
+-- The same line by line, which is what is claimed of it. Of a declaration that begins with line h and has
+-- the verdict ti, line l: an import's stays, and so does a line of the header. D becomes I, an F line's keep
+-- is 1 where its type is not erased (`er` says which names are), and V has the verdict's numbers.
+unfoldable pub verdict-line-of : (ℕ → Bool) → List Cty → TypeInfo → Line → Line → Line
+verdict-line-of er ts ti h l =
+    not (is local-line h) ⇒ l ∥
+    is-head l ⇒ row import-line (map (number l) (0 ∷ 1 ∷ 2 ∷ 3 ∷ 4 ∷ [])) ∥
+    is field-line l ⇒ row field-line (number l 0 ∷ number l 1 ∷ bit (not (cty-erased er (type-at ts (number l 1)))) ∷ 0 ∷ 0 ∷ []) ∥
+    is verdict-line l ⇒ row verdict-line (bit (ti .ti-erased) ∷ layout-number (ti .ti-layout) ∷ bit (ti .ti-record) ∷ 0 ∷ 0 ∷ []) ∥
+    l
 
 -- ---- the left sheet
 -- the types of the A lines and the numbers of the Y lines that are written so far

@@ -25,8 +25,8 @@ use Rattle.meaning.specs.Output.{fill-all, verdict-lines, left-lines}
 use Rattle.answer.specs.Answer.{row8, row9-10, verdict-sheet, left-sheet, Clear, Passes}
 use Rattle.answer.specs.Cut.{Sheets, build, Whole}
 use Rattle.model.specs.Names.{Distinct, undeclared}
-use Rattle.meaning.specs.Laws.Program.{None, Starts, select-append, told-groups, run-told, verdict-lines-append, none-left, none-right, none-append}
-use Rattle.meaning.specs.Laws.Rows.{Ends, row3-ends, ends-row3, row3-raws, NoHeader, no-header, row5-prefix}
+use Rattle.meaning.specs.Laws.Program.{AllWhole, None, Starts, select-append, told-groups, run-told, verdict-lines-append, none-left, none-right, none-append}
+use Rattle.meaning.specs.Laws.Rows.{ends-whole, Ends, row3-ends, ends-row3, row3-raws, NoHeader, no-header, row5-prefix}
 use Rattle.meaning.specs.Laws.Output.{Sized, fits-sized, left-bytes-prefix, ten, verdict-fits, verdict-bytes, verdict-round}
 use Rattle.answer.specs.Laws.Answer.{sheets, passes-build, build-passes, build-equal}
 use Rattle.answer.specs.Laws.Pass.{clear-heads, heads-clear, own-imports}
@@ -405,10 +405,21 @@ unfolding verdict-sheet
 verdict-sheet-length f b v l pos h =
     verdict-length f v l b [] (split-nothing (f .columns) b (pass-whole f b v l h)) pos (passes-sound f b v l h)
 
+-- the lines that it reads as
+pub verdict-sheet-lines : (f : Format) (b : List ℕ) (v l : ℕ) → 0 < f .columns → Passes f b v l → lines (f .columns) (verdict-sheet f (lines (f .columns) b)) ≡ verdicts f (lines (f .columns) b)
+unfolding verdict-sheet
+verdict-sheet-lines f b v l pos h =
+    let w : ℕ = f .columns in
+    verdict-round w (lines w b) (run (f .fuel) (program (lines w b)) .infos) pos (no-bad-fit w b (pass-no-bad w b (h .pass2)))
+
+-- every declaration of an accepted sheet is as its counts say
+pub passes-whole : (f : Format) (b : List ℕ) (v l : ℕ) → Passes f b v l → AllWhole (groups is-head (lines (f .columns) b))
+passes-whole f b v l h = ends-whole (lines (f .columns) b) (passes-sound f b v l h .checks .ends)
+
 -- the lines of that sheet with lines behind it
 pub verdict-lines-behind : (f : Format) (v l : ℕ) → 0 < f .columns → (p q : List ℕ) → Passes f p v l → lines (f .columns) (verdict-sheet f (lines (f .columns) p) ++ q) ≡ verdicts f (lines (f .columns) p) ++ lines (f .columns) q
 unfolding verdict-sheet
 verdict-lines-behind f v l pos p q h =
     let w : ℕ = f .columns in
     lines-append w (count w p) (verdict-sheet f (lines w p)) q (verdict-sheet-length f p v l pos h ∙ whole-length w p (pass-whole f p v l h))
-    ∙ ap (λ (ls : List Line). ls ++ lines w q) (verdict-round w (lines w p) (run (f .fuel) (program (lines w p)) .infos) pos (no-bad-fit w p (pass-no-bad w p (h .pass2))))
+    ∙ ap (λ (ls : List Line). ls ++ lines w q) (verdict-sheet-lines f p v l pos h)

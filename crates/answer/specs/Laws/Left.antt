@@ -427,8 +427,3 @@ module _ (f : Format) (b : List ℕ) (v l : ℕ) (ample : Ample f) (pass : Passe
   -- Its types name nothing that is unfolded or erased.
   pub left-sheet-names : (y : Line) → List·Memᴰ y (lines (f .columns) (left-sheet f sheet-lines)) → letter y ≡ type-line → number y 0 ≡ 8 → lay sheet-program (number y 1) ≡ stays
   left-sheet-names = rw left-sheet-lines (left-sheet-normal (f .fuel) sheet-lines sheet-program (left-all (Normal (lay sheet-program)) (λ c r. r .normal)))
-
-  -- ---- the verdict sheet
-  pub verdict-sheet-lines : lines (f .columns) (verdict-sheet f sheet-lines) ≡ verdict-lines sheet-lines (run (f .fuel) sheet-program .infos)
-  unfolding verdict-sheet
-  verdict-sheet-lines = verdict-round (f .columns) sheet-lines (run (f .fuel) sheet-program .infos) (columns-positive (f .columns) (ample .kinds)) pass-fit

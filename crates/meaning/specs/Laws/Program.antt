@@ -285,11 +285,11 @@ head-cases l e = go (is local-line l) refl e
 pub head-not : (l : Line) → is-head l ≡ false → (is local-line l ≡ false) × (is import-line l ≡ false)
 head-not l e = neither (is local-line l) (is import-line l) e
 
-heads-head : (l : Line) (ls : List Line) → is-head l ≡ true → heads (l ∷ ls) ≡ suc (heads ls)
+pub heads-head : (l : Line) (ls : List Line) → is-head l ≡ true → heads (l ∷ ls) ≡ suc (heads ls)
 unfolding select
 heads-head l ls e = ⊎-elim (λ h. rw h (omega arith)) (λ h. rw h (omega arith)) (head-cases l e)
 
-heads-other : (l : Line) (ls : List Line) → is-head l ≡ false → heads (l ∷ ls) ≡ heads ls
+pub heads-other : (l : Line) (ls : List Line) → is-head l ≡ false → heads (l ∷ ls) ≡ heads ls
 unfolding select
 heads-other l ls e = let k = head-not l e in rw (k .0, k .1)
 

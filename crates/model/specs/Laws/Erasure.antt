@@ -11,8 +11,8 @@ use lib.Dec.{T, eqb, eqb→eq, eqb-refl}
 use lib.ListN.{length, getD, length-map, List·getD-map, List·getD-eq-default}
 use Rattle.columns.specs.Column.{pick}
 use Rattle.sheet.specs.ListLaws.{getD-within}
-use Rattle.model.specs.Cty.{Cty, Ctys, TUnit, TAny, TExn, TVar, TInt, TFloat, TConst, TArrow, TApp, TTuple, TBuf, TRef, TInline, nil, cons, gather, gathers, names-of-cty}
-use Rattle.model.specs.Decl.{Field, Ctor, Body, TAbstract, TAbbrev, TRecord, TVariant, Dtype, Erased, Realized, has-flag, ctors-of, CtorLayout, bit, TypeInfo, Origin, here, imported, Decl, no-decl, dtype-at, origin-at, table, position}
+use Rattle.model.specs.Cty.{walks, walk, Cty, Ctys, TUnit, TAny, TExn, TVar, TInt, TFloat, TConst, TArrow, TApp, TTuple, TBuf, TRef, TInline, nil, cons, gather, gathers, names-of-cty}
+use Rattle.model.specs.Decl.{member, close, Field, Ctor, Body, TAbstract, TAbbrev, TRecord, TVariant, Dtype, Erased, Realized, has-flag, ctors-of, CtorLayout, bit, TypeInfo, Origin, here, imported, Decl, no-decl, dtype-at, origin-at, table, position}
 use Rattle.model.specs.Erasure.{local, locals, is-pure, cty-erased, ctys-erased, fields-erased, body-erased, dtype-erased, marked, rule-of, rule, start-of, start, erasure-fixpoint, Made}
 use Rattle.model.specs.Layout.{layouts-of-ctors, slots, ctor-layout, ctor-layouts}
 use Rattle.model.specs.Names.{fields-names, ctors-names, body-names, dtype-names, Declared, Distinct, Agree, Pin, Pinned}
@@ -169,6 +169,40 @@ module _ (er er' : ℕ → Bool) where
   ctor-layouts-local d h = ctors-local (ctors-of (d .dt-name) (d .dt-body)) (λ n m. h n (ctors-own (d .dt-name) (d .dt-body) n m))
 
 -- ---- lists
+-- ---- closing
+-- a variable is kept, bound or not, so closing changes no erasure
+module _ (er : ℕ → Bool) (ps : List ℕ) where
+  bound-kept : (b : Bool) (v : ℕ) → cty-erased er (pick b (TVar v) TAny) ≡ false
+  unfolding cty-erased
+  bound-kept true v = refl
+  bound-kept false v = refl
+
+  mutual
+    unfolding walk cty-erased
+
+    walk-erased : (c : Cty) → cty-erased er (walk (λ v. pick (member v ps) (TVar v) TAny) TApp c) ≡ cty-erased er c
+    walk-erased TUnit = refl
+    walk-erased TAny = refl
+    walk-erased TExn = refl
+    walk-erased (TVar v) = bound-kept (member v ps) v
+    walk-erased (TInt s w) = refl
+    walk-erased (TFloat f) = refl
+    walk-erased (TConst c) = refl
+    walk-erased (TArrow a e b) = ap (λ (x : Bool). is-pure e && x) (walk-erased b)
+    walk-erased (TApp n ts) = refl
+    walk-erased (TTuple ts) = walks-erased ts
+    walk-erased (TBuf t) = refl
+    walk-erased (TRef k t) = refl
+    walk-erased (TInline t) = walk-erased t
+
+    walks-erased : (ts : Ctys) → ctys-erased er (walks (λ v. pick (member v ps) (TVar v) TAny) TApp ts) ≡ ctys-erased er ts
+    walks-erased nil = refl
+    walks-erased (cons t ts) = ap₂ _&&_ (walk-erased t) (walks-erased ts)
+
+  pub close-erased : (c : Cty) → cty-erased er (close ps c) ≡ cty-erased er c
+  unfolding close
+  close-erased c = walk-erased c
+
 -- ---- the program's rules
 -- all marks but those that an import's verdict denies
 most-of : Origin → Bool
