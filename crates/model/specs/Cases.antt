@@ -64,6 +64,7 @@ use Rattle.model.specs.Decl.{
   L-struct,
   L-abbrev,
   L-opaque,
+  bit,
   layout-number,
   TypeInfo,
   here,
@@ -268,6 +269,10 @@ layouts = layouts-of
 unfoldable pub number-of : Layout → ℕ
 unfolding layout-number
 number-of = layout-number
+
+unfoldable pub place-in : List Decl → ℕ → ℕ
+unfolding position
+place-in = position
 
 -- resolution
 unfoldable pub becomes : ℕ → Body → Layout → Unfold
@@ -597,11 +602,13 @@ pub layouts-computed : Passed layout-cases
 unfolding layout-cases
 layouts-computed = refl
 
--- document 01's numbers
+-- document 01's numbers, and the places of names
 unfoldable pub number-cases : List (Case (List ℕ))
-unfolding number-of
+unfolding number-of place-in
 number-cases =
     map number-of (L-erased ∷ newt A x 0 int ∷ L-struct [] ∷ L-abbrev int ∷ L-opaque ∷ []) gives (0 ∷ 1 ∷ 2 ∷ 3 ∷ 4 ∷ [])
+    ∷ map bit (false ∷ true ∷ []) gives (0 ∷ 1 ∷ [])
+    ∷ map (place-in (abbr p int ∷ abbr q int ∷ [])) (p ∷ q ∷ l ∷ []) gives (0 ∷ 1 ∷ 2 ∷ [])
     ∷ []
 
 pub layouts-numbered : Passed number-cases
