@@ -274,6 +274,20 @@ unfoldable pub place-in : List Decl → ℕ → ℕ
 unfolding position
 place-in = position
 
+-- where the first field is kept
+unfoldable pub kept-at : List Bool → ℕ
+unfolding first-kept
+kept-at = first-kept
+
+-- The search, and the rounds, by their fuel: whether 1 stands behind 0, which leads to itself; one mark to be set.
+unfoldable pub search : ℕ → Bool
+unfolding go
+search k = go (λ n. n ∷ []) k 1 (0 ∷ 1 ∷ []) (false ∷ false ∷ [])
+
+unfoldable pub rounds-by : ℕ → Settled
+unfolding settle sweep update same
+rounds-by k = settle (λ s i. true) k (false ∷ [])
+
 -- resolution
 unfoldable pub becomes : ℕ → Body → Layout → Unfold
 unfolding unfold-of unfold-dtype unfold-body has-flag
@@ -427,7 +441,7 @@ fields-closed = refl
 
 -- ---- erasure
 unfoldable pub erased-cases : List (Case Bool)
-unfolding erased erased-decl equal list
+unfolding erased erased-decl equal search list
 erased-cases =
     -- the thirteen kinds
     erased TUnit gives true
@@ -484,6 +498,10 @@ erased-cases =
     ∷ equal (false ∷ true ∷ []) (false ∷ false ∷ []) gives false
     ∷ equal (true ∷ []) [] gives false
     ∷ equal [] (true ∷ []) gives false
+    -- the search by its fuel
+    ∷ search 0 gives false
+    ∷ search 1 gives false
+    ∷ search 2 gives true
     ∷ []
 
 pub erasure-decided : Passed erased-cases
@@ -501,7 +519,7 @@ abbrev pub erased-import : Decl → Decl
 erased-import d = import d (verdict true L-erased [] false)
 
 unfoldable pub settled-cases : List (Case Settled)
-unfolding settled list
+unfolding settled rounds-by list
 settled-cases =
     settled [] gives after 1 []
     ∷ settled (abbr t int ∷ []) gives after 1 (false ∷ [])
@@ -517,6 +535,10 @@ settled-cases =
     ∷ settled (abbr t (name p) ∷ erased-import (abbr p int) ∷ []) gives after 2 (true ∷ true ∷ [])
     ∷ settled (abbr t (name p) ∷ kept-import (abbr p TUnit) ∷ []) gives after 1 (false ∷ false ∷ [])
     ∷ settled (erased-import (abbr p int) ∷ []) gives after 1 (true ∷ [])
+    -- by fuel
+    ∷ rounds-by 0 gives after 0 (false ∷ [])
+    ∷ rounds-by 1 gives after 1 (true ∷ [])
+    ∷ rounds-by 2 gives after 2 (true ∷ [])
     ∷ []
 
 pub rounds-made : Passed settled-cases
@@ -604,10 +626,11 @@ layouts-computed = refl
 
 -- document 01's numbers, and the places of names
 unfoldable pub number-cases : List (Case (List ℕ))
-unfolding number-of place-in
+unfolding number-of place-in kept-at
 number-cases =
     map number-of (L-erased ∷ newt A x 0 int ∷ L-struct [] ∷ L-abbrev int ∷ L-opaque ∷ []) gives (0 ∷ 1 ∷ 2 ∷ 3 ∷ 4 ∷ [])
     ∷ map bit (false ∷ true ∷ []) gives (0 ∷ 1 ∷ [])
+    ∷ map kept-at ([] ∷ (true ∷ true ∷ []) ∷ (false ∷ true ∷ []) ∷ []) gives (0 ∷ 0 ∷ 1 ∷ [])
     ∷ map (place-in (abbr p int ∷ abbr q int ∷ [])) (p ∷ q ∷ l ∷ []) gives (0 ∷ 1 ∷ 2 ∷ [])
     ∷ []
 
