@@ -308,8 +308,8 @@ kind-cases =
     -- widths
     ∷ map (λ n. type-ok (Y 4 0 n 0)) (1 ∷ 8 ∷ 16 ∷ 32 ∷ 64 ∷ 128 ∷ 0 ∷ 2 ∷ []) gives (true ∷ true ∷ true ∷ true ∷ true ∷ true ∷ false ∷ false ∷ [])
     -- an unused number that is not 0
-    ∷ map type-ok (Y 0 1 0 0 ∷ Y 2 0 0 1 ∷ Y 3 1 1 0 ∷ Y 4 1 8 1 ∷ Y 5 3 1 0 ∷ Y 6 99 0 1 ∷ [])
-    gives (false ∷ false ∷ false ∷ false ∷ false ∷ false ∷ [])
+    ∷ map type-ok (Y 0 1 0 0 ∷ Y 1 1 0 0 ∷ Y 2 1 0 0 ∷ Y 2 0 0 1 ∷ Y 3 1 1 0 ∷ Y 4 1 8 1 ∷ Y 5 3 1 0 ∷ Y 6 99 0 1 ∷ [])
+    gives (false ∷ false ∷ false ∷ false ∷ false ∷ false ∷ false ∷ false ∷ [])
     ∷ map type-ok (Y 9 0 1 1 ∷ Y 10 1 1 0 ∷ Y 11 1 1 1 ∷ Y 12 1 0 1 ∷ row 89 (7 ∷ 1 ∷ 2 ∷ 1 ∷ 1 ∷ []) ∷ row 89 (8 ∷ 1 ∷ 0 ∷ 1 ∷ 1 ∷ []) ∷ [])
     gives (false ∷ false ∷ false ∷ false ∷ false ∷ false ∷ [])
     -- a kind, or one of its numbers, out of range
