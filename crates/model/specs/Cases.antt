@@ -607,6 +607,7 @@ layout-cases =
     ∷ layouts (wrap t (name p) ∷ abbr p (name t) ∷ []) gives (newt A x 0 (name p) ∷ L-abbrev (name t) ∷ [])
     ∷ layouts (wrap t (name p) ∷ decl p NoNewtype [] (one A (field x (name t) ∷ [])) ∷ [])
     gives (newt A x 0 (name p) ∷ struct (name t) ∷ [])
+    ∷ layouts (wrap t (TBuf (name p)) ∷ decl p Erased [] (one A (field x (name t) ∷ [])) ∷ []) gives (newt A x 0 (TBuf (name p)) ∷ L-erased ∷ [])
     ∷ layouts (several (field x int ∷ field y (TArrow (name t) 1 TUnit) ∷ []) ∷ []) gives (newt A x 0 int ∷ [])
     -- but through a candidate that is itself dropped
     ∷ layouts (wrap p (tuple (name p ∷ name t ∷ [])) ∷ wrap t (name p) ∷ [])
@@ -666,11 +667,11 @@ pub unfolding-decided : Passed unfold-cases
 unfolding unfold-cases
 unfolding-decided = refl
 
--- `e` erased; `w 'a = A of` a buffer of `'a`, a newtype; `p 'a = 'a`; `q = l int`; `r 'a = ('a, 'a)`; `t 'a 'b = p 'b`
+-- `e` erased; `w 'a = A of` a buffer of `p 'a`, a newtype; `p 'a = 'a`; `q = l int`; `r 'a = ('a, 'a)`; `t 'a 'b = p 'b`
 abbrev pub lay : ℕ → Unfold
 lay n =
     eqb n e ⇒ gone ∥
-    eqb n w ⇒ newtype (α ∷ []) (TBuf (TVar α)) ∥
+    eqb n w ⇒ newtype (α ∷ []) (TBuf (app p (TVar α ∷ []))) ∥
     eqb n p ⇒ abbreviation (α ∷ []) (TVar α) ∥
     eqb n q ⇒ abbreviation [] (app l (int ∷ [])) ∥
     eqb n r ⇒ abbreviation (α ∷ []) (tuple (TVar α ∷ TVar α ∷ [])) ∥
@@ -704,7 +705,7 @@ resolved-cases =
     -- an erased name with any number of arguments
     ∷ both (name e) gives agreed TUnit
     ∷ both (app e (int ∷ TExn ∷ [])) gives agreed TUnit
-    -- a newtype, its argument first; an abbreviation, and what it stands for in turn
+    -- a newtype, its argument first, and an abbreviation; and what each stands for in turn
     ∷ both (app w (name e ∷ [])) gives agreed (TBuf TUnit)
     ∷ both (app p (app w (int ∷ []) ∷ [])) gives agreed (TBuf int)
     ∷ both (app t (int ∷ TExn ∷ [])) gives agreed TExn
@@ -789,7 +790,7 @@ checked-cases =
     ∷ checks lay 9 1 (app p (int ∷ [])) gives spent
     ∷ checks lay 9 2 (app p (int ∷ [])) gives ok int
     ∷ checks lay 9 1 (app w (int ∷ [])) gives spent
-    ∷ checks lay 9 2 (app w (int ∷ [])) gives ok (TBuf int)
+    ∷ checks lay 9 3 (app w (int ∷ [])) gives ok (TBuf int)
     ∷ checks lay 9 1 (tuple (app p (int ∷ []) ∷ few ∷ [])) gives spent
     ∷ checks lay 9 1 (tuple (few ∷ app p (int ∷ []) ∷ [])) gives fault 9
     ∷ []
