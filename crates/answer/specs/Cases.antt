@@ -24,10 +24,11 @@ use Rattle.model.specs.Run.{all-in, collapsed-abbrev, resolved-field, resolved-
 use Rattle.meaning.specs.Program.{name-line, verdict-line, select, before, groups, list-of, tree, trees-after, trees, field-of, ctor-of, body-of, dtype-of, keeps, keeps-of, ctor-layouts-by, layout-by, info-of, decl-of, program}
 use Rattle.meaning.specs.Rows.{announced, due-header, due, due-after, raw, raws, row3, params-after, row4, zeros-from, is-width, is-list, good-type, good-head, good-numbers, row5, equal, repeats, row6, last-head, kept-after, good-verdict, good-verdicts, row7}
 use Rattle.meaning.specs.Output.{fill-keeps, fill-verdict, all-slots, fill, fill-all, verdict-lines, put, emit, field-lines, ctor-lines, decl-frame, decl-lines, program-lines, left-lines}
+use Rattle.model.specs.Names.{body-names, dtype-names}
 use Rattle.model.specs.Cases as C
 use Rattle.model.specs.Cases.{_gives_, Passed}
 use Rattle.answer.specs.Answer.{Answer, row8, fault-at, row9, verdict-sheet, left-sheet, rows, refusal, answered, answer, after}
-use Rattle.answer.specs.Cut.{Sheets, sheets-of, builds}
+use Rattle.answer.specs.Cut.{Sheets, sheets-of, builds, join, Whole, program-names}
 
 -- ---- cases
 -- The lines that a case tells: all of the program's output, or line R, the V lines of the verdict
@@ -641,6 +642,19 @@ unit-cases =
 pub units-built : Passed unit-cases
 unfolding unit-cases
 units-built = refl
+
+-- the words of the cut: units joined, whole lines, the names of a program
+pub units-joined : join ((1 ∷ 2 ∷ []) ∷ [] ∷ (3 ∷ []) ∷ []) ≡ 1 ∷ 2 ∷ 3 ∷ []
+unfolding join
+units-joined = refl
+
+pub line-whole : Whole 6 (bytes "N     0a")
+unfolding codes pad
+line-whole = refl
+
+pub names-mentioned : program-names (C.abbr 1 (C.name 2) ∷ C.abbr 3 (C.name 4) ∷ []) ≡ 2 ∷ 4 ∷ []
+unfolding program-names dtype-names body-names names-of-cty gather
+names-mentioned = refl
 
 -- ---- further cases
 -- not document 01's, and numbered on from them

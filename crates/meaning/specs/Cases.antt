@@ -308,7 +308,7 @@ kind-cases =
     -- widths
     ∷ map (λ n. type-ok (Y 4 0 n 0)) (1 ∷ 8 ∷ 16 ∷ 32 ∷ 64 ∷ 128 ∷ 0 ∷ 2 ∷ []) gives (true ∷ true ∷ true ∷ true ∷ true ∷ true ∷ false ∷ false ∷ [])
     -- an unused number that is not 0
-    ∷ map type-ok (Y 0 1 0 0 ∷ Y 1 1 0 0 ∷ Y 2 1 0 0 ∷ Y 2 0 0 1 ∷ Y 3 1 1 0 ∷ Y 4 1 8 1 ∷ Y 5 3 1 0 ∷ Y 6 99 0 1 ∷ [])
+    ∷ map type-ok (Y 0 1 0 0 ∷ Y 1 1 0 0 ∷ Y 2 1 0 0 ∷ Y 2 0 0 1 ∷ Y 3 1 1 0 ∷ Y 4 1 8 1 ∷ Y 5 3 1 0 ∷ Y 6 99 1 0 ∷ [])
     gives (false ∷ false ∷ false ∷ false ∷ false ∷ false ∷ false ∷ false ∷ [])
     ∷ map type-ok (Y 9 0 1 1 ∷ Y 10 1 1 0 ∷ Y 11 1 1 1 ∷ Y 12 1 0 1 ∷ row 89 (7 ∷ 1 ∷ 2 ∷ 1 ∷ 1 ∷ []) ∷ row 89 (8 ∷ 1 ∷ 0 ∷ 1 ∷ 1 ∷ []) ∷ [])
     gives (false ∷ false ∷ false ∷ false ∷ false ∷ false ∷ [])
@@ -329,7 +329,7 @@ unfolding place5
 row5-cases =
     -- all is well: past the last
     place5 (N 0 ∷ N 1 ∷ A 0 ∷ Y 0 0 0 0 ∷ Y 10 0 0 0 ∷ D 0 31 0 0 0 ∷ P 1 ∷ Vn 9 9 9 ∷ I 1 0 1 0 1 ∷ Vn 9 9 9 ∷ D 1 0 2 0 7 ∷ F 1 1 9 ∷ C 1 9 ∷ []) gives 13
-    -- N out of sequence; an A line's type, a Y line's own number, an A line's unused one
+    -- N out of sequence; an A line's type, and its unused numbers; a Y line's
     ∷ place5 (N 0 ∷ N 2 ∷ []) gives 1
     ∷ place5 (A 1 ∷ Y 0 0 0 0 ∷ []) gives 0
     ∷ place5 (row 65 (0 ∷ 1 ∷ 0 ∷ 0 ∷ 0 ∷ []) ∷ Y 0 0 0 0 ∷ []) gives 0
@@ -344,7 +344,7 @@ row5-cases =
     ∷ place5 (N 0 ∷ Y 0 0 0 0 ∷ D 0 0 1 0 1 ∷ []) gives 2
     -- P, C, F and V lines
     ∷ place5 (N 0 ∷ P 1 ∷ []) gives 1
-    ∷ place5 (N 0 ∷ row 80 (0 ∷ 0 ∷ 0 ∷ 0 ∷ 1 ∷ []) ∷ []) gives 1
+    ∷ place5 (N 0 ∷ row 80 (0 ∷ 1 ∷ 0 ∷ 0 ∷ 0 ∷ []) ∷ []) gives 1
     ∷ place5 (N 0 ∷ C 1 0 ∷ []) gives 1
     ∷ place5 (N 0 ∷ row 67 (0 ∷ 0 ∷ 1 ∷ 0 ∷ 0 ∷ []) ∷ []) gives 1
     ∷ place5 (N 0 ∷ Y 0 0 0 0 ∷ F 1 0 0 ∷ []) gives 2

@@ -396,7 +396,7 @@ pub parts-gathered : Passed gather-cases
 unfolding gather-cases
 parts-gathered = refl
 
--- one outer `TInline` is taken off and nothing else; the first eight kinds and a body of each kind closed
+-- one outer `TInline` is taken off, and nothing else
 unfoldable pub inline-cases : List (Case (List Cty))
 unfolding less-inline list
 inline-cases =
