@@ -1,16 +1,15 @@
 -- The tests of a sheet's meaning: a few lines each, written as data, and the program that they declare,
 -- the place that each of rows 3 to 7 gives, and the lines that are written. Assumes nothing.
-use mathlib.Core.Path.{_≡_, refl}
+use mathlib.Core.Path.{refl}
 use mathlib.Core.List.{List, [], _∷_, _++_, map}
 use mathlib.Core.Bool.{Bool, true, false}
 use Prim.Native.Nat.{ℕ, suc, _+_}
-use lib.Dec.{eqb}
 use lib.ListN.{length}
 use Rattle.columns.specs.Column.{step, scan, read}
 use Rattle.sheet.specs.Format.{Format}
 use Rattle.sheet.specs.Line.{Line, named, row, cell}
 use Rattle.sheet.specs.Sheet.{first, lineAt}
-use Rattle.model.specs.Cty.{Cty, TUnit, TAny, TExn, TVar, TInt, TFloat, TConst, TArrow, TApp, TTuple, TBuf, TRef, TInline, nil, walk, uninline}
+use Rattle.model.specs.Cty.{Cty, TUnit, TAny, TExn, TVar, TInt, TFloat, TConst, TArrow, TBuf, TRef, TInline, walk, uninline}
 use Rattle.model.specs.Decl.{TAbstract, TAbbrev, TRecord, TVariant, Dtype, ctors-of, layout-number, L-erased, L-struct, L-abbrev, L-opaque, TypeInfo, Decl, table, member, close, close-field, close-body, close-fields}
 use Rattle.model.specs.Layout.{kept, ctor-layout, first-kept, newtype-of-ctor, newtype-of}
 use Rattle.model.specs.Cases.{Case, _gives_, Passed, list, app, tuple, field, ctor, decl, import, laid, newt, verdict}

@@ -36,7 +36,6 @@ use Rattle.model.specs.Cty.{
   cty-vars,
   size,
   uninline,
-  Binding,
   zip,
   look,
   subst-cty,
@@ -82,7 +81,7 @@ use Rattle.model.specs.Erasure.{cty-erased, fields-erased, body-erased, 
 use Rattle.model.specs.Reach.{go, cyclic}
 use Rattle.model.specs.Layout.{slots, kept, ctor-layout, ctor-layouts, first-kept, newtype-of-ctor, newtype-of, candidate, candidates, positions, payload-names, guard-next, dropped, collapse, layout-of-body, layout-of, compute-layouts}
 use Rattle.model.specs.Resolve.{Unfold, gone, newtype, abbreviation, stays, unfold-body, unfold-dtype, unfold-of, unfolds, unfold-name, attach, instance, applied, resolve, Result, ok, fault, spent, bind, sized, within, surplus, checked-applied, checked, resolve-checked}
-use Rattle.model.specs.Run.{fuel, all-in, collapsed-abbrev, resolved-field, resolved-ctor, struct-body, rw-decl, record-body, record-verdict, record-of, info, somes, layouts-of, Ran, run, unfold-names, unfold-next, returns, field-types, resolves, fault-code, decl-fault}
+use Rattle.model.specs.Run.{all-in, collapsed-abbrev, resolved-field, resolved-ctor, struct-body, rw-decl, record-body, record-verdict, record-of, info, somes, layouts-of, Ran, run, unfold-names, unfold-next, returns, field-types, resolves, fault-code, decl-fault}
 use Rattle.model.specs.Names.{fields-names, ctors-names, body-names, dtype-names, undeclared, pins}
 
 -- ---- how a case is written
