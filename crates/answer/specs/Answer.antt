@@ -162,13 +162,6 @@ pub record Passes (f : Format) (b : List ℕ) (v l : ℕ) : Type 0 where
   pub pass11 : length b ≤ v
   pub pass12 : length (left-sheet f (lines (f .columns) b)) ≤ l
 
--- Columns and fuel that a format's limits do not outgrow: its kinds, its lines, and the nodes of a type for each declaration and each field.
-pub record Ample (f : Format) : Type 0 where
-  pub kinds : 12 < 10 ^ f .columns
-  pub counts : f .lines < 10 ^ f .columns
-  pub nodes : f .nodes * (f .decls + f .fields) < 10 ^ f .columns
-  pub depth : f .decls < f .fuel
-
 -- The rows refuse with this code and place: of the rows one applies at the place that it gives, at no
 -- earlier number, and no row before it applies at all.
 pub record Refuses (rs : List Row) (code place : ℕ) : Type 0 where

@@ -1,8 +1,9 @@
 -- Document 01's starred cases: what the definitions answer to these sheets, in one table under one
--- claim, and further cases for rules that no starred case tells apart. Assumes nothing.
+-- claim; every code with its place; further sheets; and a sheet built in units. Assumes nothing.
 use mathlib.Core.Path.{_≡_, refl}
 use mathlib.Core.List.{List, [], _∷_, _++_, map}
 use mathlib.Core.Bool.{Bool, not}
+use mathlib.Core.Option.{Option, none, some}
 use Prim.Native.Nat.{ℕ, zero, suc, min}
 use Prim.Native.String as S
 use Prim.Native.String.{String}
@@ -10,20 +11,24 @@ use Prim.Native.Char.{code}
 use lib.Dec.{eqb}
 use lib.ListN.{getD}
 use Rattle.columns.specs.Column.{pick, step, scan, read, shown, write}
-use Rattle.sheet.specs.Format.{base}
+use Rattle.sheet.specs.Format.{Format, base}
 use Rattle.sheet.specs.Line.{row, encode, decode, decodeNamed, decodeRow, cell, spelling, spaces, proper, padded, lettered, writes}
 use Rattle.sheet.specs.Sheet.{first, lineAt, count, line, linesFrom, lines, encodes, row1}
-use Rattle.model.specs.Cty.{TUnit, TApp, TTuple, TBuf, nil, cons, lengths, append, firsts, others, walk, gather, names-of-cty, cty-vars, size, uninline, zip, look, subst-cty}
+use Rattle.model.specs.Cty.{lengths, append, firsts, others, walk, gather, names-of-cty, cty-vars, size, uninline, zip, look, subst-cty}
 use Rattle.model.specs.Decl.{has-flag, ctors-of, layout-number, table, position, member, close, close-field, close-body, close-fields}
 use Rattle.model.specs.Erasure.{cty-erased, fields-erased, body-erased, dtype-erased, marked, rule-of, rule, update, sweep, same, round, settle, start-of, start, erasure-fixpoint}
 use Rattle.model.specs.Reach.{go, cyclic}
 use Rattle.model.specs.Layout.{slots, kept, ctor-layout, ctor-layouts, first-kept, newtype-of-ctor, newtype-of, candidate, candidates, positions, type-names, steps, payload, guard-next, dropped, collapse, layout-of-body, layout-of, compute-layouts}
-use Rattle.model.specs.Resolve.{abbreviation, fault, unfolded, unfold-body, unfold-dtype, unfold-of, unfolds, unfold-name, attach, instance, applied, resolve, bind, sized, within, surplus, checked-applied, checked, resolve-checked}
+use Rattle.model.specs.Resolve.{unfolded, unfold-body, unfold-dtype, unfold-of, unfolds, unfold-name, attach, instance, applied, resolve, bind, sized, within, surplus, checked-applied, checked, resolve-checked}
 use Rattle.model.specs.Run.{all-in, collapsed-abbrev, resolved-field, resolved-ctor, struct-body, rw-decl, record-body, record-verdict, record-of, info, somes, layouts-of, run, unfold-next, returns, field-types, resolves, fault-code, decl-fault}
 use Rattle.meaning.specs.Program.{name-line, verdict-line, select, before, groups, list-of, tree, trees-after, trees, field-of, ctor-of, body-of, dtype-of, keeps, keeps-of, ctor-layouts-by, layout-by, info-of, decl-of, program}
 use Rattle.meaning.specs.Rows.{announced, due-header, due, due-after, raw, raws, row3, params-after, row4, zeros-from, is-width, is-list, good-type, good-head, good-numbers, row5, equal, repeats, row6, last-head, kept-after, good-verdict, good-verdicts, row7}
 use Rattle.meaning.specs.Output.{fill-keeps, fill-verdict, all-slots, fill, fill-all, verdict-lines, put, emit, field-lines, ctor-lines, decl-frame, decl-lines, program-lines, left-lines}
-use Rattle.answer.specs.Answer.{Answer, row8, fault-at, row9-10, verdict-sheet, left-sheet, sheet-rows, program-rows, output-rows, refusal, answered, answer}
+use Rattle.model.specs.Names.{body-names, dtype-names}
+use Rattle.model.specs.Cases as C
+use Rattle.model.specs.Cases.{_gives_, Passed}
+use Rattle.answer.specs.Answer.{Answer, row8, fault-at, row9-10, verdict-sheet, left-sheet, sheet-rows, program-rows, output-rows, refusal, answered, answer, after}
+use Rattle.answer.specs.Cut.{Sheets, sheets-of, builds, join, Whole, program-names}
 
 -- ---- cases
 -- The lines that a case tells: all of the program's output, or line R, the V lines of the verdict
@@ -412,6 +417,246 @@ pub starred-cases : map given starred ≡ map expected starred
 unfolding given expected starred
 starred-cases = refl
 
+-- ---- codes
+-- Document 01's format but for a few limits, so that short sheets pass them.
+abbrev pub small : Format
+small = record {
+  columns = 6;
+  lines = 12;
+  names = 4;
+  args = 512;
+  types = 1024;
+  decls = 96;
+  ctors = 256;
+  fields = 512;
+  params = 8;
+  nodes = 3;
+  fuel = 100;
+}
+
+-- all that is told of a sheet with these bytes after its lines, and outputs of v and l bytes
+unfoldable pub answers : List String → List ℕ → ℕ → ℕ → List (List ℕ)
+unfolding given
+answers sheet more v l = seen whole (answer small (joined (map bytes sheet) ++ more) v l)
+
+-- a refusal: line R alone
+unfoldable pub refuses : ℕ → ℕ → List (List ℕ)
+unfolding given
+refuses code place = encode 6 (row 82 (code ∷ place ∷ 0 ∷ 0 ∷ 0 ∷ [])) ∷ []
+
+unfoldable pub accepts : List String → List (List ℕ)
+unfolding codes pad
+accepts ls = map bytes ls
+
+-- outputs long enough for every sheet below
+abbrev pub told-of : List String → List (List ℕ)
+told-of sheet = answers sheet [] 999 999
+
+-- an erased type, with its name and three lines of the verdict sheet for one of the left sheet
+abbrev pub short : List String
+short = "N     0a" ∷ "D     0     0     3     0     0" ∷ "V     0     0     0     0     0" ∷ []
+
+abbrev pub short-told : List String
+short-told =
+    "R     0     0     2     0     0"
+    ∷ "N     0a"
+    ∷ "I     0     0     3     0     0"
+    ∷ "V     1     0     0     0     0"
+    ∷ "N     0a"
+    ∷ []
+
+-- the header of two declarations: `a`, of four nodes, and `b = a exn`, with an argument too many
+abbrev pub for-two : List String
+for-two =
+    "N     0a"
+    ∷ "N     1b"
+    ∷ "A     0     0     0     0     0"
+    ∷ "Y     2     0     0     0     0"
+    ∷ "Y    10     0     0     0     0"
+    ∷ "Y    10     1     0     0     0"
+    ∷ "Y    10     2     0     0     0"
+    ∷ "Y     8     0     0     1     0"
+    ∷ []
+
+abbrev pub four : List String
+four = "D     0     0     1     0     3" ∷ "V     0     0     0     0     0" ∷ []
+
+abbrev pub many : List String
+many = "D     1     0     1     0     4" ∷ "V     0     0     0     0     0" ∷ []
+
+unfoldable pub code-cases : List (C.Case (List (List ℕ)))
+unfolding answers refuses accepts
+code-cases =
+    -- 1 not whole lines, whatever they are; more lines than the limit
+    answers ("X" ∷ []) (10 ∷ []) 999 999 gives refuses 1 0
+    ∷ told-of ("X" ∷ "" ∷ "" ∷ "" ∷ "" ∷ "" ∷ "" ∷ "" ∷ "" ∷ "" ∷ "" ∷ "" ∷ "" ∷ []) gives refuses 1 0
+    -- 2 an unknown letter, before the V line that is out of order
+    ∷ told-of ("V     0     0     0     0     0" ∷ "X     0     0     0     0     0" ∷ []) gives refuses 2 1
+    -- 3 out of order, before the fifth name; a sheet that ends early
+    ∷ told-of
+    ("N     0a"
+    ∷ "N     1b"
+    ∷ "N     2c"
+    ∷ "N     3d"
+    ∷ "N     4e"
+    ∷ "V     0     0     0     0     0"
+    ∷ [])
+    gives refuses 3 5
+    ∷ told-of ("N     0a" ∷ "D     0     0     0     0     0" ∷ []) gives refuses 3 2
+    -- 4 a name too many, before the number out of sequence
+    ∷ told-of ("N     1a" ∷ "N     1b" ∷ "N     2c" ∷ "N     3d" ∷ "N     4e" ∷ []) gives refuses 4 4
+    -- 5 a number out of sequence, before the equal spelling
+    ∷ told-of ("N     0a" ∷ "N     1a" ∷ "N     3b" ∷ []) gives refuses 5 2
+    -- 6 an equal declared name, before the V line that is not 0
+    ∷ told-of
+    ("N     0a"
+    ∷ "D     0     0     0     0     0"
+    ∷ "V     0     0     1     0     0"
+    ∷ "D     0     0     0     0     0"
+    ∷ "V     0     0     0     0     0"
+    ∷ [])
+    gives refuses 6 3
+    -- 7 a V line that is not 0, before the abbreviation of itself
+    ∷ told-of
+    ("N     0a"
+    ∷ "N     1b"
+    ∷ "Y     8     0     0     0     0"
+    ∷ "D     0     0     1     0     0"
+    ∷ "V     0     0     0     0     0"
+    ∷ "D     1     0     0     0     0"
+    ∷ "V     0     0     1     0     0"
+    ∷ [])
+    gives refuses 7 6
+    -- 8 an abbreviation of itself, before the type of too many nodes
+    ∷ told-of
+    ("N     0a"
+    ∷ "N     1b"
+    ∷ "Y     8     0     0     0     0"
+    ∷ "Y    10     0     0     0     0"
+    ∷ "Y    10     1     0     0     0"
+    ∷ "Y    10     2     0     0     0"
+    ∷ "D     1     0     1     0     3"
+    ∷ "V     0     0     0     0     0"
+    ∷ "D     0     0     1     0     0"
+    ∷ "V     0     0     0     0     0"
+    ∷ [])
+    gives refuses 8 8
+    -- 9 a newtype with too many arguments, in the second declaration
+    ∷ told-of
+    ("N     0a"
+    ∷ "N     1b"
+    ∷ "A     0     0     0     0     0"
+    ∷ "Y     2     0     0     0     0"
+    ∷ "Y     8     0     0     1     0"
+    ∷ "D     0     0     2     0     1"
+    ∷ "F     0     0     0     0     0"
+    ∷ "V     0     0     0     0     0"
+    ∷ "D     1     0     1     0     1"
+    ∷ "V     0     0     0     0     0"
+    ∷ [])
+    gives refuses 9 8
+    -- 10 a type of four nodes, and of three; before an output too short
+    ∷ answers
+    ("N     0a"
+    ∷ "Y     2     0     0     0     0"
+    ∷ "Y    10     0     0     0     0"
+    ∷ "Y    10     1     0     0     0"
+    ∷ "Y    10     2     0     0     0"
+    ∷ "D     0     0     1     0     3"
+    ∷ "V     0     0     0     0     0"
+    ∷ []) [] 0 0
+    gives refuses 10 5
+    ∷ answers
+    ("N     0a"
+    ∷ "Y     2     0     0     0     0"
+    ∷ "Y    10     0     0     0     0"
+    ∷ "Y    10     1     0     0     0"
+    ∷ "Y    10     2     0     0     0"
+    ∷ "D     0     0     1     0     2"
+    ∷ "V     0     0     0     0     0"
+    ∷ []) [] 0 0
+    gives refuses 11 224
+    -- 9 and 10 in the order of the sheet
+    ∷ told-of (for-two ++ four ++ many) gives refuses 10 8
+    ∷ told-of (for-two ++ many ++ four) gives refuses 9 8
+    -- 11 and 12 by one byte, and both outputs exact
+    ∷ answers short [] 95 32 gives refuses 11 96
+    ∷ answers short [] 95 31 gives refuses 11 96
+    ∷ answers short [] 96 31 gives refuses 12 32
+    ∷ answers short [] 96 32 gives accepts short-told
+    ∷ []
+
+-- Each code at its place.
+pub codes-given : Passed code-cases
+unfolding code-cases
+codes-given = refl
+
+-- ---- outputs
+-- what is written, and then the bytes as they were
+pub outputs-after : after (1 ∷ 2 ∷ []) (6 ∷ 7 ∷ 8 ∷ 9 ∷ []) ≡ 1 ∷ 2 ∷ 8 ∷ 9 ∷ []
+outputs-after = refl
+
+-- ---- units
+-- units built in turn over these N and Y lines
+abbrev pub header : List String
+header = "N     0a" ∷ "N     1b" ∷ "N     2c" ∷ "Y     2     0     0     0     0" ∷ "Y     8     0     0     0     0" ∷ []
+
+unfoldable pub built : List String → List (List String) → Option Sheets
+unfolding given builds sheets-of
+built u us = builds base 999 999 (joined (map bytes header)) (joined (map bytes u)) (map (λ ls. joined (map bytes ls)) us)
+
+unfoldable pub sheets : List String → List String → Option Sheets
+unfolding codes pad joined
+sheets verdict left = some (record { verdict = joined (map bytes verdict); left = joined (map bytes left) })
+
+-- `b = a`, a unit
+abbrev pub second : List String
+second = "D     1     0     1     0     1" ∷ "V     0     0     0     0     0" ∷ []
+
+unfoldable pub unit-cases : List (C.Case (Option Sheets))
+unfolding built sheets
+unit-cases =
+    -- the first unit declares a newtype, which the second unfolds
+    built ("D     0     0     2     0     1" ∷ "F     2     0     0     0     0" ∷ "V     0     0     0     0     0" ∷ []) (second ∷ [])
+    gives sheets
+    (header
+    ++ ("I     0     0     2     0     1"
+    ∷ "F     2     0     1     0     0"
+    ∷ "V     0     1     0     0     0"
+    ∷ "I     1     0     1     0     1"
+    ∷ "V     0     3     0     0     0"
+    ∷ []))
+    ("N     0a"
+    ∷ "N     1b"
+    ∷ "N     2c"
+    ∷ "Y     2     0     0     0     0"
+    ∷ "Y     2     0     0     0     0"
+    ∷ "D     0     0     1     0     0"
+    ∷ "V     0     0     0     0     0"
+    ∷ "D     1     0     1     0     1"
+    ∷ "V     0     0     0     0     0"
+    ∷ [])
+    -- the first unit is refused, and with it all
+    ∷ built ("D     0     0     0     0     0" ∷ "V     0     0     1     0     0" ∷ []) (second ∷ []) gives none
+    ∷ []
+
+pub units-built : Passed unit-cases
+unfolding unit-cases
+units-built = refl
+
+-- the words of the cut: units joined, whole lines, the names of a program
+pub units-joined : join ((1 ∷ 2 ∷ []) ∷ [] ∷ (3 ∷ []) ∷ []) ≡ 1 ∷ 2 ∷ 3 ∷ []
+unfolding join
+units-joined = refl
+
+pub line-whole : Whole 6 (bytes "N     0a")
+unfolding codes pad
+line-whole = refl
+
+pub names-mentioned : program-names (C.abbr 1 (C.name 2) ∷ C.abbr 3 (C.name 4) ∷ []) ≡ 2 ∷ 4 ∷ []
+unfolding program-names dtype-names body-names names-of-cty gather
+names-mentioned = refl
+
 -- ---- further cases
 -- not document 01's, and numbered on from them
 unfoldable pub further : List Case
@@ -621,9 +866,3 @@ further =
 pub further-cases : map given further ≡ map expected further
 unfolding given expected further
 further-cases = refl
-
--- Types are also measured where they are returned: under a limit of 4 nodes a pair of `l`, which abbreviates a buffer of
--- `unit`, is called with 3 nodes and each `l` is unfolded to 2, but the pair has 5 then.
-pub result-size : resolve-checked 4 (λ n. abbreviation [] (TBuf TUnit)) 2 (TTuple (cons (TApp 0 nil) (cons (TApp 0 nil) nil))) ≡ fault 10
-unfolding resolve-checked checked checked-applied surplus within sized bind size lengths firsts others instance subst-cty walk zip look
-result-size = refl

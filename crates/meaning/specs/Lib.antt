@@ -1,4 +1,5 @@
 pub mod Program
 pub mod Rows
 pub mod Output
+pub mod Cases
 pub mod Laws

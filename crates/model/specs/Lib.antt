@@ -6,4 +6,5 @@ pub mod Layout
 pub mod Resolve
 pub mod Run
 pub mod Names
+pub mod Cases
 pub mod Laws

@@ -1,6 +1,6 @@
 -- A sheet's format: the columns of a number and the limits (document 01, "Sheets"). Every other
 -- length of a line follows from the columns. Assumes nothing.
-use Prim.Native.Nat.{ℕ, _+_, _*_}
+use Prim.Native.Nat.{_^_, _<_, ℕ, _+_, _*_}
 
 pub record Format : Type 0 where
   -- columns of a number
@@ -42,3 +42,10 @@ lineBytes w = 5 * w + 2
 -- The text of a name fills its line: the letter, one number, the text, byte 10.
 abbrev pub textBytes : ℕ → ℕ
 textBytes w = 4 * w
+
+-- Columns and fuel that a format's limits do not outgrow: its kinds, its lines, and the nodes of a type for each declaration and each field.
+pub record Ample (f : Format) : Type 0 where
+  pub kinds : 12 < 10 ^ f .columns
+  pub counts : f .lines < 10 ^ f .columns
+  pub nodes : f .nodes * (f .decls + f .fields) < 10 ^ f .columns
+  pub depth : f .decls < f .fuel

@@ -1,4 +1,5 @@
 pub mod Format
+pub mod FormatLaws
 pub mod Line
 pub mod Sheet
 pub mod ListLaws

@@ -14,7 +14,7 @@ use lib.Seq.{take-suc, take-add, getD-drop}
 use borrow.Author.Tests.{eqb-true, ltb-true, ltb-false, leb-false, not-false}
 use Rattle.columns.specs.Column.{pick, _⇒_∥_}
 use Rattle.sheet.specs.Line.{Line, bad, letter, number}
-use Rattle.sheet.specs.Format.{Format, lineBytes, base}
+use Rattle.sheet.specs.Format.{Format, lineBytes, base, Ample}
 use Rattle.sheet.specs.Sheet.{count, lines, row1}
 use Rattle.sheet.specs.SheetLaws.{AllFit, length-lines, within-count, fit-lines}
 use Rattle.sheet.specs.ListLaws.{false-true, both, one-of, Every, mem-every, every-map}
@@ -78,7 +78,7 @@ use Rattle.meaning.specs.Program.{
 }
 use Rattle.meaning.specs.Rows.{line-at, count-of, count-before, heads-before, params-after, row4, last-head, head-of, kept-after, one-ctor, good-verdict, good-verdicts, row7}
 use Rattle.meaning.specs.Output.{verdict-lines, left-lines}
-use Rattle.answer.specs.Answer.{Ample, row8, row9-10, verdict-sheet, left-sheet, Clear, Passes}
+use Rattle.answer.specs.Answer.{row8, row9-10, verdict-sheet, left-sheet, Clear, Passes}
 use Rattle.answer.specs.Laws.Pass.{clear-heads}
 use Rattle.locality.specs.Laws.Fuel.{NoReturn, fuel-unspent}
 use Rattle.meaning.specs.Laws.Output.{verdict-bytes, verdict-round, columns-positive}
@@ -366,10 +366,6 @@ lines-limit f b e =
     go w h false q = omega (arith, length-lines w b, ltb-false (f .lines) (count w b) q)
 
 -- ---- the left sheet of an accepted sheet
--- document 01's own
-pub base-ample : Ample base
-base-ample = record { kinds = omega arith; counts = omega arith; nodes = omega arith; depth = omega arith }
-
 module _ (f : Format) (b : List ℕ) (v l : ℕ) (ample : Ample f) (pass : Passes f b v l) where
   abbrev pub sheet-lines : List Line
   sheet-lines = lines (f .columns) b

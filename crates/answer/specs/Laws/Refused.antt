@@ -8,7 +8,7 @@ use native.Mathlib.Omega.{arith}
 use lib.Dec.{eqb, ltb}
 use lib.ListN.{length}
 use borrow.Author.Tests.{ltb-true, ltb-false, eqb-false, not-true}
-use Rattle.sheet.specs.Format.{Format}
+use Rattle.sheet.specs.Format.{Format, Ample}
 use Rattle.sheet.specs.Line.{Line}
 use Rattle.sheet.specs.Sheet.{first, count, lines}
 use Rattle.sheet.specs.SheetLaws.{length-lines}
@@ -24,7 +24,7 @@ use Rattle.meaning.specs.Laws.Program.{heads, length-program}
 use Rattle.meaning.specs.Rows.{line-at, heads-before, row4}
 use Rattle.answer.specs.declared.Refusal.{Refusal}
 use Rattle.answer.specs.declared.Refusal.the-variants.{Accepted, Refused}
-use Rattle.answer.specs.Answer.{Row, Clear, Ample, Refuses, row8, fault-at, row9-10, sheet-rows, program-rows, output-rows, rows, refusal, Answer, answered, answer}
+use Rattle.answer.specs.Answer.{Row, Clear, Refuses, row8, fault-at, row9-10, sheet-rows, program-rows, output-rows, rows, refusal, Answer, answered, answer}
 use Rattle.answer.specs.Laws.Answer.{first-clear, AllClear, accepted-clear, or-later, refusal-append, head-test}
 use Rattle.answer.specs.Laws.Pass.{clear-heads}
 use Rattle.answer.specs.Laws.Left.{decls-limit}
