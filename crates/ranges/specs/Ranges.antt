@@ -1,22 +1,11 @@
--- What row 5's code is given, and its parts. Assumes nothing.
-use mathlib.Core.Path.{_≡_}
+-- The parts of row 5. Assumes nothing.
 use mathlib.Core.List.{List, map}
 use mathlib.Core.Bool.{Bool, true}
-use Prim.Native.Nat.{ℕ, suc}
+use Prim.Native.Nat.{ℕ}
 use lib.Dec.{eqb, ltb}
 use Rattle.columns.specs.Column.{_⇒_∥_}
 use Rattle.sheet.specs.Line.{Line, number}
-use Rattle.sheet.specs.Sheet.{first, count, lines, row2}
-use Rattle.custard.specs.Program.{name-line, arg-line, type-line, select}
-use Rattle.custard.specs.Rows.{count-of, raws, row3}
-
--- The bytes passed rows 2 and 3, and have so many N, A and Y lines.
-pub record Counted (b : List ℕ) (names args types : ℕ) : Type 0 where
-  pub no-bad : row2 6 b ≡ count 6 b
-  pub in-order : first (row3 (raws 6 b)) (suc (count 6 b)) ≡ suc (count 6 b)
-  pub names-are : names ≡ count-of name-line (lines 6 b)
-  pub args-are : args ≡ count-of arg-line (lines 6 b)
-  pub types-are : types ≡ count-of type-line (lines 6 b)
+use Rattle.custard.specs.Program.{arg-line, select}
 
 -- the types of the A lines
 abbrev pub types-of : List Line → List ℕ

@@ -13,8 +13,9 @@ use Rattle.sheet.specs.FirstLaws.{first-none, none-first, first-le-at, first-mo
 use Rattle.sheet.specs.SheetLaws.{length-lines, getD-lines}
 use Rattle.custard.specs.Program.{name-line, arg-line, type-line, select}
 use Rattle.custard.specs.Rows.{some-below, count-before, zeros-from, is-list, good-type}
-use Rattle.ranges.specs.Ranges.{Counted, types-of}
-use Rattle.ranges.specs.OrderLaws.{ordered-lines, arg-at, name-before, type-before, count-of-le}
+use Rattle.header.specs.Header.{Counted}
+use Rattle.ranges.specs.Ranges.{types-of}
+use Rattle.header.specs.OrderLaws.{ordered-lines, arg-at, name-before, type-before, count-of-le}
 
 -- ---- a test that holds of some number
 some-at : (p : ℕ → Bool) (n i : ℕ) → i < n → p i ≡ true → some-below p n ≡ true

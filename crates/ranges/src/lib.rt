@@ -6,7 +6,8 @@ ghost use mathlib.Core.Bool.{_&&_};
 ghost use Prim.Native.Nat.{_<_};
 ghost use Rattle.sheet.specs.Sheet as sheet;
 ghost use Rattle.custard.specs.Rows as rows;
-ghost use Rattle.ranges.specs.Ranges.{Counted, types-of, good-last};
+ghost use Rattle.header.specs.Header.{Counted};
+ghost use Rattle.ranges.specs.Ranges.{types-of, good-last};
 
 // The flags' sum is at most this.
 const FLAGS: usize = 31;

@@ -55,7 +55,8 @@ pub fn check_rows(s: &[u8]) -> Checked
     if outside < n {
         return refused(5, outside);
     }
-    let repeated = distinct::row6(s, names);
+    let from = names + args + types;
+    let repeated = distinct::row6(s, names, from);
     if repeated < n {
         return refused(6, repeated);
     }

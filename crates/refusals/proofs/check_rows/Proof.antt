@@ -1,15 +1,17 @@
 -- `refusals::check_rows` meets its contract, row by row. Assumes nothing.
-use mathlib.Core.Path.{_≡_, ap, sym, _∙_}
+use mathlib.Core.Path.{_≡_, ap, ap₂, sym, _∙_}
 use mathlib.Core.Bool.{false}
-use Prim.Native.Nat.{suc}
+use Prim.Native.Nat.{ℕ, suc, _+_, _≤_}
 use native.Mathlib.Omega.{arith}
 use borrow.Author.Needs.{needs}
 use Rattle.sheet.specs.Format.{base}
 use Rattle.sheet.specs.Sheet.{first, count, lines, row1, row2}
+use Rattle.sheet.specs.SheetLaws.{length-lines}
 use Rattle.custard.specs.Rows.{raws, row3, row4, row5, row6, row7}
 use Rattle.limits.specs.declared.Counts.{Counts}
 use Rattle.limits.specs.Limits.{Limited, counts-of}
-use Rattle.ranges.specs.Ranges.{Counted}
+use Rattle.header.specs.Header.{Counted, header}
+use Rattle.header.specs.OrderLaws.{header-le}
 use Rattle.spellings.specs.Spellings.{Ranged}
 use Rattle.refusals.specs.Rows.{refused-as}
 use Rattle.refusals.specs.RowsLaws.{none-at, no-bad-at, at1, at2, at3, at4, at5, at6, at7, passed-checked}
@@ -50,6 +52,17 @@ counted c =
       types-are = ap (λ (k : Counts). k .types) e;
     }
 
+-- where the declarations begin
+from-is : (c : tie.After-counts-of)
+    → c .counts-of .result .names + c .counts-of .result .args + c .counts-of .result .types ≡ header (lines 6 (c .before .before .before .before .before .before .before .before .before .before .args .s .now))
+from-is c = let k = counted c in ap₂ (λ (a b : ℕ). a + b) (ap₂ (λ (a b : ℕ). a + b) (k .names-are) (k .args-are)) (k .types-are)
+
+from-fits : (c : tie.After-counts-of)
+    → c .counts-of .result .names + c .counts-of .result .args + c .counts-of .result .types ≤ count 6 (c .before .before .before .before .before .before .before .before .before .before .args .s .now)
+from-fits c =
+    let s = c .before .before .before .before .before .before .before .before .before .before .args .s .now in
+    omega (arith, from-is c, header-le (lines 6 s), length-lines 6 s)
+
 in-range : (c : tie.Else5) → first (row5 (lines 6 (c .before .before .before .before .before .before .before .before .before .before .before .before .args .s .now))) (count 6 (c .before .before .before .before .before .before .before .before .before .before .before .before .args .s .now)) ≡ count 6 (c .before .before .before .before .before .before .before .before .before .before .before .before .args .s .now)
 in-range c =
     let s = c .before .before .before .before .before .before .before .before .before .before .before .before .args .s .now in
@@ -88,8 +101,14 @@ counts-of-requires c κs = limited c
 row5-requires : tie.Need-row5-requires
 row5-requires c κs = counted c
 
+add-from : tie.Need-add-from
+add-from c = omega (arith, from-fits (c .before .before))
+
+add-from-2 : tie.Need-add-from-2
+add-from-2 c = omega (arith, from-fits (c .before .before))
+
 row6-requires : tie.Need-row6-requires
-row6-requires c κs = (ranged c, counted (c .before .before) .names-are)
+row6-requires c κs = (ranged c, (counted (c .before .before) .names-are, from-is (c .before .before)))
 
 row7-requires : tie.Need-row7-requires
 row7-requires c κs = no-bad (c .before .before .before .before .before .before .before .before .before)
@@ -174,6 +193,8 @@ check-rows-spec =
     row5-requires
     (λ c κs. search needs)
     returns-5
+    add-from
+    add-from-2
     row6-requires
     (λ c κs. search needs)
     returns-6

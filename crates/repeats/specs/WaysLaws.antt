@@ -7,40 +7,21 @@ use Prim.Native.Nat.{ℕ, zero, suc, _+_, _≤_, _<_, min}
 use native.Mathlib.Omega.{arith}
 use lib.Dec.{eqb, eqb·zero-suc, eqb·suc-suc}
 use lib.ListN.{length, getD, set, replicate, length-set, getD-replicate}
-use lib.Seq.{getD-set-same, getD-set-other, take-length}
-use borrow.Author.Tests.{eqb-true, eqb-false, eq-eqb, ne-eqb, ltb-true, not-false}
+use lib.Seq.{getD-set-same, getD-set-other}
+use borrow.Author.Tests.{eqb-true, eqb-false, eq-eqb, ne-eqb, ltb-true}
 use Rattle.columns.specs.Column.{pick}
-use Rattle.sheet.specs.Format.{base}
 use Rattle.sheet.specs.Line.{Line, letter, number, text}
-use Rattle.sheet.specs.Sheet.{first, count, line, lines}
-use Rattle.sheet.specs.SheetLaws.{length-lines, getD-lines}
-use Rattle.sheet.specs.FirstLaws.{first-congr, none-first}
+use Rattle.sheet.specs.Sheet.{first}
+use Rattle.sheet.specs.FirstLaws.{first-congr}
 use Rattle.sheet.specs.ListLaws.{both}
 use Rattle.custard.specs.Program.{name-line, param-line, ctor-line, field-line, is, is-head, select}
-use Rattle.custard.specs.Rows.{
-  some-below,
-  line-at,
-  count-of,
-  count-before,
-  heads-before,
-  good-head,
-  good-numbers,
-  row4,
-  row5,
-  equal,
-  is-ctor,
-  same-decl,
-  same-ctor,
-  repeats,
-  row6,
-}
+use Rattle.custard.specs.Rows.{some-below, line-at, count-of, count-before, heads-before, good-head, good-numbers, equal, is-ctor, same-decl, same-ctor, repeats, row6}
 use Rattle.order.specs.StepLaws.{count-before-step, heads-before-step, count-before-mono, heads-before-mono}
-use Rattle.limits.specs.LimitsLaws.{head-cases, names-kept, decls-kept, ctors-kept}
-use Rattle.spellings.specs.Spellings.{Ranged, respelled}
+use Rattle.limits.specs.LimitsLaws.{head-cases}
+use Rattle.spellings.specs.Spellings.{respelled}
 use Rattle.spellings.specs.SomeLaws.{some-zero, some-suc, some-congr, some-none, some-or, or-true, or-false, first-or}
-use Rattle.distinct.specs.declared.Way.{Way}
-use Rattle.distinct.specs.declared.Way.the-variants.{Declared, Parameters, Fields, Constructors}
-use Rattle.distinct.specs.Ways.{alike, repeated, takes, begins, group, stamp}
+use Rattle.repeats.specs.Ways.{Way, Declared, Parameters, Fields, Constructors, alike, repeated, repeated-any, takes, begins, group, stamp, Named, After, groups-after}
+use Rattle.repeats.specs.declared.Groups.{Groups}
 
 -- ---- the ways
 spread : (a e h p f c : Bool) → a || (e && (h || p || f || c)) ≡ a || ((e && h) || ((e && p) || ((e && f) || (e && c))))
@@ -60,7 +41,7 @@ abbrev same-spelling : List Line → ℕ → ℕ → Bool
 same-spelling ls i j = is name-line (line-at ls j) && is name-line (line-at ls i) && equal (text (line-at ls j)) (text (line-at ls i))
 
 row6-ways : (ls : List Line) (i : ℕ)
-    → row6 ls i ≡ respelled ls i || (repeated Declared ls i || (repeated Parameters ls i || (repeated Fields ls i || repeated Constructors ls i)))
+    → row6 ls i ≡ respelled ls i || repeated-any ls i
 unfolding row6 repeats respelled repeated
 row6-ways ls i =
     some-congr (repeats ls i)
@@ -73,17 +54,11 @@ row6-ways ls i =
     (some-or (same-name Parameters ls i) (λ j. same-name Fields ls i j || same-name Constructors ls i j) i
     ∙ ap (λ (b : Bool). repeated Parameters ls i || b) (some-or (same-name Fields ls i) (same-name Constructors ls i) i)))
 
--- the place of row 6 is the least of the ways' places
-pub first-row6 : (ls : List Line) (n : ℕ) → first (row6 ls) n
-    ≡ min (first (respelled ls) n) (min (first (repeated Declared ls) n) (min (first (repeated Parameters ls) n) (min (first (repeated Fields ls) n) (first (repeated Constructors ls) n))))
+-- the place of row 6 is the lesser of the places of spellings and names
+pub first-row6 : (ls : List Line) (n : ℕ) → first (row6 ls) n ≡ min (first (respelled ls) n) (first (repeated-any ls) n)
 first-row6 ls n =
-    first-congr (row6 ls) (λ i. respelled ls i || (repeated Declared ls i || (repeated Parameters ls i || (repeated Fields ls i || repeated Constructors ls i)))) n (λ i h. row6-ways ls i)
-    ∙ first-or (respelled ls) (λ i. repeated Declared ls i || (repeated Parameters ls i || (repeated Fields ls i || repeated Constructors ls i))) n
-    ∙ ap (min (first (respelled ls) n))
-    (first-or (repeated Declared ls) (λ i. repeated Parameters ls i || (repeated Fields ls i || repeated Constructors ls i)) n
-    ∙ ap (min (first (repeated Declared ls) n))
-    (first-or (repeated Parameters ls) (λ i. repeated Fields ls i || repeated Constructors ls i) n
-    ∙ ap (min (first (repeated Parameters ls) n)) (first-or (repeated Fields ls) (repeated Constructors ls) n)))
+    first-congr (row6 ls) (λ i. respelled ls i || repeated-any ls i) n (λ i h. row6-ways ls i)
+    ∙ first-or (respelled ls) (repeated-any ls) n
 
 -- ---- the last group of each name
 module _ (p : ℕ → Bool) (x g : ℕ → ℕ) where
@@ -134,7 +109,7 @@ group-suc Fields ls i h = rw (heads-before-step ls i h, count-before-step ls i h
 group-suc Constructors ls i h = refl
 
 -- a line with a name of a way begins no group of it
-takes-begins : (way : Way) (l : Line) → takes way l ≡ true → begins way l ≡ false
+pub takes-begins : (way : Way) (l : Line) → takes way l ≡ true → begins way l ≡ false
 takes-begins Declared l e = refl
 takes-begins Parameters l e = rw (eqb-true (letter l) 80 e)
 takes-begins Fields l e = rw (eqb-true (letter l) 70 e)
@@ -243,11 +218,6 @@ module _ (way : Way) (ls : List Line) where
         plus false n = refl
 
 -- ---- names below the count of names
--- a D or I line of a record type
-pub ctor-head : (l : Line) (x : ℕ) → letter l ≡ x → (x ≡ 68) ⊎ (x ≡ 73) → is-ctor l ≡ eqb (number l 2) 2
-ctor-head l x r (inl e) = rw (r, e)
-ctor-head l x r (inr e) = rw (r, e)
-
 ctor-cases : (l : Line) → is-ctor l ≡ true → (letter l ≡ 67) ⊎ (is-head l ≡ true)
 ctor-cases l e = go (is ctor-line l) refl e
   where
@@ -274,50 +244,54 @@ module _ (ls : List Line) (i : ℕ) (g : good-numbers ls i ≡ true) where
       ltb-true (number (line-at ls i) 0) (count-of name-line ls) (both _ _ (both _ _ (rw (eqb-true (letter (line-at ls i)) 70 e) at g) .0) .0)
   named-below Constructors e = ctor-below (ctor-cases (line-at ls i) e)
 
--- ---- for a loop over the lines of a sheet that passed rows 1 to 5
-module _ (b : List ℕ) (r : Ranged b) where
-  in-limits : first (row4 base (lines 6 b)) (length (lines 6 b)) ≡ length (lines 6 b)
-  in-limits = rw (length-lines 6 b) (r .in-limits)
+-- ---- one line, by its letter
+module _ (l : Line) (g : Groups) (d p f c : List ℕ) (x v : ℕ) (e : x ≡ letter l) (n : v ≡ number l 0) where
+  -- a D or I line of no record, and of one
+  pub after-plain : (x ≡ 68) ⊎ (x ≡ 73) → (k : ℕ) → k ≡ number l 2 → (k ≡ 2 → ⊥) → (r : Bool) (d' : List ℕ)
+      → r ≡ eqb (getD d v 0) 1 → d' ≡ set d v 1 → After l g d p f c r d' p f c
+  after-plain (inl y) k m o r d' h q = rw (← e, y, ← n, ← m, ne-eqb k 2 o) (h ∙ sym (or-false (eqb (getD d v 0) 1)), q, refl, refl, refl)
+  after-plain (inr y) k m o r d' h q = rw (← e, y, ← n, ← m, ne-eqb k 2 o) (h ∙ sym (or-false (eqb (getD d v 0) 1)), q, refl, refl, refl)
 
-  -- the groups fit their type
-  pub group-fits : (way : Way) (i : ℕ) → i ≤ count 6 b → group way (lines 6 b) i ≤ 352
-  group-fits Declared i h = omega arith
-  group-fits Parameters i h = omega (arith, decls-kept base (lines 6 b) in-limits i (omega (arith, length-lines 6 b)))
-  group-fits Fields i h =
-      let l : i ≤ length (lines 6 b) = omega (arith, length-lines 6 b) in
-      omega (arith, decls-kept base (lines 6 b) in-limits i l, ctors-kept base (lines 6 b) in-limits i l)
-  group-fits Constructors i h = omega arith
+  pub after-record : (x ≡ 68) ⊎ (x ≡ 73) → (k : ℕ) → k ≡ number l 2 → k ≡ 2 → (a b r : Bool) (d' c' : List ℕ)
+      → a ≡ eqb (getD d v 0) 1 → d' ≡ set d v 1 → b ≡ eqb (getD c v 0) 1 → c' ≡ set c v 1 → r ≡ a || b → After l g d p f c r d' p f c'
+  after-record (inl y) k m o a b r d' c' h q i j z = rw (← e, y, ← n, ← m, o, ← h, ← i) (z, q, refl, refl, j)
+  after-record (inr y) k m o a b r d' c' h q i j z = rw (← e, y, ← n, ← m, o, ← h, ← i) (z, q, refl, refl, j)
 
-  module _ (way : Way) (i : ℕ) (h : i < count 6 b) where
-    inside : i < length (lines 6 b)
-    inside = omega (arith, length-lines 6 b)
+  pub after-param : x ≡ 80 → (r : Bool) (p' : List ℕ) → r ≡ eqb (getD p v 0) (g .params) → p' ≡ set p v (g .params) → After l g d p f c r d p' f c
+  after-param y r p' h q = rw (← e, y, ← n) (h ∙ sym (or-false (eqb (getD p v 0) (g .params))), refl, q, refl, refl)
 
-    here : (c : Bool) → takes way (line 6 b i) ≡ c → takes way (line-at (lines 6 b) i) ≡ c
-    here c e = rw (getD-lines 6 b i) e
+  pub after-field : x ≡ 70 → (r : Bool) (f' : List ℕ) → r ≡ eqb (getD f v 0) (g .fields) → f' ≡ set f v (g .fields) → After l g d p f c r d p f' c
+  after-field y r f' h q = rw (← e, y, ← n) (h ∙ sym (or-false (eqb (getD f v 0) (g .fields))), refl, refl, q, refl)
 
-    -- the name's number is below 256
-    pub name-fits : takes way (line 6 b i) ≡ true → number (line 6 b i) 0 < 256
-    unfolding row5
-    name-fits e =
-        let g : row5 (lines 6 b) i ≡ false = none-first (row5 (lines 6 b)) (count 6 b) (r .in-range) i h in
-        let n : number (line-at (lines 6 b) i) 0 < count-of name-line (lines 6 b) = named-below (lines 6 b) i (not-false (good-numbers (lines 6 b) i) g) way (here true e) in
-        let k : count-before name-line (lines 6 b) (length (lines 6 b)) ≤ 256 = names-kept base (lines 6 b) in-limits (length (lines 6 b)) (omega arith) in
-        rw (← (getD-lines 6 b i)) (omega (arith, ap (count-of name-line) (take-length (lines 6 b))))
+  pub after-ctor : x ≡ 67 → (r : Bool) (c' : List ℕ) → r ≡ eqb (getD c v 0) 1 → c' ≡ set c v 1 → After l g d p f c r d p f c'
+  after-ctor y r c' h q = rw (← e, y, ← n) (h, refl, refl, refl, q)
 
-    module _ (last : List ℕ) (g : ℕ) (s : Stamped way (lines 6 b) i last g) where
-      pub test-takes : (v : ℕ) → v ≡ number (line 6 b i) 0 → takes way (line 6 b i) ≡ true → repeated way (lines 6 b) i ≡ eqb (getD last v 0) g
-      test-takes v e t =
-          repeated-stamp way (lines 6 b) i last g inside s v (rw e (name-fits t)) (ap (λ (l : Line). number l 0) (getD-lines 6 b i) ∙ sym e) (here true t)
+  pub after-other : ((x ≡ 68) ⊎ (x ≡ 73) → ⊥) → (x ≡ 80 → ⊥) → (x ≡ 70 → ⊥) → (x ≡ 67 → ⊥) → After l g d p f c false d p f c
+  after-other a b i j = rw (← e, ne-eqb x 68 (λ y. a (inl y)), ne-eqb x 73 (λ y. a (inr y)), ne-eqb x 80 b, ne-eqb x 70 i, ne-eqb x 67 j) (refl, refl, refl, refl, refl)
 
-      pub test-other : takes way (line 6 b i) ≡ false → repeated way (lines 6 b) i ≡ false
-      test-other t = repeated-other way (lines 6 b) i inside (here false t)
+  -- the name is below 256
+  module _ (m : Named l) where
+    pub head-named : (x ≡ 68) ⊎ (x ≡ 73) → v < 256
+    head-named (inl y) = rw n (m .below Declared (rw (← e, y)))
+    head-named (inr y) = rw n (m .below Declared (rw (← e, y)))
 
-      pub take-next : (v : ℕ) → v ≡ number (line 6 b i) 0 → takes way (line 6 b i) ≡ true → Stamped way (lines 6 b) (suc i) (set last v g) g
-      take-next v e t =
-          stamped-take way (lines 6 b) i last g inside s v (rw e (name-fits t)) (ap (λ (l : Line). number l 0) (getD-lines 6 b i) ∙ sym e) (here true t)
+    pub param-named : x ≡ 80 → v < 256
+    param-named y = rw n (m .below Parameters (rw (← e, y)))
 
-      pub other-next : (k : ℕ) → takes way (line 6 b i) ≡ false → k ≡ pick (begins way (line 6 b i)) (g + 1) g → Stamped way (lines 6 b) (suc i) last k
-      other-next k t e = stamped-other way (lines 6 b) i last g inside s k (here false t) (rw (getD-lines 6 b i) e)
+    pub field-named : x ≡ 70 → v < 256
+    field-named y = rw n (m .below Fields (rw (← e, y)))
 
-      pub group-small : g < 65535
-      group-small = omega (arith, s .grouped, group-fits way i (omega arith))
+    pub ctor-named : x ≡ 67 → v < 256
+    ctor-named y = rw n (m .below Constructors (rw (← e, y)))
+
+-- the groups
+module _ (l : Line) (g : Groups) (x : ℕ) (e : x ≡ letter l) where
+  pub groups-head : (x ≡ 68) ⊎ (x ≡ 73) → record { params = g .params + 1; fields = g .fields + 1 } ≡ groups-after l g
+  groups-head (inl y) = rw (← e, y)
+  groups-head (inr y) = rw (← e, y)
+
+  pub groups-ctor : x ≡ 67 → record { params = g .params; fields = g .fields + 1 } ≡ groups-after l g
+  groups-ctor y = rw (← e, y)
+
+  pub groups-other : ((x ≡ 68) ⊎ (x ≡ 73) → ⊥) → (x ≡ 67 → ⊥) → g ≡ groups-after l g
+  groups-other a j = rw (← e, ne-eqb x 68 (λ y. a (inl y)), ne-eqb x 73 (λ y. a (inr y)), ne-eqb x 67 j)

@@ -2,6 +2,7 @@
 -- number among those of its letter, and the place of an A line, follow from the counts of lines. Assumes nothing.
 use mathlib.Core.Path.{_≡_, refl, sym, ap, _∙_, subst}
 use mathlib.Core.List.{List, [], _∷_, map}
+use mathlib.Core.Logic.{_⊎_, inl, inr}
 use mathlib.Core.Bool.{Bool, true, false, _&&_, _||_}
 use Prim.Native.Nat.{ℕ, zero, suc, _+_, _≤_, _<_, min}
 use native.Mathlib.Omega.{arith}
@@ -19,8 +20,9 @@ use Rattle.custard.specs.declared.Due.the-variants.{Header, Within, Broken}
 use Rattle.custard.specs.Decl.{table}
 use Rattle.custard.specs.Program.{name-line, arg-line, type-line, param-line, field-line, ctor-line, verdict-line, is, select}
 use Rattle.custard.specs.Rows.{count-of, count-before, raw, raws, announced, due-header, due, due-after, is-broken, row3}
-use Rattle.sheet.specs.SheetLaws.{letter-good}
+use Rattle.sheet.specs.SheetLaws.{letter-good, length-lines, getD-lines}
 use Rattle.custard.specs.Laws.Lists.{length-table}
+use Rattle.header.specs.Header.{header, Headed}
 
 -- ---- order
 -- a letter's place in a sheet: N, A, Y, and then declarations
@@ -170,6 +172,29 @@ select-none x p (l ∷ ls) h o = go (is x l) refl (select-none x (rank (letter l
     go true e k = let r : rank (letter l) ≡ rank x = ap rank (eqb-true (letter l) x e) in absurd (omega (arith, o .0))
     go false e k = k
 
+-- lines are in the order of their places
+lower-below : (p q : ℕ) (ls : List Line) (i : ℕ) → Ordered p (map letter ls) → i < lower q ls → rank (letter (getD ls i bad)) < q
+unfolding lower
+lower-below p q [] i o h = absurd (omega arith)
+lower-below p q (l ∷ ls) i o h = go (ltb (rank (letter l)) q) refl i h (λ j k. lower-below (rank (letter l)) q ls j (o .1) k)
+  where
+    go : (c : Bool) → ltb (rank (letter l)) q ≡ c → (i : ℕ) → i < pick c (suc (lower q ls)) (lower q ls) → ((j : ℕ) → j < lower q ls → rank (letter (getD ls j bad)) < q) → rank (letter (getD (l ∷ ls) i bad)) < q
+    go true e zero k r = ltb-true (rank (letter l)) q e
+    go true e (suc i) k r = r i (omega arith)
+    go false e i k r = absurd (omega (arith, lower-none q (rank (letter l)) ls (ltb-false (rank (letter l)) q e) (o .1)))
+
+lower-from : (p q : ℕ) (ls : List Line) (i : ℕ) → Ordered p (map letter ls) → lower q ls ≤ i → i < length ls → q ≤ rank (letter (getD ls i bad))
+unfolding lower
+lower-from p q [] i o h k = absurd (omega arith)
+lower-from p q (l ∷ ls) i o h k = go (ltb (rank (letter l)) q) refl i h k (λ j m n. lower-from (rank (letter l)) q ls j (o .1) m n)
+  where
+    go : (c : Bool) → ltb (rank (letter l)) q ≡ c → (i : ℕ) → pick c (suc (lower q ls)) (lower q ls) ≤ i → i < suc (length ls)
+        → ((j : ℕ) → lower q ls ≤ j → j < length ls → q ≤ rank (letter (getD ls j bad))) → q ≤ rank (letter (getD (l ∷ ls) i bad))
+    go true e zero h k r = absurd (omega arith)
+    go true e (suc i) h k r = r i (omega arith) (omega arith)
+    go false e zero h k r = ltb-false (rank (letter l)) q e
+    go false e (suc i) h k r = r i (omega (arith, lower-none q (rank (letter l)) ls (ltb-false (rank (letter l)) q e) (o .1))) (omega arith)
+
 -- A line is of a place before x, of the letter x, or of a later place, where x is the only letter of its place.
 data Against (x : ℕ) (l : Line) : Type 0 where
   sooner : rank (letter l) < rank x → is x l ≡ false → Against x l
@@ -234,7 +259,7 @@ data Ranked (y : ℕ) : Type 0 where
   an-n : y ≡ name-line → Ranked y
   an-a : y ≡ arg-line → Ranked y
   a-y : y ≡ type-line → Ranked y
-  other : rank y ≡ 3 → eqb y name-line ≡ false → eqb y arg-line ≡ false → Ranked y
+  other : rank y ≡ 3 → eqb y name-line ≡ false → eqb y arg-line ≡ false → eqb y type-line ≡ false → Ranked y
 
 ranked : (y : ℕ) → Ranked y
 ranked y = go (eqb y name-line) refl (eqb y arg-line) refl (eqb y type-line) refl
@@ -243,34 +268,34 @@ ranked y = go (eqb y name-line) refl (eqb y arg-line) refl (eqb y type-line) ref
     go true e a f t g = an-n (eqb-true y name-line e)
     go false e true f t g = an-a (eqb-true y arg-line f)
     go false e false f true g = a-y (eqb-true y type-line g)
-    go false e false f false g = other (rw (e, f, g)) e f
+    go false e false f false g = other (rw (e, f, g)) e f g
 
 only-name : (y : ℕ) → rank y ≡ rank name-line → y ≡ name-line
-only-name y h = go (ranked y)
+only-name y k = go (ranked y)
   where
     go : Ranked y → y ≡ name-line
     go (an-n e) = e
     go (an-a e) = absurd (omega (arith, ap rank e))
     go (a-y e) = absurd (omega (arith, ap rank e))
-    go (other e f g) = absurd (omega arith)
+    go (other e f g h) = absurd (omega arith)
 
 only-arg : (y : ℕ) → rank y ≡ rank arg-line → y ≡ arg-line
-only-arg y h = go (ranked y)
+only-arg y k = go (ranked y)
   where
     go : Ranked y → y ≡ arg-line
     go (an-n e) = absurd (omega (arith, ap rank e))
     go (an-a e) = e
     go (a-y e) = absurd (omega (arith, ap rank e))
-    go (other e f g) = absurd (omega arith)
+    go (other e f g h) = absurd (omega arith)
 
 only-type : (y : ℕ) → rank y ≡ rank type-line → y ≡ type-line
-only-type y h = go (ranked y)
+only-type y k = go (ranked y)
   where
     go : Ranked y → y ≡ type-line
     go (an-n e) = absurd (omega (arith, ap rank e))
     go (an-a e) = absurd (omega (arith, ap rank e))
     go (a-y e) = e
-    go (other e f g) = absurd (omega arith)
+    go (other e f g h) = absurd (omega arith)
 
 lower-name : (ls : List Line) → lower 0 ls ≡ 0
 unfolding lower
@@ -286,7 +311,7 @@ lower-arg (l ∷ ls) = go (ranked (letter l)) (lower-arg ls)
     go (an-n e) r = rw e (ap suc r)
     go (an-a e) r = rw e r
     go (a-y e) r = rw e r
-    go (other e f g) r = rw (le-ltb (rank (letter l)) 1 (omega arith), f) r
+    go (other e f g h) r = rw (le-ltb (rank (letter l)) 1 (omega arith), f) r
 
 lower-type : (ls : List Line) → lower 2 ls ≡ count-of name-line ls + count-of arg-line ls
 unfolding lower select
@@ -297,7 +322,28 @@ lower-type (l ∷ ls) = go (ranked (letter l)) (lower-type ls)
     go (an-n e) r = rw e (omega arith)
     go (an-a e) r = rw e (omega arith)
     go (a-y e) r = rw e r
-    go (other e f g) r = rw (le-ltb (rank (letter l)) 2 (omega arith), f, g) r
+    go (other e f g h) r = rw (le-ltb (rank (letter l)) 2 (omega arith), f, g) r
+
+lower-head : (ls : List Line) → lower 3 ls ≡ header ls
+unfolding lower select
+lower-head [] = refl
+lower-head (l ∷ ls) = go (ranked (letter l)) (lower-head ls)
+  where
+    go : Ranked (letter l) → lower 3 ls ≡ header ls → lower 3 (l ∷ ls) ≡ header (l ∷ ls)
+    go (an-n e) r = rw e (omega arith)
+    go (an-a e) r = rw e (omega arith)
+    go (a-y e) r = rw e (omega arith)
+    go (other e f g h) r = rw (le-ltb (rank (letter l)) 3 (omega arith), f, g, h) r
+
+-- the letters of the header
+pub header-cases : (y : ℕ) → rank y < 3 → (y ≡ name-line) ⊎ ((y ≡ arg-line) ⊎ (y ≡ type-line))
+header-cases y k = go (ranked y)
+  where
+    go : Ranked y → (y ≡ name-line) ⊎ ((y ≡ arg-line) ⊎ (y ≡ type-line))
+    go (an-n e) = inl e
+    go (an-a e) = inr (inl e)
+    go (a-y e) = inr (inr e)
+    go (other e f g h) = absurd (omega arith)
 
 module _ (ls : List Line) (o : Ordered 0 (map letter ls)) where
   -- A line j is line (names + j) of the sheet
@@ -311,6 +357,45 @@ module _ (ls : List Line) (o : Ordered 0 (map letter ls)) where
   -- a Y line's number among the Y lines
   pub type-before : (i : ℕ) → i < length ls → is type-line (getD ls i bad) ≡ true → count-before type-line ls i + (count-of name-line ls + count-of arg-line ls) ≡ i
   type-before i h e = rw (lower-type ls) at (before-at type-line only-type 0 ls i o h e)
+
+  -- the letters by the places: N, A and Y lines, and then declarations
+  pub name-letter : (i : ℕ) → i < count-of name-line ls → letter (getD ls i bad) ≡ name-line
+  name-letter i h = only-name (letter (getD ls i bad)) (omega (arith, lower-below 0 1 ls i o (omega (arith, lower-arg ls))))
+
+  pub arg-letter : (i : ℕ) → count-of name-line ls ≤ i → i < count-of name-line ls + count-of arg-line ls → i < length ls → letter (getD ls i bad) ≡ arg-line
+  arg-letter i h k l =
+      only-arg (letter (getD ls i bad)) (omega (arith, lower-below 0 2 ls i o (omega (arith, lower-type ls)), lower-from 0 1 ls i o (omega (arith, lower-arg ls)) l))
+
+  pub type-letter : (i : ℕ) → count-of name-line ls + count-of arg-line ls ≤ i → i < header ls → i < length ls → letter (getD ls i bad) ≡ type-line
+  type-letter i h k l =
+      only-type (letter (getD ls i bad)) (omega (arith, lower-below 0 3 ls i o (omega (arith, lower-head ls)), lower-from 0 2 ls i o (omega (arith, lower-type ls)) l))
+
+  pub header-letter : (i : ℕ) → i < header ls → rank (letter (getD ls i bad)) < 3
+  header-letter i h = lower-below 0 3 ls i o (omega (arith, lower-head ls))
+
+  pub later-letter : (i : ℕ) → header ls ≤ i → i < length ls → 3 ≤ rank (letter (getD ls i bad))
+  later-letter i h l = lower-from 0 3 ls i o (omega (arith, lower-head ls)) l
+
+lower-le : (p : ℕ) (ls : List Line) → lower p ls ≤ length ls
+unfolding lower
+lower-le p [] = omega arith
+lower-le p (l ∷ ls) = go (ltb (rank (letter l)) p) (lower-le p ls)
+  where
+    go : (c : Bool) → lower p ls ≤ length ls → pick c (suc (lower p ls)) (lower p ls) ≤ suc (length ls)
+    go true h = omega arith
+    go false h = omega arith
+
+pub header-le : (ls : List Line) → header ls ≤ length ls
+header-le ls = omega (arith, lower-head ls, lower-le 3 ls)
+
+-- ---- the lines of a sheet before the declarations
+module _ (b : List ℕ) (from : ℕ) (h : Headed b from) where
+  pub from-le : from ≤ count 6 b
+  from-le = omega (arith, h .from-is, header-le (lines 6 b), length-lines 6 b)
+
+  pub before-from : (i : ℕ) → i < from → (letter (line 6 b i) ≡ name-line) ⊎ ((letter (line 6 b i) ≡ arg-line) ⊎ (letter (line 6 b i) ≡ type-line))
+  before-from i k =
+      header-cases (letter (line 6 b i)) (rw (← (getD-lines 6 b i)) (header-letter (lines 6 b) (ordered-lines 6 b (h .no-bad) (h .in-order)) i (omega (arith, h .from-is))))
 
 pub count-of-le : (x : ℕ) (ls : List Line) → count-of x ls ≤ length ls
 unfolding select
