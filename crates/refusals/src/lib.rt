@@ -60,7 +60,7 @@ pub fn check_rows(s: &[u8]) -> Checked
     if repeated < n {
         return refused(6, repeated);
     }
-    let wrong = verdicts::row7(s);
+    let wrong = verdicts::row7(s, from);
     if wrong < n {
         return refused(7, wrong);
     }

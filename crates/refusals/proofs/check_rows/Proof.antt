@@ -111,7 +111,9 @@ row6-requires : tie.Need-row6-requires
 row6-requires c κs = (ranged c, (counted (c .before .before) .names-are, from-is (c .before .before)))
 
 row7-requires : tie.Need-row7-requires
-row7-requires c κs = no-bad (c .before .before .before .before .before .before .before .before .before)
+row7-requires c κs =
+    let k = counted (c .before .before .before .before) in
+    record { no-bad = k .no-bad; in-order = k .in-order; from-is = from-is (c .before .before .before .before) }
 
 -- ---- the answers
 returns : tie.Need-returns

@@ -1,7 +1,7 @@
--- `verdicts::one_ctor` meets its contract, by the body kind. Assumes nothing.
+-- `verdict_lines::one_ctor` meets its contract, by the body kind. Assumes nothing.
 use borrow.Author.Tests.{ne-eqb}
-use Rattle.verdicts.proofs.one_ctor.Statement.{statement}
-use Rattle.verdicts.proofs.one_ctor.Tie as tie
+use Rattle.verdict_lines.proofs.one_ctor.Statement.{statement}
+use Rattle.verdict_lines.proofs.one_ctor.Tie as tie
 
 returns : tie.Need-returns
 returns c = rw (c .match .keys1)

@@ -1,9 +1,9 @@
--- `verdicts::good_verdict` meets its contract, by the layout. Assumes nothing.
+-- `verdict_lines::good_verdict` meets its contract, by the layout. Assumes nothing.
 use borrow.Author.Tests.{ne-eqb, le-leb, lt-leb}
 use Rattle.custard.specs.Rows.{good-verdict}
 use borrow.Author.Needs.{needs}
-use Rattle.verdicts.proofs.good_verdict.Statement.{statement}
-use Rattle.verdicts.proofs.good_verdict.Tie as tie
+use Rattle.verdict_lines.proofs.good_verdict.Statement.{statement}
+use Rattle.verdict_lines.proofs.good_verdict.Tie as tie
 
 returns : tie.Need-returns
 unfolding good-verdict

@@ -1,8 +1,8 @@
--- `verdicts::good_layout` meets its contract, by the layout. Assumes nothing.
+-- `verdict_lines::good_layout` meets its contract, by the layout. Assumes nothing.
 use borrow.Author.Tests.{ne-eqb}
 use borrow.Author.Needs.{needs}
-use Rattle.verdicts.proofs.good_layout.Statement.{statement}
-use Rattle.verdicts.proofs.good_layout.Tie as tie
+use Rattle.verdict_lines.proofs.good_layout.Statement.{statement}
+use Rattle.verdict_lines.proofs.good_layout.Tie as tie
 
 returns : tie.Need-returns
 returns c = rw (c .both .ensures, c .before .one-ctor .ensures, c .before .before .match .keys1)

@@ -1,9 +1,9 @@
--- `verdicts::has_ctors` meets its contract, by the body kind. Assumes nothing.
+-- `verdict_lines::has_ctors` meets its contract, by the body kind. Assumes nothing.
 use mathlib.Core.Path.{sym}
 use native.Mathlib.Omega.{arith}
-use Rattle.verdicts.specs.VerdictsLaws.{ctors-within, ctors-outside}
-use Rattle.verdicts.proofs.has_ctors.Statement.{statement}
-use Rattle.verdicts.proofs.has_ctors.Tie as tie
+use Rattle.verdict_lines.specs.VerdictLinesLaws.{ctors-within, ctors-outside}
+use Rattle.verdict_lines.proofs.has_ctors.Statement.{statement}
+use Rattle.verdict_lines.proofs.has_ctors.Tie as tie
 
 returns : tie.Need-returns
 returns c = sym (ctors-within (c .before .before .args .kind) (c .before .if1 .left) (c .if2 .taken))

@@ -1,7 +1,7 @@
--- `verdicts::no_verdict` meets its contract, part by part. Assumes nothing.
+-- `verdict_lines::no_verdict` meets its contract, part by part. Assumes nothing.
 use borrow.Author.Needs.{needs}
-use Rattle.verdicts.proofs.no_verdict.Statement.{statement}
-use Rattle.verdicts.proofs.no_verdict.Tie as tie
+use Rattle.verdict_lines.proofs.no_verdict.Statement.{statement}
+use Rattle.verdict_lines.proofs.no_verdict.Tie as tie
 
 returns : tie.Need-returns
 returns c =
