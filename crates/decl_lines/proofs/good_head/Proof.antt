@@ -1,8 +1,8 @@
--- `ranges::good_head` meets its contract, part by part. Assumes nothing.
+-- `decl_lines::good_head` meets its contract, part by part. Assumes nothing.
 use Rattle.custard.specs.Rows.{good-head}
 use borrow.Author.Needs.{needs}
-use Rattle.ranges.proofs.good_head.Statement.{statement}
-use Rattle.ranges.proofs.good_head.Tie as tie
+use Rattle.decl_lines.proofs.good_head.Statement.{statement}
+use Rattle.decl_lines.proofs.good_head.Tie as tie
 
 returns : tie.Need-returns
 unfolding good-head

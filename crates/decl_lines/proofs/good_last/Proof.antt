@@ -1,7 +1,7 @@
--- `ranges::good_last` meets its contract, by the body kind. Assumes nothing.
+-- `decl_lines::good_last` meets its contract, by the body kind. Assumes nothing.
 use borrow.Author.Tests.{ne-eqb}
-use Rattle.ranges.proofs.good_last.Statement.{statement}
-use Rattle.ranges.proofs.good_last.Tie as tie
+use Rattle.decl_lines.proofs.good_last.Statement.{statement}
+use Rattle.decl_lines.proofs.good_last.Tie as tie
 
 returns : tie.Need-returns
 returns c = rw (c .match .keys1)

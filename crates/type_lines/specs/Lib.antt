@@ -1,0 +1,2 @@
+pub mod TypeLines
+pub mod TypeLinesLaws
