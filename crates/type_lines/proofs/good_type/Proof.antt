@@ -1,16 +1,22 @@
 -- `type_lines::good_type` meets its contract, kind by kind. Assumes nothing.
 use mathlib.Core.Path.{_≡_, sym}
 use mathlib.Core.Logic.{inl, inr, ⊎-elim}
-use Prim.Native.Nat.{_≤_}
+use Prim.Native.Nat.{_≤_, _<_}
 use native.Mathlib.Omega.{arith}
 use borrow.Author.Tests.{le-leb}
-use Rattle.sheet.specs.Sheet.{lines, line}
+use Rattle.sheet.specs.Line.{letter}
+use Rattle.sheet.specs.Sheet.{count, lines, line, row2}
+use Rattle.custard.specs.Program.{name-line}
 use Rattle.custard.specs.Rows.{good-type}
 use Rattle.type_lines.specs.TypeLines.{types-of}
 use Rattle.type_lines.specs.TypeLinesLaws.{past, type-over}
 use borrow.Author.Needs.{needs}
 use Rattle.type_lines.proofs.good_type.Statement.{statement}
 use Rattle.type_lines.proofs.good_type.Tie as tie
+
+-- a Y line has numbers
+typed : (p : tie.Start) → (row2 6 (p .args .s .now) ≡ count 6 (p .args .s .now)) × ((p .args .i < count 6 (p .args .s .now)) × (letter (line 6 (p .args .s .now) (p .args .i)) ≡ name-line → ⊥))
+typed p = (p .pre .0 .no-bad, (p .pre .1 .0, λ e. omega (arith, p .pre .1 .1)))
 
 returns : tie.Need-returns
 unfolding good-type
@@ -82,47 +88,47 @@ good-type-spec =
     tie.close
     (tie.spec
     (λ c κs. search needs)
+    (λ c κs. c .before .before .before .pre .0 .no-bad)
+    (λ c κs. typed (c .before .before .before .before))
+    (λ c κs. search needs)
+    (λ c κs. c .before .before .before .pre .0 .no-bad)
+    (λ c κs. c .before .before .before .before .pre .0 .no-bad)
     (λ c κs. search needs)
     (λ c κs. search needs)
+    (λ c κs. typed (c .before .before .before .before .before .before .before))
+    (λ c κs. search needs)
+    (λ c κs. c .before .before .before .pre .0 .no-bad)
+    (λ c κs. typed (c .before .before .before .before))
+    (λ c κs. search needs)
+    (λ c κs. typed (c .before .before .before))
+    (λ c κs. c .before .before .before .pre .0 .no-bad)
+    (λ c κs. c .before .before .before .before .pre .0 .no-bad)
+    (λ c κs. search needs)
+    (λ c κs. c .before .before .before .before .before .before .pre .0 .no-bad)
+    (λ c κs. search needs)
+    (λ c κs. typed (c .before .before .before .before .before .before .before .before))
+    (λ c κs. search needs)
+    (λ c κs. c .before .before .before .pre .0 .no-bad)
+    (λ c κs. c .before .before .before .before .pre .0 .no-bad)
+    (λ c κs. c .before .before .before .before .before .pre .0 .no-bad)
     (λ c κs. search needs)
     (λ c κs. search needs)
+    (λ c κs. typed (c .before .before .before .before .before .before .before .before))
     (λ c κs. search needs)
+    (λ c κs. c .before .before .before .pre .0 .no-bad)
+    (λ c κs. c .before .before .before .before .pre .0 .no-bad)
     (λ c κs. search needs)
+    (λ c κs. typed (c .before .before .before .before .before .before))
     (λ c κs. search needs)
+    (λ c κs. c .before .before .before .pre .0 .no-bad)
+    (λ c κs. c .before .before .before .before .pre .0 .no-bad)
     (λ c κs. search needs)
+    (λ c κs. typed (c .before .before .before .before .before .before))
     (λ c κs. search needs)
+    (λ c κs. c .before .before .before .pre .0 .no-bad)
+    (λ c κs. typed (c .before .before .before .before))
     (λ c κs. search needs)
-    (λ c κs. search needs)
-    (λ c κs. search needs)
-    (λ c κs. search needs)
-    (λ c κs. search needs)
-    (λ c κs. search needs)
-    (λ c κs. search needs)
-    (λ c κs. search needs)
-    (λ c κs. search needs)
-    (λ c κs. search needs)
-    (λ c κs. search needs)
-    (λ c κs. search needs)
-    (λ c κs. search needs)
-    (λ c κs. search needs)
-    (λ c κs. search needs)
-    (λ c κs. search needs)
-    (λ c κs. search needs)
-    (λ c κs. search needs)
-    (λ c κs. search needs)
-    (λ c κs. search needs)
-    (λ c κs. search needs)
-    (λ c κs. search needs)
-    (λ c κs. search needs)
-    (λ c κs. search needs)
-    (λ c κs. search needs)
-    (λ c κs. search needs)
-    (λ c κs. search needs)
-    (λ c κs. search needs)
-    (λ c κs. search needs)
-    (λ c κs. search needs)
-    (λ c κs. search needs)
-    (λ c κs. search needs)
+    (λ c κs. typed (c .before .before .before .before))
     returns
     returns-2
     returns-3
