@@ -1,2 +1,1 @@
-pub mod TypeLines
 pub mod TypeLinesLaws

@@ -7,7 +7,7 @@ ghost use Rattle.sheet.specs.Sheet as sheet;
 ghost use Rattle.custard.specs.Program.{type-line};
 ghost use Rattle.custard.specs.Rows as rows;
 ghost use Rattle.header.specs.Header.{Counted};
-ghost use Rattle.type_lines.specs.TypeLines.{types-of};
+ghost use Rattle.type_lists.specs.TypeLists.{types-of};
 
 fn both(a: bool, b: bool) -> bool
     ensures { λ r. ⌜ r ≡ (a && b) ⌝ }
@@ -23,44 +23,6 @@ fn number_at(s: &[u8], i: usize, k: usize) -> usize
     reader::value(s, i, k) as usize
 }
 
-// The width of an integer type, 1 for `WSizet`.
-fn is_width(w: usize) -> bool
-    ensures { λ r. ⌜ r ≡ rows.is-width w ⌝ }
-{
-    match w {
-        1 => true,
-        8 => true,
-        16 => true,
-        32 => true,
-        64 => true,
-        128 => true,
-        _ => false,
-    }
-}
-
-// The list of k A lines from A line `at` on is one that type y can use.
-fn is_list(s: &[u8], names: usize, args: usize, types: usize, y: usize, at: usize, k: usize) -> bool
-    requires { ⌜ Counted (now s) names args types ⌝ }
-    requires { ⌜ (at < 4294967296) × (k < 4294967296) ⌝ }
-    ensures { λ r. ⌜ r ≡ rows.is-list (types-of (sheet.lines 6 (now (s .entry)))) y at k ⌝ }
-{
-    if k == 0 {
-        return at == 0;
-    }
-    if at + k > args {
-        return false;
-    }
-    let from = names + at;
-    let mut j = 0;
-    while j < k {
-        if reader::value(s, from + j, 0) as usize >= y {
-            return false;
-        }
-        j += 1;
-    }
-    true
-}
-
 // The kind and the numbers of Y line i, for type y; a number is read where its kind has it.
 pub fn good_type(s: &[u8], i: usize, names: usize, args: usize, types: usize, y: usize) -> bool
     requires { ⌜ Counted (now s) names args types ⌝ }
@@ -71,7 +33,10 @@ pub fn good_type(s: &[u8], i: usize, names: usize, args: usize, types: usize, y:
     match kind {
         3 => both(number_at(s, i, 1) < names, unused::zeros_from(s, i, 2)),
         4 => both(
-            both(number_at(s, i, 1) <= 1, is_width(number_at(s, i, 2))),
+            both(
+                number_at(s, i, 1) <= 1,
+                type_lists::is_width(number_at(s, i, 2)),
+            ),
             unused::zeros_from(s, i, 3),
         ),
         5 => both(number_at(s, i, 1) <= 3, unused::zeros_from(s, i, 2)),
@@ -86,7 +51,7 @@ pub fn good_type(s: &[u8], i: usize, names: usize, args: usize, types: usize, y:
         8 => both(
             both(
                 number_at(s, i, 1) < names,
-                is_list(
+                type_lists::is_list(
                     s,
                     names,
                     args,
@@ -99,7 +64,7 @@ pub fn good_type(s: &[u8], i: usize, names: usize, args: usize, types: usize, y:
             unused::zeros_from(s, i, 4),
         ),
         9 => both(
-            is_list(
+            type_lists::is_list(
                 s,
                 names,
                 args,

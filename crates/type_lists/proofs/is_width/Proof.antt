@@ -1,8 +1,8 @@
--- `type_lines::is_width` meets its contract: each width is one of the six. Assumes nothing.
+-- `type_lists::is_width` meets its contract: each width is one of the six. Assumes nothing.
 use borrow.Author.Tests.{ne-eqb}
 use Rattle.custard.specs.Rows.{is-width}
-use Rattle.type_lines.proofs.is_width.Statement.{statement}
-use Rattle.type_lines.proofs.is_width.Tie as tie
+use Rattle.type_lists.proofs.is_width.Statement.{statement}
+use Rattle.type_lists.proofs.is_width.Tie as tie
 
 returns : tie.Need-returns
 unfolding is-width

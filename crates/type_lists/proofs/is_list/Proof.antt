@@ -1,13 +1,13 @@
--- `type_lines::is_list` meets its contract: no A line passed is too high. Assumes nothing.
+-- `type_lists::is_list` meets its contract: no A line passed is too high. Assumes nothing.
 use mathlib.Core.Path.{_≡_, refl, sym}
 use Prim.Native.Nat.{_≤_, _-_}
 use native.Mathlib.Omega.{arith}
 use borrow.Author.Needs.{needs}
 use Rattle.sheet.specs.Sheet.{first, lines}
-use Rattle.type_lines.specs.TypeLines.{types-of}
-use Rattle.type_lines.specs.TypeLinesLaws.{too-high, list-empty, list-past, list-found, list-all, list-more, args-length, arg-type-from, names-le, args-le}
-use Rattle.type_lines.proofs.is_list.Statement.{statement}
-use Rattle.type_lines.proofs.is_list.Tie as tie
+use Rattle.type_lists.specs.TypeLists.{types-of}
+use Rattle.type_lists.specs.TypeListsLaws.{too-high, list-empty, list-past, list-found, list-all, list-more, args-length, arg-type-from, names-le, args-le}
+use Rattle.type_lists.proofs.is_list.Statement.{statement}
+use Rattle.type_lists.proofs.is_list.Tie as tie
 
 abbrev Inv-loop : tie.InvT-loop
 Inv-loop s names args types y at k from j₀ j = (j ≤ k) × (first (too-high (types-of (lines 6 s)) y at) j ≡ j)
