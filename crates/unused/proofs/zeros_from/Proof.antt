@@ -26,7 +26,7 @@ loop-holds c =
     (omega arith, zeros-start (a .k) (line 6 (a .s .now) (a .i)))
 
 is-zero-requires : tie.Need-is-zero-requires Inv-loop μ-loop
-is-zero-requires c κs = (omega (arith, c .before .before .line-bytes .ensures .1), c .loop-test .taken)
+is-zero-requires c κs = (omega (arith, c .before .before .line-bytes .ensures .1), omega arith)
 
 -- what is read of number j
 read : (c : tie.After-is-zero Inv-loop μ-loop)
@@ -34,7 +34,7 @@ read : (c : tie.After-is-zero Inv-loop μ-loop)
 read c =
     let p = c .before .before .before .before .before in
     let j = c .before .before .loop .j in
-    c .is-zero .ensures ∙ rw (c .before .before .before .line-bytes .ensures .0) (zero-number (p .args .s .now) (p .pre .0) (p .args .i) j (p .pre .1 .0) (p .pre .1 .1) (c .before .loop-test .taken))
+    c .is-zero .ensures ∙ rw (c .before .before .before .line-bytes .ensures .0) (zero-number (p .args .s .now) (p .pre .0) (p .args .i) j (p .pre .1 .0) (p .pre .1 .1) (omega arith))
 
 returns : tie.Need-returns Inv-loop μ-loop
 returns c =
