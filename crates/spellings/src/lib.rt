@@ -2,6 +2,7 @@
 use parts::LINE;
 use parts::TEXT;
 ghost use mathlib.Core.Path.{_≡_};
+ghost use mathlib.Core.Bool.{false};
 ghost use Prim.Native.Nat.{_<_};
 ghost use Rattle.sheet.specs.Sheet as sheet;
 ghost use Rattle.custard.specs.Program.{name-line};
@@ -54,17 +55,33 @@ fn spelled_before(s: &[u8], i: usize) -> bool
     false
 }
 
-// The first of so many N lines whose spelling an earlier one has, or the count of lines.
+// A line before line i has its text; mark is 1 where one has its key.
+fn again(s: &[u8], i: usize, mark: u8) -> bool
+    requires { ⌜ i < sheet.count 6 (now s) ⌝ }
+    requires { ⌜ ((mark ≡ 1 → ⊥) → spelled-before 6 (now s) i ≡ false) ⌝ }
+    ensures { λ r. ⌜ r ≡ spelled-before 6 (now (s .entry)) i ⌝ }
+{
+    if mark != 1 {
+        return false;
+    }
+    spelled_before(s, i)
+}
+
+// The first of so many N lines whose spelling an earlier one has, or the count of lines. The keys
+// of the texts passed are marked.
 pub fn respelled(s: &[u8], names: usize) -> usize
     requires { ⌜ Ranged (now s) ⌝ }
     requires { ⌜ names ≡ rows.count-of name-line (sheet.lines 6 (now s)) ⌝ }
     ensures { λ r. ⌜ r ≡ sheet.first (spellings.respelled (sheet.lines 6 (now (s .entry)))) (sheet.count 6 (now (s .entry))) ⌝ }
 {
+    let mut seen = [0u8; 2000];
     let mut i = 0;
     while i < names {
-        if spelled_before(s, i) {
+        let k = words::key(text(s, i));
+        if again(s, i, seen[k]) {
             return i;
         }
+        seen[k] = 1;
         i += 1;
     }
     s.len() / LINE
