@@ -16,7 +16,7 @@ wordAt t i = getD t i 0 + getD t (i + 1) 0 * 256 + getD t (i + 2) 0 * 65536 + ge
 unfoldable pub keyOf : List ℕ → ℕ
 keyOf t =
     (wordAt t 0 * 16777619 + wordAt t 4 * 165901211 + wordAt t 8 * 140295334 + wordAt t 12 * 204151523 + wordAt t 16 * 41766578 + wordAt t 20 * 23422577)
-    / 16777216 % 2000
+    / 16777216 % 1000
 
 -- a word tells its bytes
 pub four : (a b c d : ℕ) → a < 256 → b < 256 → c < 256 → d < 256

@@ -33,7 +33,7 @@ fn word(t: &[u8], at: usize) -> u64
 // A number that texts of the same 24 bytes share.
 pub fn key(t: &[u8]) -> usize
     requires { ⌜ length (now t) ≡ 24 ⌝ }
-    ensures { λ r. ⌜ (r ≡ keyOf (now (t .entry))) × (r < 2000) ⌝ }
+    ensures { λ r. ⌜ (r ≡ keyOf (now (t .entry))) × (r < 1000) ⌝ }
 {
     let k = word(t, 0) * 16777619
         + word(t, 4) * 165901211
@@ -41,5 +41,5 @@ pub fn key(t: &[u8]) -> usize
         + word(t, 12) * 204151523
         + word(t, 16) * 41766578
         + word(t, 20) * 23422577;
-    (k / 16777216 % 2000) as usize
+    (k / 16777216 % 1000) as usize
 }
