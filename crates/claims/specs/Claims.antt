@@ -1,5 +1,5 @@
 -- What is promised of the layout build's answer: demands 2 and 3 of document 01 and the operator's
--- checklist, as theorems about the definitions in the crate `custard`. The lemmas stand there.
+-- checklist, as theorems about the definitions in the crates `model`, `meaning` and `answer`, where the lemmas stand.
 --
 -- A sheet b is a list of bytes. v and l are the lengths of the outputs that are lent for the verdict sheet
 -- and the left sheet. f is the format; `base` is document 01's own, and `Ample f` says that its limits do

@@ -1,4 +1,4 @@
--- Steps from the laws of `custard` to the claims. Assumes nothing.
+-- Steps from the laws of the definitions to the claims. Assumes nothing.
 use mathlib.Core.Path.{_≡_, refl, ap, ap₂}
 use mathlib.Core.List.{List, [], _∷_, _++_, map}
 use mathlib.Core.Bool.{Bool, true, false, not}

@@ -187,3 +187,21 @@ pub write-none : (n : ℕ) (out : List ℕ) → length out ≡ 0 → out ≡ wri
 unfolding write
 write-none n [] e = refl
 write-none n (x ∷ out) e = absurd (omega arith)
+
+-- ---- for columns that begin with four spaces
+pub scan-spaces : (s : List ℕ) → 4 ≤ length s → eqb (getD s 0 0) 32 && eqb (getD s 1 0) 32 && eqb (getD s 2 0) 32 && eqb (getD s 3 0) 32 ≡ true
+    → scan Blank (drop 4 s) ≡ scan Blank s
+unfolding scan step
+scan-spaces [] h e = absurd (omega arith)
+scan-spaces (a ∷ []) h e = absurd (omega arith)
+scan-spaces (a ∷ b ∷ []) h e = absurd (omega arith)
+scan-spaces (a ∷ b ∷ c ∷ []) h e = absurd (omega arith)
+scan-spaces (a ∷ b ∷ c ∷ d ∷ s) h e = go (eqb a 32) refl (eqb b 32) refl (eqb c 32) refl (eqb d 32) refl e
+  where
+    go : (p : Bool) → eqb a 32 ≡ p → (q : Bool) → eqb b 32 ≡ q → (r : Bool) → eqb c 32 ≡ r → (t : Bool) → eqb d 32 ≡ t → p && q && r && t ≡ true
+        → scan Blank s ≡ scan Blank (a ∷ b ∷ c ∷ d ∷ s)
+    go true i true j true k true l m = rw (i, j, k, l)
+    go true i true j true k false l m = let z : _≡_ {A = ℕ} 0 1 = cc in absurd (omega arith)
+    go true i true j false k t l m = let z : _≡_ {A = ℕ} 0 1 = cc in absurd (omega arith)
+    go true i false j r k t l m = let z : _≡_ {A = ℕ} 0 1 = cc in absurd (omega arith)
+    go false i q j r k t l m = let z : _≡_ {A = ℕ} 0 1 = cc in absurd (omega arith)

@@ -80,15 +80,27 @@ pub fn read_number(s: &[u8]) -> Number
     }
 }
 
-// Whether the columns s hold a number.
-pub fn is_number(s: &[u8]) -> bool
-    requires { ⌜ length (now s) < 10 ⌝ }
-    ensures { λ r. ⌜ r ≡ col.isValue (col.read (now (s .entry))) ⌝ }
+// Whether a number can end so.
+fn ends(st: Scan) -> bool
+    ensures { λ r. ⌜ r ≡ col.isValue (col.told st) ⌝ }
 {
-    match scanned(s) {
+    match st {
         Scan::Blank => false,
         Scan::Zero => true,
         Scan::In(_) => true,
         Scan::Broken => false,
     }
+}
+
+// Whether the columns s hold a number. Four spaces are passed at once.
+pub fn is_number(s: &[u8]) -> bool
+    requires { ⌜ length (now s) < 10 ⌝ }
+    ensures { λ r. ⌜ r ≡ col.isValue (col.read (now (s .entry))) ⌝ }
+{
+    if s.len() >= 4 {
+        if words::four_spaces(s[0], s[1], s[2], s[3]) {
+            return ends(scanned(&s[4..]));
+        }
+    }
+    ends(scanned(s))
 }

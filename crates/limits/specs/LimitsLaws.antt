@@ -101,6 +101,13 @@ pub row4-past : (f : Format) (ls : List Line) (i : ℕ) → row4 f ls i ≡ past
 unfolding row4 past tally-before
 row4-past f ls i = refl
 
+pub head-cases : (x : ℕ) → head-letter x ≡ true → (x ≡ 68) ⊎ (x ≡ 73)
+head-cases x h = go (eqb x 68) refl h
+  where
+    go : (b : Bool) → eqb x 68 ≡ b → (b || eqb x 73) ≡ true → (x ≡ 68) ⊎ (x ≡ 73)
+    go true e k = inl (eqb-true x 68 e)
+    go false e k = inr (eqb-true x 73 k)
+
 -- what a D or I line adds, and its limit
 pub counted-head : (t : Tally) (x : ℕ) → (x ≡ 68) ⊎ (x ≡ 73) →
     counted t x ≡ record { names = t .names; args = t .args; types = t .types; decls = t .decls + 1; params = 0; ctors = t .ctors; fields = t .fields }
@@ -112,6 +119,10 @@ pub past-head : (f : Format) (t : Tally) (x : ℕ) → (x ≡ 68) ⊎ (x ≡ 73)
 unfolding past
 past-head f t x (inl e) = rw e
 past-head f t x (inr e) = rw e
+
+-- a D or I line that is not past its limit leaves room for its declaration
+pub room : (f : Format) (t : Tally) (x : ℕ) → head-letter x ≡ true → past f t x ≡ false → t .decls < f .decls
+room f t x h e = leb-false (f .decls) (t .decls) (sym (past-head f t x (head-cases x h)) ∙ e)
 
 -- no count is over the number of lines passed
 pub tally-small : (ls : List Line) (i : ℕ) → i ≤ length ls → i < 1152921504606846976 → Small (tally-before ls i)
@@ -132,13 +143,6 @@ tally-small ls i h l =
 step-kept : (n m : ℕ) (b c : Bool) → (b ≡ true → c ≡ leb m n) → c ≡ false → n ≤ m → pick b (n + 1) n ≤ m
 step-kept n m true c h e l = omega (arith, leb-false m n (sym (h refl) ∙ e))
 step-kept n m false c h e l = l
-
-pub head-cases : (x : ℕ) → head-letter x ≡ true → (x ≡ 68) ⊎ (x ≡ 73)
-head-cases x h = go (eqb x 68) refl h
-  where
-    go : (b : Bool) → eqb x 68 ≡ b → (b || eqb x 73) ≡ true → (x ≡ 68) ⊎ (x ≡ 73)
-    go true e k = inl (eqb-true x 68 e)
-    go false e k = inr (eqb-true x 73 k)
 
 pub cases-head : (x : ℕ) → (x ≡ 68) ⊎ (x ≡ 73) → head-letter x ≡ true
 cases-head x (inl e) = rw e
@@ -185,10 +189,6 @@ module _ (f : Format) (ls : List Line) (none-past : first (row4 f ls) (length ls
   decls-kept (suc i) h =
       rw (heads-before-step ls i h)
       (step-kept (heads-before ls i) (f .decls) (is-head (line-at ls i)) (row4 f ls i) (λ e. head-limit i (head-cases (letter (line-at ls i)) e)) (none-first (row4 f ls) (length ls) none-past i h) (decls-kept i (omega arith)))
-
-  -- a declaration that begins at line i is one of those that a sheet may have
-  pub head-kept : (i : ℕ) → i < length ls → is-head (line-at ls i) ≡ true → heads-before ls i < f .decls
-  head-kept i h e = omega (arith, decls-kept (suc i) h, rw e at (heads-before-step ls i h))
 
   -- what the sheet declares
   pub counts-kept : Kept f (counts-of ls)
@@ -288,9 +288,8 @@ pub record Found (ls : List Line) (i : ℕ) (places : List ℕ) : Type 0 where
   pub held : (k : ℕ) → k < 97 → getD places k 0 ≡ pick (ltb k (heads-before ls i)) (start ls k) (length ls)
 
 module _ (ls : List Line) where
-  pub found-none : Found ls 0 (replicate 97 (length ls))
-  unfolding select
-  found-none = record { sized = refl; held = λ k h. getD-replicate 97 k (length ls) 0 h ∙ rw (le-ltb k 0 (omega arith)) }
+  pub found-none : (i : ℕ) → heads-before ls i ≡ 0 → Found ls i (replicate 97 (length ls))
+  found-none i e = record { sized = refl; held = λ k h. getD-replicate 97 k (length ls) 0 h ∙ rw (e, le-ltb k 0 (omega arith)) }
 
   pub found-head : (i : ℕ) (places : List ℕ) → i < length ls → is-head (line-at ls i) ≡ true → heads-before ls i < 97
       → Found ls i places → Found ls (suc i) (set places (heads-before ls i) i)
@@ -343,10 +342,10 @@ module _ (w : ℕ) (b : List ℕ) (t : Tally) (x i : ℕ) (e : x ≡ letter (lin
   pub small-next : i < count w b → i < 1152921504606846976 → Small t
   small-next h l = rw q (tally-small (lines w b) i (omega (arith, length-lines w b)) l)
 
--- ---- for a loop over the lines of a sheet, with the number k of declarations and the places found before line i, and after it
+-- ---- for a loop over the lines of a sheet, with the number k of declarations before line i, and the places found before and after it
 module _ (w : ℕ) (b : List ℕ) where
-  pub found-begin : Found (lines w b) 0 (replicate 97 (count w b))
-  found-begin = rw (length-lines w b) at (found-none (lines w b))
+  pub found-begin : (i : ℕ) → heads-before (lines w b) i ≡ 0 → Found (lines w b) i (replicate 97 (count w b))
+  found-begin i e = rw (length-lines w b) at (found-none (lines w b) i e)
 
   pub found-end : (i : ℕ) (places : List ℕ) → i ≡ count w b → Found (lines w b) i places → places ≡ starts-of (lines w b)
   found-end i places e g = let m : i ≡ length (lines w b) = omega (arith, length-lines w b) in found-all (lines w b) places (rw m at g)
@@ -358,17 +357,7 @@ module _ (w : ℕ) (b : List ℕ) where
     same-head : (c : Bool) → head-letter x ≡ c → is-head (line-at (lines w b) i) ≡ c
     same-head c g = rw (getD-lines w b i, ← e) g
 
-    -- a limit on declarations
-    pub decl-kept : (f : Format) → first (row4 f (lines w b)) (count w b) ≡ count w b → head-letter x ≡ true → heads-before (lines w b) i < f .decls
-    decl-kept f g t = head-kept f (lines w b) (rw (length-lines w b) g) i inside (same-head true t)
-
-    module _ (k k' : ℕ) (places places' : List ℕ) (q : k ≡ heads-before (lines w b) i) (g : Found (lines w b) i places) where
-      pub heads-head : head-letter x ≡ true → k' ≡ k + 1 → k' ≡ heads-before (lines w b) (suc i)
-      heads-head t r = r ∙ rw (heads-before-step (lines w b) i inside, same-head true t, q)
-
-      pub heads-other : head-letter x ≡ false → k' ≡ k → k' ≡ heads-before (lines w b) (suc i)
-      heads-other t r = r ∙ rw (heads-before-step (lines w b) i inside, same-head false t, q)
-
+    module _ (k : ℕ) (places places' : List ℕ) (q : k ≡ heads-before (lines w b) i) (g : Found (lines w b) i places) where
       pub found-head-next : head-letter x ≡ true → k < 97 → places' ≡ set places k i → Found (lines w b) (suc i) places'
       found-head-next t m r = rw (r, q) (found-head (lines w b) i places inside (same-head true t) (rw (← q) m) g)
 

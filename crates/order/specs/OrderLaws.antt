@@ -1,76 +1,27 @@
 -- Row 3 by what is due, line by line, and that it may be tested on the lines that row 2 passed. Assumes nothing.
-use mathlib.Core.Path.{_≡_, ap, sym, _∙_}
+use mathlib.Core.Path.{_≡_, refl, ap, sym, _∙_}
 use mathlib.Core.List.{List}
-use mathlib.Core.Logic.{_⊎_, inl, inr}
-use mathlib.Core.Bool.{true, false}
-use Prim.Native.Nat.{ℕ, zero, suc, _-_, _<_}
+use mathlib.Core.Bool.{Bool, true, false}
+use Prim.Native.Nat.{ℕ, suc, _≤_, _<_}
 use native.Mathlib.Omega.{arith}
-use lib.Dec.{eqb, ltb, eqb·suc-zero}
+use native.Mathlib.Numerals.{add-one}
+use lib.Dec.{eqb}
 use lib.ListN.{length, take}
 use lib.Seq.{take-all}
-use borrow.Author.Tests.{lt-ltb}
+use borrow.Author.Tests.{eq-eqb, ne-eqb}
 use Rattle.columns.specs.Column.{pick}
-use Rattle.sheet.specs.Line.{Line, letter, number}
+use Rattle.sheet.specs.Line.{Line, letter}
 use Rattle.sheet.specs.Sheet.{first, count, line, lines, row2}
-use Rattle.sheet.specs.FirstLaws.{first-congr}
+use Rattle.sheet.specs.FirstLaws.{first-congr, first-more}
 use Rattle.sheet.specs.SheetLaws.{length-lines, getD-lines, line-good}
 use Rattle.meaning.specs.declared.Due.{Due}
-use Rattle.meaning.specs.declared.Due.the-variants.{Header, Within, Broken}
-use Rattle.meaning.specs.Rows.{line-at, raws, announced, due-header, due, due-after, is-broken, is-within, row3}
+use Rattle.meaning.specs.declared.Due.the-variants.{Header}
+use Rattle.meaning.specs.Rows.{line-at, raws, due, due-after, is-broken, is-within, row3}
+use Rattle.steps.specs.DueLaws.{due-name, due-arg, due-type}
+use Rattle.runs.specs.declared.Runs.{Runs}
+use Rattle.runs.specs.RunsLaws.{upward, Spans}
 use Rattle.order.specs.StepLaws.{due-after-suc}
 use Rattle.meaning.specs.Laws.Rows.{row3-inside, row3-past, row3-raws}
-
-less : (n : ℕ) → suc n - 1 ≡ n
-less n = omega arith
-
-more : (n : ℕ) → ltb 0 (suc n) ≡ true
-more n = lt-ltb 0 (suc n) (omega arith)
-
--- ---- a D or I line of the header
-pub due-head : (l : Line) (place x : ℕ) → letter l ≡ x → (x ≡ 68) ⊎ (x ≡ 73) → due-header place l ≡ announced (number l 2) (number l 3) (number l 4)
-unfolding due-header
-due-head l place x r (inl e) = rw (r, e)
-due-head l place x r (inr e) = rw (r, e)
-
--- ---- a line in a declaration, by its letter
-module _ (l : Line) where
-  pub due-param : (p f c : ℕ) → letter l ≡ 80 → due (Within p f c) l ≡ pick (eqb p 0) Broken (Within (p - 1) f c)
-  unfolding due
-  due-param zero zero zero e = rw e
-  due-param zero zero (suc c) e = rw e
-  due-param zero (suc f) c e = rw e
-  due-param (suc p) f c e = rw (e, eqb·suc-zero p, less p)
-
-  pub due-field : (p f c : ℕ) → letter l ≡ 70 → due (Within p f c) l ≡ pick (ltb 0 p) Broken (pick (eqb f 0) Broken (Within 0 (f - 1) c))
-  unfolding due
-  due-field zero zero zero e = rw e
-  due-field zero zero (suc c) e = rw e
-  due-field zero (suc f) c e = rw (e, eqb·suc-zero f, less f)
-  due-field (suc p) f c e = rw (e, more p)
-
-  pub due-ctor : (p f c : ℕ) → letter l ≡ 67 →
-      due (Within p f c) l ≡ pick (ltb 0 p) Broken (pick (ltb 0 f) Broken (pick (eqb c 0) Broken (Within 0 (number l 1) (c - 1))))
-  unfolding due
-  due-ctor zero zero zero e = rw e
-  due-ctor zero zero (suc c) e = rw (e, eqb·suc-zero c, less c)
-  due-ctor zero (suc f) c e = rw (e, more f)
-  due-ctor (suc p) f c e = rw (e, more p)
-
-  pub due-verdict : (p f c : ℕ) → letter l ≡ 86 →
-      due (Within p f c) l ≡ pick (ltb 0 p) Broken (pick (ltb 0 f) Broken (pick (ltb 0 c) Broken (Header 3)))
-  unfolding due
-  due-verdict zero zero zero e = rw e
-  due-verdict zero zero (suc c) e = rw (e, more c)
-  due-verdict zero (suc f) c e = rw (e, more f)
-  due-verdict (suc p) f c e = rw (e, more p)
-
-  pub due-other : (p f c : ℕ) → eqb (letter l) 80 ≡ false → eqb (letter l) 70 ≡ false → eqb (letter l) 67 ≡ false → eqb (letter l) 86 ≡ false →
-      due (Within p f c) l ≡ Broken
-  unfolding due
-  due-other zero zero zero a b c d = rw d
-  due-other zero zero (suc n) a b c d = rw c
-  due-other zero (suc f) n a b c d = rw b
-  due-other (suc p) f n a b c d = rw a
 
 -- ---- row 3 of a list of lines
 module _ (ls : List Line) where
@@ -79,6 +30,50 @@ module _ (ls : List Line) where
 
   pub row3-end : row3 ls (length ls) ≡ is-within (due-after (Header 0) ls)
   row3-end = row3-past ls (length ls) (omega arith)
+
+-- ---- the runs at the front
+-- what is due after them
+abbrev pub after-runs : Runs → Due
+after-runs r = Header (pick (eqb (r .types) (r .args)) (pick (eqb (r .args) (r .names)) 0 1) 2)
+
+-- row 3 applies to no line before line j, and the header is at part p
+pub record Reached (ls : List Line) (j p : ℕ) : Type 0 where
+  pub at : due-after (Header 0) (take j ls) ≡ Header p
+  pub none : first (row3 ls) j ≡ j
+
+module _ (ls : List Line) where
+  -- over a run of the lines of part q, from line i to line k
+  over : (x q i k p : ℕ) → ((l : Line) (p : ℕ) → letter l ≡ x → p ≤ q → due (Header p) l ≡ Header q)
+      → i ≤ k → k ≤ length ls → ((j : ℕ) → i ≤ j → j < k → letter (line-at ls j) ≡ x) → p ≤ q → Reached ls i p → Reached ls k (pick (eqb k i) p q)
+  over x q i k p fits h m run b r = upward (λ j. j ≤ k → Reached ls j (pick (eqb j i) p q)) i (λ l. rw (eq-eqb i i refl) r) next k h (omega arith)
+    where
+      low : (c : Bool) → pick c p q ≤ q
+      low true = b
+      low false = omega arith
+
+      next : (j : ℕ) → i ≤ j → (j ≤ k → Reached ls j (pick (eqb j i) p q)) → suc j ≤ k → Reached ls (suc j) (pick (eqb (suc j) i) p q)
+      next j a f l =
+          let g : Reached ls j (pick (eqb j i) p q) = f (omega arith) in
+          let d : due-after (Header 0) (take (suc j) ls) ≡ Header q =
+          due-after-suc ls j (omega arith) (Header 0) ∙ rw (g .at) (fits (line-at ls j) (pick (eqb j i) p q) (run j a l) (low (eqb j i))) in
+          rw (ne-eqb (suc j) i (λ e. omega arith))
+          (record { at = d; none = rw add-one at (first-more (row3 ls) j (g .none) (row3-inside ls j (omega arith) ∙ ap is-broken d)) })
+
+  pub front : (r : Runs) → Spans ls r → Reached ls (r .types) (pick (eqb (r .types) (r .args)) (pick (eqb (r .args) (r .names)) 0 1) 2)
+  unfolding due-after first
+  front r s =
+      let begin : Reached ls 0 0 = record { at = refl; none = refl } in
+      let names : Reached ls (r .names) 0 = rw (same (eqb (r .names) 0)) at (over 78 0 0 (r .names) 0 due-name (omega arith) (omega (arith, s .to-args, s .to-types, s .to-end)) (s .names) (omega arith) begin) in
+      let args : Reached ls (r .args) (pick (eqb (r .args) (r .names)) 0 1) = over 65 1 (r .names) (r .args) 0 due-arg (s .to-args) (omega (arith, s .to-types, s .to-end)) (s .args) (omega arith) names in
+      over 89 2 (r .args) (r .types) (pick (eqb (r .args) (r .names)) 0 1) due-type (s .to-types) (s .to-end) (s .types) (small (eqb (r .args) (r .names))) args
+    where
+      same : (c : Bool) → _≡_ {A = ℕ} (pick c 0 0) 0
+      same true = refl
+      same false = refl
+
+      small : (c : Bool) → pick c 0 1 ≤ 2
+      small true = omega arith
+      small false = omega arith
 
 -- ---- the lines of a sheet without bad lines
 module _ (w : ℕ) (b : List ℕ) (good : row2 w b ≡ count w b) where

@@ -1,116 +1,68 @@
--- What the loops of row 5 keep, and what their ends give. Assumes nothing.
-use mathlib.Core.Path.{_≡_, sym, ap, _∙_}
+-- Row 5 by the sections of a sheet in order. Assumes nothing.
+use mathlib.Core.Path.{_≡_}
 use mathlib.Core.List.{List}
-use mathlib.Core.Bool.{Bool, true, false, _&&_, not}
-use Prim.Native.Nat.{ℕ, suc, _+_, _-_, _≤_, _<_}
+use mathlib.Core.Bool.{Bool, not}
+use Prim.Native.Nat.{ℕ, _+_, _-_, _≤_, _<_}
 use native.Mathlib.Omega.{arith}
-use lib.Dec.{eqb, leb, ltb}
-use lib.ListN.{length, getD, length-map, List·getD-map}
-use borrow.Author.Tests.{eq-eqb, ne-eqb, lt-ltb, le-ltb, le-leb, lt-leb}
-use Rattle.sheet.specs.Line.{Line, bad, letter, number}
+use lib.Dec.{eqb}
+use lib.ListN.{length}
+use Rattle.sheet.specs.Line.{letter, number}
 use Rattle.sheet.specs.Sheet.{first, count, line, lines}
-use Rattle.sheet.specs.FirstLaws.{first-none, none-first, first-le-at, first-more}
 use Rattle.sheet.specs.SheetLaws.{length-lines, getD-lines}
-use Rattle.meaning.specs.Program.{name-line, arg-line, type-line, select}
-use Rattle.meaning.specs.Rows.{some-below, count-before, zeros-from, is-list, good-type}
-use Rattle.ranges.specs.Ranges.{Counted, types-of}
-use Rattle.ranges.specs.OrderLaws.{ordered-lines, arg-at, name-before, type-before, count-of-le}
+use Rattle.sheet.specs.FirstLaws.{first-le, first-prefix}
+use Rattle.meaning.specs.Program.{name-line, type-line}
+use Rattle.meaning.specs.Rows.{count-before, good-type, good-numbers, row5}
+use Rattle.header.specs.Header.{Counted}
+use Rattle.header.specs.OrderLaws.{ordered-lines, name-before, type-before, name-letter, arg-letter, type-letter, header-le}
+use Rattle.type_lists.specs.TypeLists.{types-of}
+use Rattle.ranges.specs.Ranges.{ArgLine, good-arg}
 
--- ---- a test that holds of some number
-some-at : (p : ℕ → Bool) (n i : ℕ) → i < n → p i ≡ true → some-below p n ≡ true
-some-at p n i h t = lt-ltb (first p n) n (omega (arith, first-le-at p n i h t))
+-- the place, where it is in an earlier part
+pub first-earlier : (p : ℕ → Bool) (m n r : ℕ) → r ≡ first p m → m ≤ n → r < m → r ≡ first p n
+first-earlier p m n r e h k = omega (arith, first-prefix p m n h)
 
-some-none : (p : ℕ → Bool) (n m : ℕ) → m ≤ n → first p n ≡ n → some-below p m ≡ false
-some-none p n m h e =
-    let k : first p m ≡ m = first-none p m (λ i l. none-first p n e i (omega arith)) in
-    le-ltb (first p m) m (omega arith)
+-- or in none
+pub first-past : (p : ℕ → Bool) (m r : ℕ) → r ≡ first p m → m ≤ r → first p m ≡ m
+first-past p m r e h = omega (arith, first-le p m)
 
--- ---- unused numbers
--- number i is unused and not 0
-abbrev pub stray : ℕ → Line → ℕ → Bool
-stray k l i = leb k i && not (eqb (number l i) 0)
-
-module _ (k : ℕ) (l : Line) where
-  pub zeros-start : first (stray k l) k ≡ k
-  zeros-start = first-none (stray k l) k (λ i h. rw (lt-leb k i h))
-
-  pub zeros-more : (j : ℕ) → k ≤ j → number l j ≡ 0 → first (stray k l) j ≡ j → first (stray k l) (j + 1) ≡ j + 1
-  zeros-more j h e r = first-more (stray k l) j r (rw (le-leb k j h, eq-eqb (number l j) 0 e))
-
-  pub zeros-found : (j : ℕ) → k ≤ j → j < 5 → (number l j ≡ 0 → ⊥) → zeros-from k l ≡ false
-  unfolding zeros-from
-  zeros-found j h m e = ap not (some-at (stray k l) 5 j m (rw (le-leb k j h, ne-eqb (number l j) 0 e)))
-
-  pub zeros-all : (j : ℕ) → 5 ≤ j → first (stray k l) j ≡ j → zeros-from k l ≡ true
-  unfolding zeros-from
-  zeros-all j h e = ap not (some-none (stray k l) j 5 h e)
-
--- ---- lists
--- A line i + j is not of a lower type than y
-abbrev pub too-high : List ℕ → ℕ → ℕ → ℕ → Bool
-too-high xs y i j = not (ltb (getD xs (i + j) 0) y)
-
-module _ (xs : List ℕ) (y i : ℕ) where
-  pub list-empty : (k : ℕ) → k ≡ 0 → is-list xs y i k ≡ eqb i 0
-  unfolding is-list
-  list-empty k e = rw (eq-eqb k 0 e, is-list)
-
-  list-some : (k : ℕ) → (k ≡ 0 → ⊥) → is-list xs y i k ≡ (leb (i + k) (length xs) && not (some-below (too-high xs y i) k))
-  unfolding is-list
-  list-some k e = rw (ne-eqb k 0 e, is-list)
-
-  pub list-past : (k : ℕ) → (k ≡ 0 → ⊥) → length xs < i + k → is-list xs y i k ≡ false
-  list-past k e h = list-some k e ∙ rw (lt-leb (i + k) (length xs) h)
-
-  module _ (k : ℕ) (e : k ≡ 0 → ⊥) (h : i + k ≤ length xs) where
-    pub list-found : (j : ℕ) → j < k → y ≤ getD xs (i + j) 0 → is-list xs y i k ≡ false
-    list-found j m q = list-some k e ∙ rw (le-leb (i + k) (length xs) h) (ap not (some-at (too-high xs y i) k j m (rw (le-ltb (getD xs (i + j) 0) y q))))
-
-    pub list-all : first (too-high xs y i) k ≡ k → is-list xs y i k ≡ true
-    list-all q = list-some k e ∙ rw (le-leb (i + k) (length xs) h) (ap not (some-none (too-high xs y i) k k (omega arith) q))
-
-  pub list-more : (j : ℕ) → getD xs (i + j) 0 < y → first (too-high xs y i) j ≡ j → first (too-high xs y i) (j + 1) ≡ j + 1
-  list-more j h e = first-more (too-high xs y i) j e (rw (lt-ltb (getD xs (i + j) 0) y h))
-
--- ---- kinds
-pub past : (n k : ℕ) → n ≤ k → (k ≡ n → ⊥) → suc n ≤ k
-past n k h e = omega arith
-
--- no kind is over 12
-pub type-over : (names : ℕ) (xs : List ℕ) (y : ℕ) (l : Line) → 13 ≤ number l 0 → good-type names xs y l ≡ false
-unfolding good-type
-type-over names xs y l h = simp (lt-leb (number l 0) 2 (omega arith), lt-leb (number l 0) 12 h, other 3 (omega arith), other 4 (omega arith), other 5 (omega arith), other 6 (omega arith), other 7 (omega arith), other 8 (omega arith), other 9 (omega arith), other 11 (omega arith))
-  where
-    other : (n : ℕ) → n < 13 → eqb (number l 0) n ≡ false
-    other n m = ne-eqb (number l 0) n (λ e. omega arith)
-
--- ---- a sheet in order
 module _ (b : List ℕ) (names args types : ℕ) (c : Counted b names args types) where
-  pub args-length : length (types-of (lines 6 b)) ≡ args
-  args-length = length-map (select arg-line (lines 6 b)) (λ a. number a 0) ∙ sym (c .args-are)
+  pub header-within : names + args + types ≤ count 6 b
+  header-within = omega (arith, c .names-are, c .args-are, c .types-are, header-le (lines 6 b), length-lines 6 b)
 
-  -- the type of A line j, by its place in the sheet
-  pub arg-type : (j : ℕ) → j < args → getD (types-of (lines 6 b)) j 0 ≡ number (line 6 b (names + j)) 0
-  arg-type j h =
-      let e : getD (select arg-line (lines 6 b)) j bad ≡ line 6 b (names + j) =
-      arg-at (lines 6 b) (ordered-lines 6 b (c .no-bad) (c .in-order)) j (omega (arith, c .args-are)) ∙ rw (← (c .names-are)) (getD-lines 6 b (names + j)) in
-      List·getD-map (λ a. number a 0) (select arg-line (lines 6 b)) j bad ∙ ap (λ (l : Line). number l 0) e
+  -- ---- the letters of the sections
+  pub name-lettered : (i : ℕ) → i < names → letter (line 6 b i) ≡ name-line
+  name-lettered i h = rw (← (getD-lines 6 b i)) (name-letter (lines 6 b) (ordered-lines 6 b (c .no-bad) (c .in-order)) i (omega (arith, c .names-are)))
 
-  pub arg-type-from : (i j : ℕ) → i + j < args → getD (types-of (lines 6 b)) (i + j) 0 ≡ number (line 6 b (names + i + j)) 0
-  arg-type-from i j h = let e : names + (i + j) ≡ names + i + j = omega arith in rw e at (arg-type (i + j) h)
+  pub arg-lettered : (i : ℕ) → names ≤ i → i < names + args → ArgLine b i
+  arg-lettered i h k =
+      record {
+        no-bad = c .no-bad;
+        within = omega (arith, header-within);
+        lettered = rw (← (getD-lines 6 b i)) (arg-letter (lines 6 b) (ordered-lines 6 b (c .no-bad) (c .in-order)) i (omega (arith, c .names-are)) (omega (arith, c .names-are, c .args-are)) (omega (arith, length-lines 6 b, header-within)));
+      }
 
-  pub names-le : names ≤ count 6 b
-  names-le = omega (arith, c .names-are, count-of-le name-line (lines 6 b), length-lines 6 b)
+  pub type-lettered : (i : ℕ) → names + args ≤ i → i < names + args + types → letter (line 6 b i) ≡ type-line
+  type-lettered i h k =
+      rw (← (getD-lines 6 b i))
+      (type-letter (lines 6 b) (ordered-lines 6 b (c .no-bad) (c .in-order)) i (omega (arith, c .names-are, c .args-are)) (omega (arith, c .names-are, c .args-are, c .types-are)) (omega (arith, length-lines 6 b, header-within)))
 
-  pub args-le : args ≤ count 6 b
-  args-le = omega (arith, c .args-are, count-of-le arg-line (lines 6 b), length-lines 6 b)
+  -- ---- row 5's test
+  pub row5-name : (i : ℕ) → i < names → row5 (lines 6 b) i ≡ not (eqb (number (line 6 b i) 0) i)
+  unfolding row5 good-numbers
+  row5-name i h =
+      let e : letter (line 6 b i) ≡ name-line = name-lettered i h in
+      let l : i < length (lines 6 b) = omega (arith, length-lines 6 b, header-within) in
+      let k : count-before name-line (lines 6 b) i ≡ i = name-before (lines 6 b) (ordered-lines 6 b (c .no-bad) (c .in-order)) i l (rw (getD-lines 6 b i, e)) in
+      rw (getD-lines 6 b i, e, k)
 
-  -- the number of an N line, and of a Y line, among those of its letter
-  pub name-place : (i : ℕ) → i < count 6 b → letter (line 6 b i) ≡ name-line → count-before name-line (lines 6 b) i ≡ i
-  name-place i h e =
-      name-before (lines 6 b) (ordered-lines 6 b (c .no-bad) (c .in-order)) i (omega (arith, length-lines 6 b)) (rw (getD-lines 6 b i, e))
+  pub row5-arg : (i : ℕ) → names ≤ i → i < names + args → row5 (lines 6 b) i ≡ not (good-arg types (line 6 b i))
+  unfolding row5 good-numbers
+  row5-arg i h k = rw (getD-lines 6 b i, arg-lettered i h k .lettered, ← (c .types-are))
 
-  pub type-place : (i : ℕ) → i < count 6 b → letter (line 6 b i) ≡ type-line → count-before type-line (lines 6 b) i + (names + args) ≡ i
-  type-place i h e =
-      rw (c .names-are, c .args-are)
-      (type-before (lines 6 b) (ordered-lines 6 b (c .no-bad) (c .in-order)) i (omega (arith, length-lines 6 b)) (rw (getD-lines 6 b i, e)))
+  pub row5-type : (i : ℕ) → names + args ≤ i → i < names + args + types → row5 (lines 6 b) i ≡ not (good-type names (types-of (lines 6 b)) (i - (names + args)) (line 6 b i))
+  unfolding row5 good-numbers
+  row5-type i h k =
+      let e : letter (line 6 b i) ≡ type-line = type-lettered i h k in
+      let l : i < length (lines 6 b) = omega (arith, length-lines 6 b, header-within) in
+      let y : count-before type-line (lines 6 b) i ≡ i - (names + args) = omega (arith, c .names-are, c .args-are, type-before (lines 6 b) (ordered-lines 6 b (c .no-bad) (c .in-order)) i l (rw (getD-lines 6 b i, e))) in
+      rw (getD-lines 6 b i, e, y, ← (c .names-are))

@@ -39,15 +39,17 @@ pub fn check_rows(s: &[u8]) -> Checked
     if bad < n {
         return refused(2, bad);
     }
-    let misplaced = order::row3(s);
+    let front = runs::runs_of(s);
+    let misplaced = order::row3(s, front);
     if misplaced <= n {
         return refused(3, misplaced);
     }
-    let past = limits::row4(s);
+    let walked = counts::walk(s, front);
+    let past = walked.past;
     if past < n {
         return refused(4, past);
     }
-    let counts = limits::counts_of(s);
+    let counts = walked.counts;
     let names = counts.names;
     let args = counts.args;
     let types = counts.types;
@@ -55,11 +57,12 @@ pub fn check_rows(s: &[u8]) -> Checked
     if outside < n {
         return refused(5, outside);
     }
-    let repeated = distinct::row6(s, names);
+    let from = names + args + types;
+    let repeated = distinct::row6(s, names, from);
     if repeated < n {
         return refused(6, repeated);
     }
-    let wrong = verdicts::row7(s);
+    let wrong = verdicts::row7(s, from);
     if wrong < n {
         return refused(7, wrong);
     }

@@ -1,3 +1,4 @@
 pub mod Spellings
 pub mod SomeLaws
 pub mod SpellingsLaws
+pub mod Keys

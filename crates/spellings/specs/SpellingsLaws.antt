@@ -20,7 +20,7 @@ use Rattle.meaning.specs.Program.{name-line, is}
 use Rattle.meaning.specs.Rows.{some-below, line-at, count-of, count-before, equal}
 use Rattle.sheet.specs.FirstLaws.{none-first, first-none}
 use Rattle.order.specs.StepLaws.{count-before-step, count-before-le, count-before-mono}
-use Rattle.ranges.specs.OrderLaws.{Ordered, ordered-lines, name-before}
+use Rattle.header.specs.OrderLaws.{Ordered, ordered-lines, name-before}
 use Rattle.spellings.specs.Spellings.{Ranged, respelled, textAt, spelled-before}
 use Rattle.spellings.specs.SomeLaws.{some-congr, some-none}
 

@@ -25,8 +25,8 @@ fn spelled(t: &[u8]) -> usize
     i
 }
 
-// Whether spaces alone stand from a place on.
-fn blank(t: &[u8], from: usize) -> bool
+// Whether spaces alone stand from a place on, byte by byte.
+fn blank_rest(t: &[u8], from: usize) -> bool
     ensures { λ r. ⌜ r ≡ line.spaces (drop from (now (t .entry))) ⌝ }
 {
     let mut i = from;
@@ -35,6 +35,24 @@ fn blank(t: &[u8], from: usize) -> bool
             return false;
         }
         i += 1;
+    }
+    true
+}
+
+// The same, four bytes at a time.
+fn blank(t: &[u8], from: usize) -> bool
+    ensures { λ r. ⌜ r ≡ line.spaces (drop from (now (t .entry))) ⌝ }
+{
+    let n = t.len();
+    let mut i = from;
+    while i < n {
+        if n - i < 4 {
+            return blank_rest(t, i);
+        }
+        if !words::four_spaces(t[i], t[i + 1], t[i + 2], t[i + 3]) {
+            return false;
+        }
+        i += 4;
     }
     true
 }

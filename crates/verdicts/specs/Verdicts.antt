@@ -1,32 +1,13 @@
 -- Row 7 for one line, by the first line of its declaration and the kept fields before it. Assumes nothing.
-use mathlib.Core.Bool.{Bool, true, false, _&&_, _||_, not}
+use mathlib.Core.Bool.{Bool, true, _&&_, not}
 use Prim.Native.Nat.{ℕ, suc}
 use lib.Dec.{eqb, leb}
 use Rattle.columns.specs.Column.{pick, _⇒_∥_}
 use Rattle.sheet.specs.Line.{Line, number}
 use Rattle.meaning.specs.Program.{import-line, field-line, verdict-line, is, is-head}
 use Rattle.meaning.specs.Rows.{good-verdict}
-
--- a record, or a variant of one constructor, by body kind and last number
-abbrev pub one-ctor : ℕ → ℕ → Bool
-one-ctor kind last = eqb kind 2 || (eqb kind 3 && eqb last 1)
-
--- a record or a variant
-abbrev pub has-ctors : ℕ → Bool
-has-ctors kind = eqb kind 2 || eqb kind 3
-
--- an import's layout that is not erased
-abbrev pub good-layout : ℕ → ℕ → ℕ → ℕ → Bool
-good-layout layout kind last kept =
-    eqb layout 1 ⇒ one-ctor kind last && eqb kept 1 ∥
-    eqb layout 2 ⇒ has-ctors kind ∥
-    eqb layout 3 ⇒ eqb kind 1 ∥
-    eqb layout 4 ⇒ eqb kind 0 ∥
-    false
-
--- the V line of a local declaration
-abbrev pub no-verdict : Line → Bool
-no-verdict v = eqb (number v 0) 0 && eqb (number v 1) 0 && eqb (number v 2) 0
+use Rattle.verdict_lines.specs.VerdictLines.{no-verdict}
+use Rattle.verdicts.specs.declared.Decl.{Decl}
 
 -- the V line of the declaration that begins with h
 abbrev pub declared-verdict : Line → ℕ → Line → Bool
@@ -45,3 +26,7 @@ good-line h kept l =
 -- the kept fields, one line more
 abbrev pub kept-at : ℕ → Line → ℕ
 kept-at n l = pick (is-head l) 0 (pick (is field-line l && not (eqb (number l 2) 0)) (suc n) n)
+
+-- the declaration that line i is in, one line more
+abbrev pub decl-at : Decl → ℕ → Line → Decl
+decl-at d i l = record { head = pick (is-head l) i (d .head); kept = kept-at (d .kept) l }

@@ -2,34 +2,27 @@
 -- Assumes nothing.
 use mathlib.Core.Path.{_≡_, refl, sym, ap, _∙_}
 use mathlib.Core.List.{List, [], _∷_, _++_}
-use mathlib.Core.Bool.{Bool, true, false, _&&_, _||_, not}
-use Prim.Native.Nat.{ℕ, suc, _+_, _≤_, _<_}
+use mathlib.Core.Logic.{_⊎_, inl, inr}
+use mathlib.Core.Bool.{Bool, true, false, _&&_, not}
+use Prim.Native.Nat.{ℕ, zero, suc, _+_, _≤_, _<_}
 use native.Mathlib.Numerals.{add-one}
 use native.Mathlib.Omega.{arith}
 use lib.Dec.{eqb}
 use lib.ListN.{take}
 use lib.Seq.{take-suc}
-use borrow.Author.Tests.{eq-eqb, ne-eqb, eqb-false}
+use borrow.Author.Tests.{ne-eqb, eqb-true}
 use Rattle.columns.specs.Column.{pick, _⇒_∥_}
-use Rattle.sheet.specs.Line.{Line, bad, number}
-use Rattle.sheet.specs.Sheet.{count, line, lines}
+use Rattle.sheet.specs.Line.{Line, bad, letter, number}
+use Rattle.sheet.specs.Sheet.{first, count, line, lines}
+use Rattle.sheet.specs.FirstLaws.{first-none}
 use Rattle.sheet.specs.SheetLaws.{length-lines, getD-lines, line-past}
-use Rattle.meaning.specs.Program.{import-line, field-line, verdict-line, is, is-head}
+use Rattle.meaning.specs.Program.{name-line, arg-line, type-line, import-line, field-line, verdict-line, is, is-head}
 use Rattle.meaning.specs.Rows.{last-head, kept-after, good-verdicts, row7}
-use Rattle.verdicts.specs.Verdicts.{has-ctors, good-line, kept-at}
+use Rattle.header.specs.Header.{Headed}
+use Rattle.header.specs.OrderLaws.{from-le, before-from}
+use Rattle.verdicts.specs.declared.Decl.{Decl}
+use Rattle.verdicts.specs.Verdicts.{good-line, kept-at, decl-at}
 use Rattle.meaning.specs.Laws.Rows.{last-head-append, kept-after-append}
-
--- ---- body kinds
-pub ctors-within : (k : ℕ) → 2 ≤ k → k < 4 → has-ctors k ≡ true
-ctors-within k h l = go (eqb k 2) refl
-  where
-    go : (b : Bool) → eqb k 2 ≡ b → (b || eqb k 3) ≡ true
-    go true e = refl
-    go false e = eq-eqb k 3 (omega (arith, eqb-false k 2 e))
-
--- neither below nor above
-pub ctors-outside : (k : ℕ) → (k ≡ 2 → ⊥) → (k ≡ 3 → ⊥) → has-ctors k ≡ false
-ctors-outside k e f = rw (ne-eqb k 2 e, ne-eqb k 3 f)
 
 -- ---- one line more
 last-head-snoc : (h : Line) (ls : List Line) (l : Line) → last-head h (ls ++ (l ∷ [])) ≡ pick (is-head l) l (last-head h ls)
@@ -88,3 +81,69 @@ module _ (w : ℕ) (b : List ℕ) (i : ℕ) (q : i < count w b) where
       go false true true x y z = refl
       go false true false x y z = refl
       go false false m x y z = refl
+
+-- a V line leaves the kept fields as they are, and a field's keep number is looked at alone
+kept-same : (h : Line) (n : ℕ) (l : Line) → good-line h n l ≡ good-line h (kept-at n l) l
+kept-same h n l = go (is field-line l) refl (is verdict-line l) refl
+  where
+    go : (a : Bool) → is field-line l ≡ a → (v : Bool) → is verdict-line l ≡ v → good-line h n l ≡ good-line h (kept-at n l) l
+    go true e v f = rw e
+    go false e true f = rw (eqb-true (letter l) verdict-line f)
+    go false e false f = rw (e, f)
+
+-- ---- the declaration that a line is in
+-- d is the declaration that line i - 1 is in
+abbrev pub In : List ℕ → ℕ → Decl → Type 0
+In b i d = (d .kept ≤ i) × (last-head bad (take i (lines 6 b)) ≡ line 6 b (d .head)) × (d .kept ≡ kept-after 0 (take i (lines 6 b)))
+
+module _ (b : List ℕ) (i : ℕ) (q : i < count 6 b) (d e : Decl) (s : In b i d) (f : e ≡ decl-at d i (line 6 b i)) where
+  pub in-next : In b (i + 1) e
+  in-next =
+      let k : e .kept ≡ kept-at (d .kept) (line 6 b i) = ap (λ (x : Decl). x .kept) f in (
+        omega (arith, kept-at-le (d .kept) (line 6 b i), s .0),
+        head-more 6 b i q (d .head) (e .head) (s .1) (ap (λ (x : Decl). x .head) f),
+        kept-more 6 b i q (d .kept) (e .kept) (s .2) k,
+      )
+
+  pub in-test : row7 (lines 6 b) i ≡ not (good-line (line 6 b (e .head)) (e .kept) (line 6 b i))
+  in-test =
+      row7-line 6 b i q (e .head) (d .kept) (in-next .1) (s .2)
+      ∙ ap not (kept-same (line 6 b (e .head)) (d .kept) (line 6 b i) ∙ ap (λ (x : Decl). good-line (line 6 b (e .head)) (x .kept) (line 6 b i)) (sym f))
+
+-- a line of the header is in no declaration, and passes
+header-decl : (d : Decl) (i : ℕ) (l : Line) → (letter l ≡ name-line) ⊎ ((letter l ≡ arg-line) ⊎ (letter l ≡ type-line)) → d ≡ decl-at d i l
+header-decl d i l (inl e) = rw e
+header-decl d i l (inr (inl e)) = rw e
+header-decl d i l (inr (inr e)) = rw e
+
+header-good : (h : Line) (n : ℕ) (l : Line) → (letter l ≡ name-line) ⊎ ((letter l ≡ arg-line) ⊎ (letter l ≡ type-line)) → good-line h n l ≡ true
+header-good h n l (inl e) = rw e
+header-good h n l (inr (inl e)) = rw e
+header-good h n l (inr (inr e)) = rw e
+
+module _ (b : List ℕ) (from : ℕ) (h : Headed b from) (d : Decl) (n : d .head ≡ count 6 b) (z : d .kept ≡ 0) where
+  pub in-header : (i : ℕ) → i ≤ from → In b i d
+  in-header zero k = (omega arith, rw n (head-none 6 b), rw z (kept-none 6 b))
+  in-header (suc i) k =
+      let q : i < count 6 b = omega (arith, from-le b from h) in
+      rw (← (add-one i)) (in-next b i q d d (in-header i (omega arith)) (header-decl d i (line 6 b i) (before-from b from h i k)))
+
+  pub header-passes : first (row7 (lines 6 b)) from ≡ from
+  header-passes = first-none (row7 (lines 6 b)) from (λ i k.
+      let q : i < count 6 b = omega (arith, from-le b from h) in
+      in-test b i q d d (in-header i (omega arith)) (header-decl d i (line 6 b i) (before-from b from h i k)) ∙ ap not (header-good (line 6 b (d .head)) (d .kept) (line 6 b i) (before-from b from h i k)))
+
+-- ---- one line, by its letter
+module _ (d : Decl) (i : ℕ) (l : Line) (x : ℕ) (e : x ≡ letter l) where
+  pub decl-head : (x ≡ 68) ⊎ (x ≡ 73) → record { head = i; kept = 0 } ≡ decl-at d i l
+  decl-head (inl y) = rw (← e, y)
+  decl-head (inr y) = rw (← e, y)
+
+  pub decl-dropped : x ≡ 70 → (k : ℕ) → k ≡ number l 2 → k ≡ 0 → d ≡ decl-at d i l
+  decl-dropped y k m z = rw (← e, y, ← m, z)
+
+  pub decl-kept : x ≡ 70 → (k : ℕ) → k ≡ number l 2 → (k ≡ 0 → ⊥) → record { head = d .head; kept = d .kept + 1 } ≡ decl-at d i l
+  decl-kept y k m z = rw (← e, y, ← m, ne-eqb k 0 z, add-one (d .kept))
+
+  pub decl-other : ((x ≡ 68) ⊎ (x ≡ 73) → ⊥) → (x ≡ 70 → ⊥) → d ≡ decl-at d i l
+  decl-other a f = rw (← e, ne-eqb x 68 (λ y. a (inl y)), ne-eqb x 73 (λ y. a (inr y)), ne-eqb x 70 f)

@@ -3,12 +3,12 @@
 use mathlib.Core.Path.{_≡_, refl, _∙_, ap, subst}
 use mathlib.Core.List.{List, [], _∷_, _++_, append-assoc}
 use mathlib.Core.Bool.{Bool, true, false}
-use Prim.Native.Nat.{ℕ, suc, _+_, _*_, _-_, _/_, _%_, _<_}
+use Prim.Native.Nat.{ℕ, zero, suc, _+_, _*_, _-_, _/_, _%_, _<_}
 use native.Mathlib.Omega.{arith}
 use native.Mathlib.Numerals.{add-one}
 use lib.Dec.{eqb}
 use lib.ListN.{length, take, getD}
-use lib.Seq.{take-suc, getD-append-seam, getD-append-add}
+use lib.Seq.{take-suc, take-length, getD-append-seam, getD-append-add}
 use borrow.Author.Tests.{eqb-true}
 use Rattle.columns.specs.declared.Scan.{Scan}
 use Rattle.columns.specs.declared.Scan.the-variants.{Blank, Zero, In, Broken}
@@ -108,3 +108,63 @@ weigh-append v (c ∷ s) b = weigh-append (v * 10 + c % 16) s b
 
 pub weigh-more : (s : List ℕ) (i : ℕ) → i < length s → weigh 0 (take (i + 1) s) ≡ weigh 0 (take i s) * 10 + getD s i 0 % 16
 weigh-more s i h = rw (add-one, take-suc s i 0) (weigh-append 0 (take i s) (getD s i 0))
+
+-- ---- for a number of few digits
+-- a space after a digit breaks the columns
+space-breaks : (s : List ℕ) (a : Scan) (i n : ℕ) → (a ≡ Blank → ⊥) → i < length s → getD s i 0 ≡ 32 → told (scan a s) ≡ Value n → ⊥
+unfolding scan step
+space-breaks [] a i n h l e t = omega arith
+space-breaks (b ∷ s) Blank i n h l e t = h refl
+space-breaks (b ∷ s) Zero i n h l e t = broken s n t
+space-breaks (b ∷ s) (In v) zero n h l e t = broken s n (rw e at t)
+space-breaks (b ∷ s) (In v) (suc i) n h l e t = go (digit b) t (λ k. space-breaks s (In (v * 10 + (b - 48))) i n (λ q. let z : _≡_ {A = ℕ} 0 1 = cc in omega arith) (omega arith) e k)
+  where
+    go : (c : Bool) → told (scan (pick c (In (v * 10 + (b - 48))) Broken) s) ≡ Value n → (told (scan (In (v * 10 + (b - 48))) s) ≡ Value n → ⊥) → ⊥
+    go true k f = f k
+    go false k f = broken s n k
+space-breaks (b ∷ s) Broken i n h l e t = broken s n t
+
+-- Of columns that hold a number, what stands up to a space weighs nothing.
+up-to-space : (s : List ℕ) (i n : ℕ) → i < length s → getD s i 0 ≡ 32 → told (scan Blank s) ≡ Value n → weigh 0 (take (suc i) s) ≡ 0
+unfolding scan step weigh
+up-to-space [] i n l e t = absurd (omega arith)
+up-to-space (b ∷ s) zero n l e t = rw e
+up-to-space (b ∷ s) (suc i) n l e t = go (eqb b 32) refl t (λ k. up-to-space s i n (omega arith) e k)
+  where
+    other : (c d : Bool) → told (scan (pick c Zero (pick d (In (b - 48)) Broken)) s) ≡ Value n → ⊥
+    other true d k = space-breaks s Zero i n (λ q. let z : _≡_ {A = ℕ} 0 1 = cc in omega arith) (omega arith) e k
+    other false true k = space-breaks s (In (b - 48)) i n (λ q. let z : _≡_ {A = ℕ} 0 1 = cc in omega arith) (omega arith) e k
+    other false false k = broken s n k
+
+    go : (c : Bool) → eqb b 32 ≡ c → told (scan (pick c Blank (pick (eqb b 48) Zero (pick (digit b) (In (b - 48)) Broken))) s) ≡ Value n
+        → (told (scan Blank s) ≡ Value n → weigh 0 (take (suc i) s) ≡ 0) → weigh 0 (take (suc (suc i)) (b ∷ s)) ≡ 0
+    go true q k f = rw (eqb-true b 32 q) (f k)
+    go false q k f = absurd (other (eqb b 48) (digit b) k)
+
+-- so the columns after it weigh the number
+module _ (s : List ℕ) (n : ℕ) (r : read s ≡ Value n) where
+  pub blank-to : (i : ℕ) → i < length s → getD s i 0 ≡ 32 → weigh 0 (take (i + 1) s) ≡ 0
+  unfolding read
+  blank-to i l e = rw (add-one i) (up-to-space s i n l e r)
+
+module _ (s : List ℕ) (i : ℕ) (h : weigh 0 (take (i + 1) s) ≡ 0) where
+  pub one-more : i + 2 ≡ length s → weigh 0 s ≡ getD s (i + 1) 0 % 16
+  one-more l =
+      let e : i + 1 + 1 ≡ length s = omega arith in
+      let k : weigh 0 s ≡ weigh 0 (take (i + 1 + 1) s) = rw (e, take-length) in
+      k ∙ weigh-more s (i + 1) (omega arith) ∙ rw h (omega arith)
+
+  pub two-more : i + 3 ≡ length s → weigh 0 s ≡ getD s (i + 1) 0 % 16 * 10 + getD s (i + 2) 0 % 16
+  two-more l =
+      let e : i + 1 + 1 + 1 ≡ length s = omega arith in
+      let f : i + 1 + 1 ≡ i + 2 = omega arith in
+      let k : weigh 0 s ≡ weigh 0 (take (i + 1 + 1 + 1) s) = rw (e, take-length) in
+      k ∙ weigh-more s (i + 1 + 1) (omega arith) ∙ rw (weigh-more s (i + 1) (omega arith), h, f) (omega arith)
+
+  pub three-more : i + 4 ≡ length s → weigh 0 s ≡ getD s (i + 1) 0 % 16 * 100 + (getD s (i + 2) 0 % 16 * 10 + getD s (i + 3) 0 % 16)
+  three-more l =
+      let e : i + 1 + 1 + 1 + 1 ≡ length s = omega arith in
+      let f : i + 1 + 1 ≡ i + 2 = omega arith in
+      let g : i + 2 + 1 ≡ i + 3 = omega arith in
+      let k : weigh 0 s ≡ weigh 0 (take (i + 1 + 1 + 1 + 1) s) = rw (e, take-length) in
+      k ∙ weigh-more s (i + 1 + 1 + 1) (omega arith) ∙ rw (weigh-more s (i + 1 + 1) (omega arith), weigh-more s (i + 1) (omega arith), h, f, g) (omega arith)

@@ -1,55 +1,76 @@
--- `ranges::row5` meets its contract: every line passed is as it should be. Assumes nothing.
-use mathlib.Core.Path.{_≡_, refl, sym, ap, _∙_}
-use mathlib.Core.Bool.{not}
-use Prim.Native.Nat.{_≤_, _-_, _/_}
+-- `ranges::row5` meets its contract: its place is in the first section that has one. Assumes nothing.
+use Prim.Native.Nat.{_+_, _/_, _≤_}
 use native.Mathlib.Omega.{arith}
 use lib.ListN.{length}
 use borrow.Author.Needs.{needs}
-use Rattle.sheet.specs.Sheet.{first, lines}
-use Rattle.sheet.specs.FirstLaws.{first-more, first-found}
+use Rattle.sheet.specs.Sheet.{lines}
 use Rattle.meaning.specs.Rows.{row5}
+use Rattle.ranges.specs.RangesLaws.{first-earlier, first-past, header-within}
 use Rattle.ranges.proofs.row5.Statement.{statement}
 use Rattle.ranges.proofs.row5.Tie as tie
 
-abbrev Inv-loop : tie.InvT-loop
-Inv-loop s names args types n i₀ i = (i ≤ n) × (first (row5 (lines 6 s)) i ≡ i)
+-- the sections are within the sheet
+within : (c : tie.After-names-good) → c .before .before .args .names + c .before .before .args .args + c .before .before .args .types ≤ length (c .before .before .args .s .now) / 32
+within c = let a = c .before .before .args in header-within (a .s .now) (a .names) (a .args) (a .types) (c .before .before .pre)
 
-abbrev μ-loop : tie.MeasureT-loop
-μ-loop s names args types n i₀ i = n - i
-
-loop-holds : tie.Need-loop-holds Inv-loop μ-loop
-unfolding first
-loop-holds c = (omega arith, refl)
-
-returns : tie.Need-returns Inv-loop μ-loop
-unfolding row5
+returns : tie.Need-returns
 returns c =
-    let a = c .before .before .before .before .before .args in
-    let o = c .before .before .before .loop in
-    sym (first-found (row5 (lines 6 (a .s .now))) (length (a .s .now) / 32) (o .i) (omega arith) (o .inv .1) (ap not (sym (c .before .good-numbers .ensures)) ∙ c .if1 .taken))
+    let a = c .before .before .before .args in
+    let r = c .before .names-good in
+    first-earlier (row5 (lines 6 (a .s .now))) (a .names) (length (a .s .now) / 32) (r .result) (r .ensures) (omega (arith, within (c .before))) (c .if1 .taken)
 
-loop-again : tie.Need-loop-again Inv-loop μ-loop
-unfolding row5
-loop-again c =
-    let a = c .before .before .before .before .before .args in
-    let o = c .before .before .before .loop in
-    (omega arith, first-more (row5 (lines 6 (a .s .now))) (o .i) (o .inv .1) (ap not (sym (c .before .good-numbers .ensures)) ∙ c .if1 .left))
+args-good-requires : tie.Need-args-good-requires
+args-good-requires c κs =
+    let a = c .before .before .before .args in
+    let r = c .before .names-good in
+    (c .before .before .before .pre, first-past (row5 (lines 6 (a .s .now))) (a .names) (r .result) (r .ensures) (c .if1 .left))
 
-returns-2 : tie.Need-returns-2 Inv-loop μ-loop
+add-if2 : tie.Need-add-if2
+add-if2 c = omega (arith, within (c .before .before))
+
+returns-2 : tie.Need-returns-2
 returns-2 c =
-    let e : c .before .loop .i ≡ length (c .before .before .before .args .s .now) / 32 = omega arith in
-    sym (rw e at (c .before .loop .inv .1))
+    let n = c .before .before .before in
+    let a = n .before .before .args in
+    let r = c .before .args-good in
+    first-earlier (row5 (lines 6 (a .s .now))) (a .names + a .args) (length (a .s .now) / 32) (r .result) (r .ensures) (omega (arith, within n)) (c .if2 .taken)
+
+types-good-requires : tie.Need-types-good-requires
+types-good-requires c κs =
+    let n = c .before .before .before in
+    let a = n .before .before .args in
+    let r = c .before .args-good in
+    (n .before .before .pre, first-past (row5 (lines 6 (a .s .now))) (a .names + a .args) (r .result) (r .ensures) (c .if2 .left))
+
+add-if3-2 : tie.Need-add-if3-2
+add-if3-2 c = omega (arith, within (c .before .before .before .before))
+
+returns-3 : tie.Need-returns-3
+returns-3 c =
+    let n = c .before .before .before .before .before in
+    let a = n .before .before .args in
+    let r = c .before .types-good in
+    first-earlier (row5 (lines 6 (a .s .now))) (a .names + a .args + a .types) (length (a .s .now) / 32) (r .result) (r .ensures) (omega (arith, within n)) (c .if3 .taken)
+
+parts-good-requires : tie.Need-parts-good-requires
+parts-good-requires c κs =
+    let n = c .before .before .before .before .before in
+    let a = n .before .before .args in
+    let r = c .before .types-good in
+    (n .before .before .pre, first-past (row5 (lines 6 (a .s .now))) (a .names + a .args + a .types) (r .result) (r .ensures) (c .if3 .left))
 
 pub row5-spec : {M : Type 1} → statement M
 row5-spec =
     tie.close
     (tie.spec
-    Inv-loop
-    μ-loop
-    loop-holds
     (λ c κs. search needs)
     returns
+    args-good-requires
+    add-if2
+    returns-2
+    types-good-requires
     (λ c. search needs)
-    (λ c. search needs)
-    loop-again
-    returns-2)
+    add-if3-2
+    returns-3
+    parts-good-requires
+    (λ c. search needs))

@@ -1,37 +1,41 @@
 -- `texts::blank` meets its contract: the bytes passed are spaces. Assumes nothing.
 use mathlib.Core.Path.{_≡_, _∙_, refl, sym}
 use Prim.Native.Nat.{_-_}
-use native.Mathlib.Numerals.{add-one}
 use native.Mathlib.Omega.{arith}
-use lib.ListN.{length, getD, drop, drop-of-length-le}
+use lib.ListN.{length, drop, drop-of-length-le}
 use borrow.Author.Needs.{needs}
-use borrow.Author.Tests.{eq-eqb, ne-eqb}
+use borrow.Author.Tests.{not-true, not-false}
 use Rattle.sheet.specs.Line.{spaces}
-use Rattle.texts.specs.TextLaws.{spaces-here}
+use Rattle.texts.specs.TextLaws.{spaces-past, spaces-not}
 use Rattle.texts.proofs.blank.Statement.{statement}
 use Rattle.texts.proofs.blank.Tie as tie
 
 abbrev Inv-loop : tie.InvT-loop
-Inv-loop t from i₀ i = spaces (drop from t) ≡ spaces (drop i t)
+Inv-loop t from n i₀ i = spaces (drop from t) ≡ spaces (drop i t)
 
 abbrev μ-loop : tie.MeasureT-loop
-μ-loop t from i₀ i = length t - i
+μ-loop t from n i₀ i = n - i
 
 returns : tie.Need-returns Inv-loop μ-loop
-returns c =
-    let i = c .before .before .before .loop .i in
-    let t = c .before .before .before .before .args .t .now in
-    sym (c .before .before .before .loop .inv ∙ spaces-here t i (omega arith) ∙ rw (ne-eqb (getD t i 0) 32 (c .if1 .taken)))
+returns c = c .blank-rest .ensures ∙ sym (c .before .before .before .loop .inv)
+
+returns-2 : tie.Need-returns-2 Inv-loop μ-loop
+returns-2 c =
+    let f = c .before .four-spaces in
+    let l = c .before .before .before .before .before .before .before .before .loop in
+    let t = c .before .before .before .before .before .before .before .before .before .before .args .t .now in
+    sym (l .inv ∙ spaces-not t (l .i) (omega arith) (f .result) (f .ensures) (not-true (f .result) (c .if2 .taken)))
 
 loop-again : tie.Need-loop-again Inv-loop μ-loop
 loop-again c =
-    let i = c .before .before .before .loop .i in
-    let t = c .before .before .before .before .args .t .now in
-    c .before .before .before .loop .inv ∙ spaces-here t i (omega arith) ∙ rw (eq-eqb (getD t i 0) 32 (c .if1 .left), add-one)
+    let f = c .before .four-spaces in
+    let l = c .before .before .before .before .before .before .before .before .loop in
+    let t = c .before .before .before .before .before .before .before .before .before .before .args .t .now in
+    l .inv ∙ sym (spaces-past t (l .i) (omega arith) (f .result) (f .ensures) (not-false (f .result) (c .if2 .left)))
 
-returns-2 : tie.Need-returns-2 Inv-loop μ-loop
+returns-3 : tie.Need-returns-3 Inv-loop μ-loop
 unfolding spaces
-returns-2 c = sym (c .before .loop .inv ∙ rw (drop-of-length-le _ {i = c .before .loop .i} (c .loop-test .left)))
+returns-3 c = sym (c .before .loop .inv ∙ rw (drop-of-length-le _ {i = c .before .loop .i} (c .loop-test .left)))
 
 pub blank-spec : {M : Type 1} → statement M
 blank-spec =
@@ -41,8 +45,18 @@ blank-spec =
     μ-loop
     (λ c. refl)
     (λ c. search needs)
+    (λ c κs. search needs)
     returns
     (λ c. search needs)
     (λ c. search needs)
+    (λ c. search needs)
+    (λ c. search needs)
+    (λ c. search needs)
+    (λ c. search needs)
+    (λ c. search needs)
+    (λ c κs. search needs)
+    returns-2
+    (λ c. search needs)
+    (λ c. search needs)
     loop-again
-    returns-2)
+    returns-3)

@@ -1,0 +1,2 @@
+pub mod DeclLines
+pub mod DeclLinesLaws

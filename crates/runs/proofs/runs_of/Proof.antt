@@ -1,0 +1,30 @@
+-- `runs::runs_of` meets its contract, run by run. Assumes nothing.
+use mathlib.Core.Path.{_≡_, sym, _∙_}
+use Prim.Native.Nat.{_≤_}
+use native.Mathlib.Omega.{arith}
+use borrow.Author.Needs.{needs}
+use Rattle.sheet.specs.Sheet.{count, lines}
+use Rattle.sheet.specs.SheetLaws.{length-lines}
+use Rattle.meaning.specs.Program.{name-line, arg-line}
+use Rattle.runs.specs.Runs.{run-end, runs-of}
+use Rattle.runs.specs.RunsLaws.{run-le}
+use Rattle.runs.proofs.runs_of.Statement.{statement}
+use Rattle.runs.proofs.runs_of.Tie as tie
+
+run-end-requires-2 : tie.Need-run-end-requires-2
+run-end-requires-2 c κs =
+    let s = c .before .before .args .s .now in
+    (c .before .before .pre, omega (arith, c .run-end .ensures, run-le name-line (lines 6 s) 0, length-lines 6 s))
+
+run-end-requires-3 : tie.Need-run-end-requires-3
+run-end-requires-3 c κs =
+    let a = c .before .before .before in
+    let s = a .args .s .now in
+    (a .pre, omega (arith, c .run-end2 .ensures, run-le arg-line (lines 6 s) (c .before .run-end .result), length-lines 6 s))
+
+returns : tie.Need-returns
+unfolding runs-of
+returns c = rw (c .run-end3 .ensures, c .before .run-end2 .ensures, c .before .before .run-end .ensures)
+
+pub runs-of-spec : {M : Type 1} → statement M
+runs-of-spec = tie.close (tie.spec (λ c κs. search needs) run-end-requires-2 run-end-requires-3 returns)

@@ -1,0 +1,2 @@
+pub mod VerdictLines
+pub mod VerdictLinesLaws
