@@ -129,6 +129,9 @@ module _ (ls : List Line) where
     inside : d < heads-before ls (length ls)
     inside = rw all-heads h
 
+    pub line-inside : start ls d < length ls
+    line-inside = start-within ls d inside
+
     pub line-of-head : is-head (line-at ls (start ls d)) ≡ true
     line-of-head = start-head ls d inside
 

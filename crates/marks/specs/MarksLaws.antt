@@ -85,11 +85,11 @@ pub bit-one : (v : Bool) → eqb (bit v) 1 ≡ v
 bit-one true = refl
 bit-one false = refl
 
-bit-zero : (x : ℕ) (v : Bool) → x ≡ bit v → x ≡ 0 → v ≡ false
+pub bit-zero : (x : ℕ) (v : Bool) → x ≡ bit v → x ≡ 0 → v ≡ false
 bit-zero x true e z = absurd (omega arith)
 bit-zero x false e z = refl
 
-bit-set : (x : ℕ) (v : Bool) → x ≡ bit v → (x ≡ 0 → ⊥) → v ≡ true
+pub bit-set : (x : ℕ) (v : Bool) → x ≡ bit v → (x ≡ 0 → ⊥) → v ≡ true
 bit-set x true e z = refl
 bit-set x false e z = absurd (z e)
 
