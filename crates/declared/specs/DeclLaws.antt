@@ -75,7 +75,7 @@ use Rattle.refusals.specs.Rows.{Passed}
 use Rattle.tables.specs.Tables.{nth, no-group, group, head-line, decls-of, first-of}
 
 -- ---- the lines up to a declaration
-take-before : (p : Line → Bool) (ls : List Line) → take (length (before p ls)) ls ≡ before p ls
+pub take-before : (p : Line → Bool) (ls : List Line) → take (length (before p ls)) ls ≡ before p ls
 take-before p ls = ap (take (length (before p ls))) (sym (before-flat p ls)) ∙ take-at (before p ls) (flat (groups p ls)) (length (before p ls)) refl
 
 heads-append : (a c : List Line) → heads (a ++ c) ≡ heads a + heads c
@@ -247,7 +247,7 @@ module _ (b : List ℕ) (p : Passed b) where
       (ends-prefix (before is-head ls) (flat (groups is-head ls)) (starts-flat is-head (groups is-head ls) (grouped is-head ls)) (rw (before-flat is-head ls) ends-lines))
 
   -- the lines of other letters all stand in declarations
-  none-in-header : (x : ℕ) → eqb 78 x ≡ false → eqb 65 x ≡ false → eqb 89 x ≡ false → (hs : List Line) → Every (λ l. is-header-line l ≡ true) hs → count-of x hs ≡ 0
+  pub none-in-header : (x : ℕ) → eqb 78 x ≡ false → eqb 65 x ≡ false → eqb 89 x ≡ false → (hs : List Line) → Every (λ l. is-header-line l ≡ true) hs → count-of x hs ≡ 0
   unfolding select
   none-in-header x u v w [] h = refl
   none-in-header x u v w (l ∷ hs) h = rw (no-letter l (h .0)) (none-in-header x u v w hs (h .1))
