@@ -1,0 +1,168 @@
+-- Laws of sets as bits in words. Assumes nothing.
+use mathlib.Core.Path.{_≡_, refl, ap, ap₂, sym, _∙_}
+use mathlib.Core.Logic.{_≢_}
+use mathlib.Core.List.{List}
+use mathlib.Core.Bool.{Bool, true, false, _||_}
+use Prim.Native.Nat.{ℕ, zero, suc, _+_, _*_, _/_, _%_, _^_, _≤_, _<_, _-_, min, max}
+use native.Mathlib.Nat.{mod-lt, mod-eq-of-lt, div-eq-of-lt, mul-mod-left, pow-suc, div-self}
+use native.Mathlib.Omega.{arith}
+use native.Mathlib.Decide.{ℕ-discrete, decLt}
+use lib.Arith.{digits-mod, lt-of-le-ne}
+use lib.Bits.{bitAnd, bitOr, bitXor, differ, and-shr, or-shr, xor-shr, and-step, or-step, xor-step}
+use lib.Dec.{eqb}
+use lib.ListN.{length, getD, set, length-set}
+use lib.Pow.{pow-pos, pow-lt, shl-shr, pow-add}
+use lib.Seq.{getD-set-same, getD-set-other}
+use borrow.Author.Tests.{eq-eqb, ne-eqb, eqb-true}
+use Rattle.bits.specs.Bits.{digit, has, inserted, cleared, united}
+
+-- ---- bits of a word
+digit-lt : (x k : ℕ) → digit x k < 2
+digit-lt x k = mod-lt (x / 2 ^ k) (omega arith)
+
+differ-lt : (x y : ℕ) → x < 2 → y < 2 → differ x y < 2
+differ-lt zero y h k = k
+differ-lt (suc x) zero h k = h
+differ-lt (suc x) (suc y) h k = differ-lt x y (omega arith) (omega arith)
+
+pub digit-or : (x y k : ℕ) → digit (bitOr x y) k ≡ max (digit x k) (digit y k)
+digit-or x y k =
+    ap (λ (n : ℕ). n % 2) (or-shr x y k ∙ or-step (x / 2 ^ k) (y / 2 ^ k))
+    ∙ digits-mod (bitOr (x / 2 ^ k / 2) (y / 2 ^ k / 2)) (omega (arith, digit-lt x k, digit-lt y k))
+
+pub digit-and : (x y k : ℕ) → digit (bitAnd x y) k ≡ min (digit x k) (digit y k)
+digit-and x y k =
+    ap (λ (n : ℕ). n % 2) (and-shr x y k ∙ and-step (x / 2 ^ k) (y / 2 ^ k))
+    ∙ digits-mod (bitAnd (x / 2 ^ k / 2) (y / 2 ^ k / 2)) (omega (arith, digit-lt x k, digit-lt y k))
+
+pub digit-xor : (x y k : ℕ) → digit (bitXor x y) k ≡ differ (digit x k) (digit y k)
+digit-xor x y k =
+    ap (λ (n : ℕ). n % 2) (xor-shr x y k ∙ xor-step (x / 2 ^ k) (y / 2 ^ k))
+    ∙ digits-mod (bitXor (x / 2 ^ k / 2) (y / 2 ^ k / 2)) (differ-lt (digit x k) (digit y k) (digit-lt x k) (digit-lt y k))
+
+-- a power of two has one bit
+pub digit-same : (k : ℕ) → digit (2 ^ k) k ≡ 1
+digit-same k = ap (λ (n : ℕ). n % 2) (div-self (pow-pos k))
+
+digit-below : (d j : ℕ) → digit (2 ^ (suc d + j)) j ≡ 0
+digit-below d j =
+    ap (λ (n : ℕ). n / 2 ^ j % 2) (pow-add 2 (suc d) j) ∙ ap (λ (n : ℕ). n % 2) (shl-shr (2 ^ suc d) j) ∙ ap (λ (n : ℕ). n % 2) (pow-suc 2 d) ∙ mul-mod-left (2 ^ d) 2
+
+pub digit-other : (k j : ℕ) → j ≢ k → digit (2 ^ k) j ≡ 0
+digit-other k j n = go (decLt j k)
+  where
+    go : Dec (j < k) → digit (2 ^ k) j ≡ 0
+    go (yes h) = let e : suc (k - suc j) + j ≡ k = omega arith in rw e at (digit-below (k - suc j) j)
+    go (no h) = ap (λ (x : ℕ). x % 2) (div-eq-of-lt (pow-lt (omega arith)))
+
+max-zero-of : (x y : ℕ) → y ≡ 0 → max x y ≡ x
+max-zero-of x y e = omega arith
+
+-- a bit of the or is set where one of the two bits is
+or-one : (x y : ℕ) → x < 2 → y < 2 → eqb (max x y) 1 ≡ (eqb x 1 || eqb y 1)
+or-one zero zero h k = refl
+or-one zero (suc zero) h k = refl
+or-one zero (suc (suc y)) h k = absurd (omega arith)
+or-one (suc zero) zero h k = refl
+or-one (suc zero) (suc zero) h k = refl
+or-one (suc zero) (suc (suc y)) h k = absurd (omega arith)
+or-one (suc (suc x)) y h k = absurd (omega arith)
+
+-- ---- one member more
+module _ (s : List ℕ) (at m : ℕ) (h : at + m / 64 < length s) where
+  pub length-inserted : length (inserted s at m) ≡ length s
+  unfolding inserted
+  length-inserted = length-set s (at + m / 64) _
+
+  -- a word that m is not in
+  pub inserted-far : (j : ℕ) → j ≢ at + m / 64 → getD (inserted s at m) j 0 ≡ getD s j 0
+  unfolding inserted
+  inserted-far j n = getD-set-other s (at + m / 64) j _ 0 n
+
+  inserted-word : getD (inserted s at m) (at + m / 64) 0 ≡ bitOr (getD s (at + m / 64) 0) (2 ^ (m % 64))
+  unfolding inserted
+  inserted-word = getD-set-same s (at + m / 64) _ 0 h
+
+  -- the member that was put in
+  pub inserted-same : has (inserted s at m) at m ≡ true
+  unfolding has
+  inserted-same =
+      eq-eqb _ _ (ap (λ (x : ℕ). digit x (m % 64)) inserted-word ∙ digit-or (getD s (at + m / 64) 0) (2 ^ (m % 64)) (m % 64) ∙ omega (arith, digit-same (m % 64), digit-lt (getD s (at + m / 64) 0) (m % 64)))
+
+  -- and any other
+  pub inserted-other : (i : ℕ) → i ≢ m → has (inserted s at m) at i ≡ has s at i
+  unfolding has
+  inserted-other i n = go (ℕ-discrete (i / 64) (m / 64))
+    where
+      go : Dec (i / 64 ≡ m / 64) → has (inserted s at m) at i ≡ has s at i
+      go (no w) = ap (λ (x : ℕ). eqb (digit x (i % 64)) 1) (inserted-far (at + i / 64) (λ e. w (omega arith)))
+      go (yes w) =
+          ap (λ (x : ℕ). eqb (digit (getD (inserted s at m) (at + x) 0) (i % 64)) 1) w
+          ∙ ap (λ (x : ℕ). eqb (digit x (i % 64)) 1) inserted-word
+          ∙ ap (λ (x : ℕ). eqb x 1) (digit-or (getD s (at + m / 64) 0) (2 ^ (m % 64)) (i % 64) ∙ max-zero-of (digit (getD s (at + m / 64) 0) (i % 64)) (digit (2 ^ (m % 64)) (i % 64)) (digit-other (m % 64) (i % 64) (λ e. n (omega arith))))
+          ∙ ap (λ (x : ℕ). eqb (digit (getD s (at + x) 0) (i % 64)) 1) (sym w)
+
+-- ---- no member
+pub length-cleared : (s : List ℕ) (at w : ℕ) → length (cleared s at w) ≡ length s
+unfolding cleared
+length-cleared s at zero = refl
+length-cleared s at (suc w) = length-set (cleared s at w) (at + w) 0 ∙ length-cleared s at w
+
+-- words before or after those that are cleared
+pub cleared-far : (s : List ℕ) (at w j : ℕ) → (at ≤ j → at + w ≤ j) → getD (cleared s at w) j 0 ≡ getD s j 0
+unfolding cleared
+cleared-far s at zero j h = refl
+cleared-far s at (suc w) j h =
+    getD-set-other (cleared s at w) (at + w) j 0 0 (λ e. absurd (omega (arith, h (omega arith)))) ∙ cleared-far s at w j (λ k. omega (arith, h k))
+
+cleared-word : (s : List ℕ) (at w i : ℕ) → at + w ≤ length s → i < w → getD (cleared s at w) (at + i) 0 ≡ 0
+unfolding cleared
+cleared-word s at zero i h l = absurd (omega arith)
+cleared-word s at (suc w) i h l = go (λ k. cleared-word s at w i (omega arith) k) (ℕ-discrete i w)
+  where
+    go : (i < w → getD (cleared s at w) (at + i) 0 ≡ 0) → Dec (i ≡ w) → getD (cleared s at (suc w)) (at + i) 0 ≡ 0
+    go ih (yes e) = rw e (getD-set-same (cleared s at w) (at + w) 0 0 (omega (arith, length-cleared s at w)))
+    go ih (no n) = getD-set-other (cleared s at w) (at + w) (at + i) 0 0 (λ e. n (omega arith)) ∙ ih (omega arith)
+
+pub cleared-none : (s : List ℕ) (at w : ℕ) → at + w ≤ length s → (m : ℕ) → m < 64 * w → has (cleared s at w) at m ≡ false
+unfolding has
+cleared-none s at w h m l =
+    ap (λ (x : ℕ). eqb (digit x (m % 64)) 1) (cleared-word s at w (m / 64) h (omega arith)) ∙ ap (λ (x : ℕ). eqb (x % 2) 1) (div-eq-of-lt (pow-pos (m % 64)))
+
+-- ---- the members of two sets
+module _ (s : List ℕ) (to : ℕ) (t : List ℕ) (from : ℕ) where
+  pub length-united : (w : ℕ) → length (united s to t from w) ≡ length s
+  unfolding united
+  length-united zero = refl
+  length-united (suc w) = length-set (united s to t from w) (to + w) _ ∙ length-united w
+
+  -- words before or after the set
+  pub united-far : (w j : ℕ) → (to ≤ j → to + w ≤ j) → getD (united s to t from w) j 0 ≡ getD s j 0
+  unfolding united
+  united-far zero j h = refl
+  united-far (suc w) j h =
+      getD-set-other (united s to t from w) (to + w) j _ 0 (λ e. absurd (omega (arith, h (omega arith)))) ∙ united-far w j (λ k. omega (arith, h k))
+
+  united-word : (w i : ℕ) → to + w ≤ length s → i < w → getD (united s to t from w) (to + i) 0 ≡ bitOr (getD s (to + i) 0) (getD t (from + i) 0)
+  unfolding united
+  united-word zero i h l = absurd (omega arith)
+  united-word (suc w) i h l = go (λ k. united-word w i (omega arith) k) (ℕ-discrete i w)
+    where
+      go : (i < w → getD (united s to t from w) (to + i) 0 ≡ bitOr (getD s (to + i) 0) (getD t (from + i) 0))
+          → Dec (i ≡ w) → getD (united s to t from (suc w)) (to + i) 0 ≡ bitOr (getD s (to + i) 0) (getD t (from + i) 0)
+      go ih (yes e) =
+          rw
+          e
+          (getD-set-same (united s to t from w) (to + w) _ 0 (omega (arith, length-united w))
+          ∙ ap (λ (x : ℕ). bitOr x (getD t (from + w) 0)) (united-far w (to + w) (λ k. omega arith)))
+      go ih (no n) = getD-set-other (united s to t from w) (to + w) (to + i) _ 0 (λ e. n (omega arith)) ∙ ih (omega arith)
+
+  -- in the union is what is in one of the two
+  pub united-has : (w : ℕ) → to + w ≤ length s → (m : ℕ) → m < 64 * w → has (united s to t from w) to m ≡ (has s to m || has t from m)
+  unfolding has
+  united-has w h m l =
+      let x : ℕ = getD s (to + m / 64) 0 in
+      let y : ℕ = getD t (from + m / 64) 0 in
+      ap (λ (z : ℕ). eqb (digit z (m % 64)) 1) (united-word w (m / 64) h (omega arith))
+      ∙ ap (λ (z : ℕ). eqb z 1) (digit-or x y (m % 64))
+      ∙ or-one (digit x (m % 64)) (digit y (m % 64)) (digit-lt x (m % 64)) (digit-lt y (m % 64))
