@@ -4,20 +4,22 @@ use mathlib.Core.Logic.{_≢_}
 use mathlib.Core.List.{List}
 use mathlib.Core.Bool.{Bool, true, false, _||_}
 use Prim.Native.Nat.{ℕ, zero, suc, _+_, _*_, _/_, _%_, _^_, _≤_, _<_, _-_, min, max}
-use native.Mathlib.Nat.{mod-lt, mod-eq-of-lt, div-eq-of-lt, mul-mod-left, pow-suc, div-self}
+use native.Mathlib.Nat.{mod-lt, div-eq-of-lt, mul-mod-left, pow-suc, div-self, div-one, div-add-mod', div-lt-iff-lt-mul}
+use native.Mathlib.Numerals.{one-add}
 use native.Mathlib.Omega.{arith}
 use native.Mathlib.Decide.{ℕ-discrete, decLt}
-use lib.Arith.{digits-mod, lt-of-le-ne}
+use lib.Arith.{digits-mod, lt-one}
 use lib.Bits.{bitAnd, bitOr, bitXor, differ, and-shr, or-shr, xor-shr, and-step, or-step, xor-step}
 use lib.Dec.{eqb}
 use lib.ListN.{length, getD, set, length-set}
-use lib.Pow.{pow-pos, pow-lt, shl-shr, pow-add}
+use lib.Pow.{pow-pos, pow-lt, shl-shr, shr-shr, pow-add}
+use lib.Count.{trailingZeros, under}
 use lib.Seq.{getD-set-same, getD-set-other}
-use borrow.Author.Tests.{eq-eqb, ne-eqb, eqb-true}
+use borrow.Author.Tests.{eq-eqb}
 use Rattle.bits.specs.Bits.{digit, has, inserted, cleared, united}
 
 -- ---- bits of a word
-digit-lt : (x k : ℕ) → digit x k < 2
+pub digit-lt : (x k : ℕ) → digit x k < 2
 digit-lt x k = mod-lt (x / 2 ^ k) (omega arith)
 
 differ-lt : (x y : ℕ) → x < 2 → y < 2 → differ x y < 2
@@ -166,3 +168,47 @@ module _ (s : List ℕ) (to : ℕ) (t : List ℕ) (from : ℕ) where
       ap (λ (z : ℕ). eqb (digit z (m % 64)) 1) (united-word w (m / 64) h (omega arith))
       ∙ ap (λ (z : ℕ). eqb z 1) (digit-or x y (m % 64))
       ∙ or-one (digit x (m % 64)) (digit y (m % 64)) (digit-lt x (m % 64)) (digit-lt y (m % 64))
+
+-- ---- the lowest bit
+digit-half : (n k : ℕ) → digit n (suc k) ≡ digit (n / 2) k
+digit-half n k = ap (λ (x : ℕ). n / 2 ^ x % 2) (sym (one-add k)) ∙ ap (λ (x : ℕ). x % 2) (sym (shr-shr n 1 k))
+
+-- it is set,
+pub lowest-set : (k n : ℕ) → trailingZeros k n < k → digit n (trailingZeros k n) ≡ 1
+unfolding trailingZeros
+lowest-set zero n h = absurd (omega arith)
+lowest-set (suc k) n h = go (λ l. lowest-set k (n / 2) l) (n % 2) refl h
+  where
+    go : (trailingZeros k (n / 2) < k → digit (n / 2) (trailingZeros k (n / 2)) ≡ 1)
+        → (d : ℕ)
+        → n % 2 ≡ d
+        → under d (trailingZeros k (n / 2)) < suc k
+        → digit n (under d (trailingZeros k (n / 2))) ≡ 1
+    go ih zero e l = digit-half n (trailingZeros k (n / 2)) ∙ ih (omega arith)
+    go ih (suc d) e l = omega (arith, div-one n, digit-lt n 0)
+
+-- none below it is,
+pub lowest-below : (k n j : ℕ) → j < trailingZeros k n → digit n j ≡ 0
+unfolding trailingZeros
+lowest-below zero n j h = absurd (omega arith)
+lowest-below (suc k) n j h = go (λ i l. lowest-below k (n / 2) i l) (n % 2) refl j h
+  where
+    go : ((i : ℕ) → i < trailingZeros k (n / 2) → digit (n / 2) i ≡ 0)
+        → (d : ℕ)
+        → n % 2 ≡ d
+        → (i : ℕ)
+        → i < under d (trailingZeros k (n / 2))
+        → digit n i ≡ 0
+    go ih zero e zero l = omega (arith, div-one n)
+    go ih zero e (suc i) l = digit-half n i ∙ ih i (omega arith)
+    go ih (suc d) e i l = absurd (omega arith)
+
+-- and a number that is not 0 has one.
+pub lowest-within : (k n : ℕ) → n < 2 ^ k → n ≢ 0 → trailingZeros k n < k
+unfolding trailingZeros
+lowest-within zero n h e = absurd (e (lt-one h))
+lowest-within (suc k) n h e = go (λ l m. lowest-within k (n / 2) l m) (n % 2) refl
+  where
+    go : (n / 2 < 2 ^ k → n / 2 ≢ 0 → trailingZeros k (n / 2) < k) → (d : ℕ) → n % 2 ≡ d → under d (trailingZeros k (n / 2)) < suc k
+    go ih zero q = omega (arith, ih (div-lt-iff-lt-mul (omega arith) .1 (rw (pow-suc 2 k) at h)) (λ z. e (omega (arith, div-add-mod' n 2))))
+    go ih (suc d) q = omega arith

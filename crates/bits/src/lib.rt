@@ -45,8 +45,7 @@ pub fn unite(s: &mut [u64], to: usize, t: &[u64], from: usize, words: usize)
 {
     for w in 0..words {
         let x = s[to + w];
-        let y = t[from + w];
-        s[to + w] = x | y;
+        s[to + w] = x | t[from + w];
     }
 }
 
@@ -58,7 +57,6 @@ pub fn unite_earlier(s: &mut [u64], to: usize, from: usize, words: usize)
 {
     for w in 0..words {
         let x = s[to + w];
-        let y = s[from + w];
-        s[to + w] = x | y;
+        s[to + w] = x | s[from + w];
     }
 }

@@ -4,10 +4,7 @@ use Rattle.bits.specs.Bits.{has}
 use borrow.Author.Needs.{needs}
 use Rattle.bits.proofs.has.Statement.{statement}
 use Rattle.bits.proofs.has.Tie as tie
-use Rattle.bits.proofs.has.Reads as reads
-use Rattle.bits.proofs.has.Lts as lts
 
--- src/lib.rt:11:1
 returns : tie.Need-returns
 unfolding has
 returns c = refl

@@ -11,10 +11,7 @@ use Rattle.bits.specs.Bits.{inserted}
 use borrow.Author.Needs.{needs}
 use Rattle.bits.proofs.insert.Statement.{statement}
 use Rattle.bits.proofs.insert.Tie as tie
-use Rattle.bits.proofs.insert.Reads as reads
-use Rattle.bits.proofs.insert.Lts as lts
 
--- src/lib.rt:20:1
 returns : tie.Need-returns
 unfolding inserted
 returns c =
