@@ -1,2 +1,6 @@
 pub mod Outside
 pub mod OutsideLaws
+pub mod Search
+pub mod SearchLaws
+pub mod QueueLaws
+pub mod TurnLaws
