@@ -1,8 +1,10 @@
 // Sets of numbers as bits in words. A slice of words may hold many sets: `at` is where the words of one begin.
 ghost use mathlib.Core.Path.{_≡_};
-ghost use Prim.Native.Nat.{_+_, _/_, _≤_, _<_};
+ghost use Prim.Native.Nat.{_+_, _*_, _/_, _≤_, _<_};
 ghost use lib.ListN.{length};
+ghost use Rattle.sheet.specs.Sheet as sheet;
 ghost use Rattle.bits.specs.Bits as bits;
+ghost use Rattle.bits.specs.Outside as outside;
 
 // Bits in a word.
 pub const WORD: usize = 64;
@@ -37,26 +39,21 @@ pub fn clear(s: &mut [u64], at: usize, words: usize)
     }
 }
 
-// Puts the members of the set of t at `from` into the set of s at `to`.
-pub fn unite(s: &mut [u64], to: usize, t: &[u64], from: usize, words: usize)
-    requires { ⌜ to + words ≤ length (now s) ⌝ }
-    requires { ⌜ from + words ≤ length (now t) ⌝ }
-    ensures { λ _. ⌜ now (s .exit) ≡ bits.united (now (s .entry)) to (now (t .entry)) from words ⌝ }
+// The first member of the set of s at `at` that the set of t at `to` has not, or the number of bits where there is none.
+pub fn first_outside(s: &[u64], at: usize, t: &[u64], to: usize, words: usize) -> usize
+    requires { ⌜ words ≤ 1024 ⌝ }
+    requires { ⌜ at + words ≤ length (now s) ⌝ }
+    requires { ⌜ to + words ≤ length (now t) ⌝ }
+    ensures { λ r. ⌜ r ≡ sheet.first (outside.outside (now (s .entry)) at (now (t .entry)) to) (64 * words) ⌝ }
 {
     for w in 0..words {
-        let x = s[to + w];
-        s[to + w] = x | t[from + w];
+        let x = s[at + w];
+        let y = t[to + w];
+        let new = x & (x ^ y);
+        if new != 0 {
+            let k = u64::trailing_zeros(new) as usize;
+            return WORD * w + k;
+        }
     }
-}
-
-// Puts the members of the set at `from` into a later set of the same slice.
-pub fn unite_earlier(s: &mut [u64], to: usize, from: usize, words: usize)
-    requires { ⌜ to + words ≤ length (now s) ⌝ }
-    requires { ⌜ from + words ≤ to ⌝ }
-    ensures { λ _. ⌜ now (s .exit) ≡ bits.united (now (s .entry)) to (now (s .entry)) from words ⌝ }
-{
-    for w in 0..words {
-        let x = s[to + w];
-        s[to + w] = x | s[from + w];
-    }
+    WORD * words
 }

@@ -1,5 +1,3 @@
-pub mod Outside
-pub mod OutsideLaws
 pub mod Search
 pub mod SearchLaws
 pub mod QueueLaws

@@ -3,7 +3,7 @@ use mathlib.Core.Path.{_≡_, refl, ap, sym, _∙_}
 use mathlib.Core.Logic.{_≢_, inl, ⊎-elim}
 use mathlib.Core.List.{List, [], _∷_, List·Memᴰ}
 use mathlib.Core.Bool.{Bool, true, false, _&&_, not}
-use Prim.Native.Nat.{ℕ, zero, suc, _+_, _*_, _/_, _^_, _≤_, _<_}
+use Prim.Native.Nat.{ℕ, zero, suc, _+_, _-_, _*_, _/_, _^_, _≤_, _<_}
 use native.Mathlib.Nat.{suc-mul, mul-le-mul-right, le-trans}
 use native.Mathlib.Omega.{arith}
 use borrow.Author.Tests.{not-true}
@@ -20,7 +20,7 @@ use Rattle.custard.specs.Laws.Reach.{cyclic-sound, cyclic-complete, reached, ra
 use Rattle.bits.specs.Bits.{has, inserted, cleared}
 use Rattle.bits.specs.BitsLaws.{length-inserted, inserted-same, inserted-other, length-cleared, cleared-none}
 use Rattle.search.specs.declared.Found.the-variants.{Start, Reached}
-use Rattle.search.specs.Outside.{outside}
+use Rattle.bits.specs.Outside.{outside}
 use Rattle.search.specs.Search.{Steps, steps, marks, answer, Searched}
 use Rattle.search.specs.SearchLaws.{mem-steps, steps-mem, steps-within}
 use Rattle.search.specs.QueueLaws.{State, state-room, state-step, state-done, state-more, state-none, state-reached, state-rank}
@@ -141,6 +141,22 @@ module _ (t : List ℕ) (words n k : ℕ) where
         let l : getD qs head 0 ≤ 65536 = omega (arith, outer-few, o .state .node head h) in
         omega (arith, mul-le-mul-right words l, o .table .limit)
 
+    -- the entry at the head stands in the queue, and its place and its node are small
+    pub outer-in : head ≤ last → head < length qs
+    outer-in h = omega (arith, outer-room, o .queue-long)
+
+    pub outer-twice : head ≤ last → head * 2 < 2 ^ 64
+    outer-twice h = omega (arith, outer-room, outer-few)
+
+    pub outer-node : head ≤ last → getD qs head 0 < 2 ^ 64
+    outer-node h = omega (arith, outer-few, o .state .node head h)
+
+    pub outer-next : head ≤ last → head + 1 < 2 ^ 64
+    outer-next h = omega (arith, outer-room, outer-few)
+
+    pub outer-less : head ≤ last → n - (head + 1) < n - head
+    outer-less h = omega (arith, outer-room)
+
   module _ (ms qs : List ℕ) (head last node row name : ℕ) (i : Inner t words n k ms qs head last node row name) where
     pub inner-node : node < n
     inner-node = rw (i .entry) at (i .outer .state .node head (i .inside))
@@ -196,8 +212,23 @@ module _ (t : List ℕ) (words n k : ℕ) where
         }
 
     -- the queue has room for it
-    pub inner-last : name < 64 * words → name ≢ k → last + 1 < n
+    inner-last : name < 64 * words → name ≢ k → last + 1 < n
     inner-last h d = outer-room (inserted ms 0 name) (set qs (last + 1) name) head (last + 1) (inner-more h d _ refl .outer)
+
+    pub inner-next : last + 1 < 2 ^ 64
+    inner-next = omega (arith, outer-room ms qs head last (i .outer), outer-few ms qs head last (i .outer))
+
+    pub inner-twice : (last + 1) * 2 < 2 ^ 64
+    inner-twice = omega (arith, outer-room ms qs head last (i .outer), outer-few ms qs head last (i .outer))
+
+    pub inner-small : name < 64 * words → name < 2 ^ 16
+    inner-small h = omega (arith, inner-name h, outer-few ms qs head last (i .outer))
+
+    pub inner-in : name < 64 * words → name ≢ k → last + 1 < length qs
+    inner-in h d = omega (arith, inner-last h d, i .outer .queue-long)
+
+    pub inner-less : n - (last + 1) < n - last
+    inner-less = omega (arith, outer-room ms qs head last (i .outer))
 
     -- there is none
     pub inner-done : 64 * words ≤ name → Outer t words n k ms qs (head + 1) last

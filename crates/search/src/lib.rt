@@ -1,10 +1,8 @@
 // The search through a table of steps: what a node reaches, left where it reaches itself.
 use bits::WORD;
 ghost use mathlib.Core.Path.{_≡_};
-ghost use Prim.Native.Nat.{_+_, _*_, _≤_, _<_};
+ghost use Prim.Native.Nat.{_≤_, _<_};
 ghost use lib.ListN.{length};
-ghost use Rattle.sheet.specs.Sheet as sheet;
-ghost use Rattle.search.specs.Outside as outside;
 ghost use Rattle.search.specs.Search.{Steps, Searched};
 ghost use Rattle.search.specs.Search as spec;
 
@@ -12,25 +10,6 @@ ghost use Rattle.search.specs.Search as spec;
 pub enum Found {
     Start,
     Reached(usize),
-}
-
-// The first member of the set of s at `at` that the set of t at `to` has not, or the number of bits where there is none.
-fn first_outside(s: &[u64], at: usize, t: &[u64], to: usize, words: usize) -> usize
-    requires { ⌜ words ≤ 1024 ⌝ }
-    requires { ⌜ at + words ≤ length (now s) ⌝ }
-    requires { ⌜ to + words ≤ length (now t) ⌝ }
-    ensures { λ r. ⌜ r ≡ sheet.first (outside.outside (now (s .entry)) at (now (t .entry)) to) (64 * words) ⌝ }
-{
-    for w in 0..words {
-        let x = s[at + w];
-        let y = t[to + w];
-        let new = x & (x ^ y);
-        if new != 0 {
-            let k = u64::trailing_zeros(new) as usize;
-            return WORD * w + k;
-        }
-    }
-    WORD * words
 }
 
 // Whether start reaches itself by the steps of a table of n rows, or how many nodes it reaches; these are
@@ -58,7 +37,7 @@ pub fn search(
     'search: while head <= last {
         let node = queue[head] as usize;
         let row = node * words;
-        let mut name = first_outside(steps, row, marks, 0, words);
+        let mut name = bits::first_outside(steps, row, marks, 0, words);
         while name < none {
             if name == start {
                 found = true;
@@ -67,7 +46,7 @@ pub fn search(
             bits::insert(marks, 0, name);
             last += 1;
             queue[last] = name as u16;
-            name = first_outside(steps, row, marks, 0, words);
+            name = bits::first_outside(steps, row, marks, 0, words);
         }
         head += 1;
     }

@@ -7,14 +7,9 @@ use native.Mathlib.Omega.{arith}
 use lib.ListN.{length, length-set}
 use borrow.Author.Needs.{needs}
 use Rattle.sheet.specs.ListLaws.{contrary}
-use Rattle.search.specs.TurnLaws.{Outer, Inner, outer-begin, outer-end, outer-few, outer-room, outer-row, outer-place, inner-name, inner-last, inner-found, inner-more, inner-done}
+use Rattle.search.specs.TurnLaws.{Outer, Inner, outer-begin, outer-end, outer-row, outer-place, outer-in, outer-twice, outer-node, outer-next, outer-less, inner-next, inner-twice, inner-small, inner-in, inner-less, inner-found, inner-more, inner-done}
 use Rattle.search.proofs.search.Statement.{statement}
 use Rattle.search.proofs.search.Tie as tie
-use Rattle.search.proofs.search.Reads as reads
-use Rattle.search.proofs.search.Lts as lts
-use Rattle.bits.proofs.clear.Reads as clear-reads
-use Rattle.bits.proofs.insert.Reads as insert-reads
-use Rattle.search.proofs.first_outside.Reads as first-outside-reads
 
 abbrev Inv-loop : tie.InvT-loop
 Inv-loop steps words n start marks₀ queue₀ none head last₀ found₀ node row name₀ marks queue last found name =
@@ -30,6 +25,10 @@ Inv-search steps words n start marks₀ queue₀ none head₀ last₀ found₀ m
 abbrev μ-search : tie.MeasureT-search
 μ-search steps words n start marks₀ queue₀ none head₀ last₀ found₀ marks queue head last found = n - head
 
+-- the head is at an entry
+inside : (c : tie.In-search Inv-loop μ-loop Inv-search μ-search) → c .before .search .head ≤ c .before .search .last
+inside c = omega (arith, c .search-test .taken)
+
 cast-queue : tie.Need-cast-queue Inv-loop μ-loop Inv-search μ-search
 cast-queue c = omega (arith, c .before .before .before .before .before .before .before .pre .0 .wide, c .before .before .before .before .before .before .before .pre .0 .limit)
 
@@ -43,45 +42,45 @@ search-holds c =
     (rw (c .before .before .clear .ensures) (outer-begin (a .steps .now) (a .words) (a .n) (a .start) (a .marks .now) (a .queue .now) (p .0) (p .1 .0) (p .1 .1 .0) (p .1 .1 .1)), refl, refl, refl)
 
 mul-node : tie.Need-mul-node Inv-loop μ-loop Inv-search μ-search
-mul-node c = omega (arith, c .search-test .taken, outer-room _ _ _ _ _ _ _ _ (c .before .search .inv .0), outer-few _ _ _ _ _ _ _ _ (c .before .search .inv .0))
+mul-node c = record { fits = outer-twice _ _ _ _ _ _ _ _ (c .before .search .inv .0) (inside c) }
 
 slice-read-node : tie.Need-slice-read-node Inv-loop μ-loop Inv-search μ-search
-slice-read-node c = omega (arith, outer-room _ _ _ _ _ _ _ _ (c .before .before .search .inv .0))
+slice-read-node c = outer-in _ _ _ _ _ _ _ _ (c .before .before .search .inv .0) (inside (c .before))
 
 cast-node : tie.Need-cast-node Inv-loop μ-loop Inv-search μ-search
-cast-node c = omega (arith, outer-few _ _ _ _ _ _ _ _ (c .before .before .search .inv .0), c .before .before .search .inv .0 .state .node (c .before .before .search .head) (c .before .search-test .taken))
+cast-node c = record { fits = outer-node _ _ _ _ _ _ _ _ (c .before .before .search .inv .0) (inside (c .before)) }
 
 mul-row : tie.Need-mul-row Inv-loop μ-loop Inv-search μ-search
-mul-row c = record { fits = outer-place _ _ _ _ _ _ _ _ (c .before .before .search .inv .0) (c .before .search-test .taken) }
+mul-row c = record { fits = outer-place _ _ _ _ _ _ _ _ (c .before .before .search .inv .0) (inside (c .before)) }
 
 first-outside-requires : tie.Need-first-outside-requires Inv-loop μ-loop Inv-search μ-search
-first-outside-requires c κs = (c .before .before .before .search .inv .0 .table .limit, (outer-row _ _ _ _ _ _ _ _ (c .before .before .before .search .inv .0) (c .before .before .search-test .taken), omega (arith, c .before .before .before .search .inv .0 .marks-long)))
+first-outside-requires c κs = (c .before .before .before .search .inv .0 .table .limit, (omega (arith, outer-row _ _ _ _ _ _ _ _ (c .before .before .before .search .inv .0) (inside (c .before .before))), omega (arith, c .before .before .before .search .inv .0 .marks-long)))
 
 loop-holds : tie.Need-loop-holds Inv-loop μ-loop Inv-search μ-search
 loop-holds c =
     let s = c .before .before .before .before .search in
-    (record { outer = s .inv .0; inside = c .before .before .before .search-test .taken; entry = refl; at = refl; is = c .first-outside .ensures }, s .inv .1, refl, refl)
+    (record { outer = s .inv .0; inside = inside (c .before .before .before); entry = refl; at = refl; is = c .first-outside .ensures }, s .inv .1, refl, refl)
 
 insert-requires : tie.Need-insert-requires Inv-loop μ-loop Inv-search μ-search
-insert-requires c κs = omega (arith, c .before .before .before .loop .inv .0 .outer .marks-long, c .before .before .loop-test .taken)
+insert-requires c κs = omega (arith, c .before .before .before .loop .inv .0 .outer .marks-long, c .before .before .before .loop .inv .0 .outer .table .wide, c .before .before .before .loop .inv .0 .outer .start, c .before .before .loop-test .taken)
 
 add-last : tie.Need-add-last Inv-loop μ-loop Inv-search μ-search
-add-last c = omega (arith, outer-room _ _ _ _ _ _ _ _ (c .before .before .before .before .before .before .loop .inv .0 .outer), outer-few _ _ _ _ _ _ _ _ (c .before .before .before .before .before .before .loop .inv .0 .outer))
+add-last c = record { fits = inner-next _ _ _ _ _ _ _ _ _ _ _ (c .before .before .before .before .before .before .loop .inv .0) }
 
 cast-queue-2 : tie.Need-cast-queue-2 Inv-loop μ-loop Inv-search μ-search
-cast-queue-2 c = omega (arith, outer-few _ _ _ _ _ _ _ _ (c .before .before .before .before .before .before .loop .inv .0 .outer), inner-name _ _ _ _ _ _ _ _ _ _ _ (c .before .before .before .before .before .before .loop .inv .0) (c .before .before .before .before .before .loop-test .taken))
+cast-queue-2 c = record { fits = inner-small _ _ _ _ _ _ _ _ _ _ _ (c .before .before .before .before .before .before .loop .inv .0) (c .before .before .before .before .before .loop-test .taken) }
 
 mul-queue : tie.Need-mul-queue Inv-loop μ-loop Inv-search μ-search
-mul-queue c = omega (arith, outer-room _ _ _ _ _ _ _ _ (c .before .before .before .before .before .before .loop .inv .0 .outer), outer-few _ _ _ _ _ _ _ _ (c .before .before .before .before .before .before .loop .inv .0 .outer))
+mul-queue c = record { fits = inner-twice _ _ _ _ _ _ _ _ _ _ _ (c .before .before .before .before .before .before .loop .inv .0) }
 
 slice-write-queue-2 : tie.Need-slice-write-queue-2 Inv-loop μ-loop Inv-search μ-search
-slice-write-queue-2 c = omega (arith, inner-last _ _ _ _ _ _ _ _ _ _ _ (c .before .before .before .before .before .before .loop .inv .0) (c .before .before .before .before .before .loop-test .taken) (c .before .before .before .before .if1 .left), c .before .before .before .before .before .before .loop .inv .0 .outer .queue-long)
+slice-write-queue-2 c = inner-in _ _ _ _ _ _ _ _ _ _ _ (c .before .before .before .before .before .before .loop .inv .0) (c .before .before .before .before .before .loop-test .taken) (c .before .before .before .before .if1 .left)
 
 first-outside-requires-2 : tie.Need-first-outside-requires-2 Inv-loop μ-loop Inv-search μ-search
-first-outside-requires-2 c κs = (c .before .before .before .before .before .before .before .loop .inv .0 .outer .table .limit, (outer-row _ _ _ _ _ _ _ _ (c .before .before .before .before .before .before .before .before .before .before .before .before .search .inv .0) (c .before .before .before .before .before .before .before .before .before .before .before .search-test .taken), omega (arith, c .before .before .before .insert .kept .0, c .before .before .before .before .before .before .before .loop .inv .0 .outer .marks-long)))
+first-outside-requires-2 c κs = (c .before .before .before .before .before .before .before .loop .inv .0 .outer .table .limit, (outer-row _ _ _ _ _ _ _ _ (c .before .before .before .before .before .before .before .before .before .before .before .before .search .inv .0) (inside (c .before .before .before .before .before .before .before .before .before .before .before)), omega (arith, c .before .before .before .insert .kept .0, c .before .before .before .before .before .before .before .loop .inv .0 .outer .marks-long)))
 
 loop-less : tie.Need-loop-less Inv-loop μ-loop Inv-search μ-search
-loop-less c = omega (arith, outer-room _ _ _ _ _ _ _ _ (c .before .before .before .before .before .before .before .before .loop .inv .0 .outer))
+loop-less c = inner-less _ _ _ _ _ _ _ _ _ _ _ (c .before .before .before .before .before .before .before .before .loop .inv .0)
 
 loop-again : tie.Need-loop-again Inv-loop μ-loop Inv-search μ-search
 loop-again c =
@@ -90,10 +89,10 @@ loop-again c =
     (rw e (inner-more _ _ _ _ _ _ _ _ _ _ _ (s .inv .0) (c .before .before .before .before .before .before .before .loop-test .taken) (c .before .before .before .before .before .before .if1 .left) _ (rw e at (c .first-outside2 .ensures))), s .inv .1, c .before .before .before .before .insert .kept .0 ∙ s .inv .2, simp length-set (s .inv .3))
 
 add-head : tie.Need-add-head Inv-loop μ-loop Inv-search μ-search
-add-head c = omega (arith, c .before .before .before .before .before .search-test .taken, outer-room _ _ _ _ _ _ _ _ (c .before .before .before .before .before .before .search .inv .0), outer-few _ _ _ _ _ _ _ _ (c .before .before .before .before .before .before .search .inv .0))
+add-head c = record { fits = outer-next _ _ _ _ _ _ _ _ (c .before .before .before .before .before .before .search .inv .0) (inside (c .before .before .before .before .before)) }
 
 search-less : tie.Need-search-less Inv-loop μ-loop Inv-search μ-search
-search-less c = omega (arith, c .before .before .before .before .before .search-test .taken, outer-room _ _ _ _ _ _ _ _ (c .before .before .before .before .before .before .search .inv .0))
+search-less c = outer-less _ _ _ _ _ _ _ _ (c .before .before .before .before .before .before .search .inv .0) (inside (c .before .before .before .before .before))
 
 search-again : tie.Need-search-again Inv-loop μ-loop Inv-search μ-search
 search-again c =

@@ -1,4 +1,4 @@
--- `bits::unite` meets its contract: after w turns the first w words are united. Assumes nothing.
+-- `unions::unite` meets its contract: after w turns the first w words are united. Assumes nothing.
 use mathlib.Core.Path.{_≡_, refl, ap, ap₂, _∙_}
 use Prim.Native.Nat.{ℕ, _+_, _-_, _≤_}
 use native.Mathlib.Numerals.{add-one}
@@ -6,10 +6,10 @@ use native.Mathlib.Omega.{arith}
 use lib.ListN.{length, getD, set}
 use lib.Bits.{bitOr}
 use borrow.Author.Needs.{needs}
 use Rattle.bits.specs.Bits.{united}
 use Rattle.bits.specs.BitsLaws.{united-far}
-use Rattle.bits.proofs.unite.Statement.{statement}
-use Rattle.bits.proofs.unite.Tie as tie
+use Rattle.unions.proofs.unite.Statement.{statement}
+use Rattle.unions.proofs.unite.Tie as tie
 
 abbrev Inv-loop : tie.InvT-loop
 Inv-loop s₀ to t from words w₀ s w = (w ≤ words) × (length s ≡ length s₀) × (s ≡ united s₀ to t from w)

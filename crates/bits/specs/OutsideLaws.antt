@@ -15,9 +15,9 @@ use lib.Pow.{pow-pos}
 use borrow.Author.Tests.{eq-eqb}
 use Rattle.sheet.specs.Sheet.{first}
 use Rattle.sheet.specs.FirstLaws.{place-unique, first-place}
 use Rattle.bits.specs.Bits.{digit, has}
 use Rattle.bits.specs.BitsLaws.{digit-lt, digit-and, digit-xor, lowest-set, lowest-below, lowest-within}
-use Rattle.search.specs.Outside.{outside}
+use Rattle.bits.specs.Outside.{outside}
 
 new-one : (x y : ℕ) → x < 2 → y < 2 → eqb (min x (differ x y)) 1 ≡ (eqb x 1 && not (eqb y 1))
 new-one zero zero h k = refl

@@ -1,4 +1,4 @@
--- `search::first_outside` meets its contract: no bit of the words passed is outside. Assumes nothing.
+-- `bits::first_outside` meets its contract: no bit of the words passed is outside. Assumes nothing.
 use mathlib.Core.Path.{_≡_, refl, sym}
 use mathlib.Core.Bool.{false}
 use Prim.Native.Nat.{ℕ, _+_, _*_, _-_, _≤_, _<_}
@@ -12,10 +12,10 @@ use mir.Syntax.{w64}
 use mir.Val.{Fits}
 use borrow.Author.Needs.{needs}
 use Rattle.sheet.specs.FirstLaws.{first-none}
-use Rattle.search.specs.Outside.{outside}
-use Rattle.search.specs.OutsideLaws.{outside-more, outside-found}
-use Rattle.search.proofs.first_outside.Statement.{statement}
-use Rattle.search.proofs.first_outside.Tie as tie
+use Rattle.bits.specs.Outside.{outside}
+use Rattle.bits.specs.OutsideLaws.{outside-more, outside-found}
+use Rattle.bits.proofs.first_outside.Statement.{statement}
+use Rattle.bits.proofs.first_outside.Tie as tie
 
 abbrev Inv-loop : tie.InvT-loop
 Inv-loop s at t to words w₀ w = (w ≤ words) × ((m : ℕ) → m < 64 * w → outside s at t to m ≡ false)
