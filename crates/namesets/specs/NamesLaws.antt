@@ -1,6 +1,6 @@
 -- The declarations that a type names, by the line of the type. Assumes nothing.
 use mathlib.Core.Path.{_≡_, refl, ap, ap₂, sym, _∙_}
-use mathlib.Core.Logic.{_↔_, ⊎-elim}
+use mathlib.Core.Logic.{_↔_, _⊎_, inl, inr, ⊎-elim}
 use mathlib.Core.List.{List, [], _∷_, _++_, List·Memᴰ, List·Memᴰ·head, List·Memᴰ·tail, List·Memᴰ·not-nil, List·Memᴰ·cases-cons}
 use mathlib.Core.Bool.{Bool, true, false, _||_}
 use Prim.Native.Nat.{ℕ, zero, suc, _+_, _*_, _≤_, _<_}
@@ -18,6 +18,7 @@ use Rattle.custard.specs.Layout.{positions, names-in}
 use Rattle.custard.specs.Program.{name-line, arg-line, type-line, select, list-of, tree, trees, program}
 use Rattle.custard.specs.Rows.{count-of, good-type}
 use Rattle.ranges.specs.Ranges.{types-of}
+use Rattle.ranges.specs.RangesLaws.{past}
 use Rattle.refusals.specs.Rows.{Passed}
 use Rattle.tables.specs.Tables.{nth}
 use Rattle.declared.specs.TypeLaws.{good-kind, good-arrow, good-app, good-tuple, good-buf, good-ref, good-inline, good-type-at, type-tree}
@@ -184,5 +185,11 @@ module _ (b : List ℕ) (p : Passed b) (y : ℕ) (h : y < count-of type-line (li
         go (suc (suc (suc (suc (suc (suc zero)))))) e q = rw e
         go (suc (suc (suc (suc (suc (suc (suc k))))))) e q = absurd (omega arith)
 
-  pub kind-low : part (lines 6 b) y 0 ≤ 12
-  kind-low = good-kind _ _ _ _ good
+  -- there is no other kind
+  pub kind-some : (k : ℕ) → k ≡ part (lines 6 b) y 0 → 7 ≤ k → (k ≡ 7 → ⊥) → (k ≡ 8 → ⊥) → (k ≡ 9 → ⊥) → (k ≡ 11 → ⊥) → ((k ≡ 10) ⊎ (k ≡ 12) → ⊥) → ⊥
+  kind-some k e l n7 n8 n9 n11 n =
+      let r : 13 ≤ k = past 12 k (past 11 k (past 10 k (past 9 k (past 8 k (past 7 k l n7) n8) n9) (λ q. n (inl q))) n11) (λ q. n (inr q)) in
+      over k e r
+    where
+      over : (k : ℕ) → k ≡ part (lines 6 b) y 0 → 13 ≤ k → ⊥
+      over k e r = omega (arith, good-kind _ _ _ _ good)
