@@ -1,63 +1,12 @@
 // The declarations that each type names, as sets, one for each type of a sheet that passed rows 1 to 7. The set of a type
 // is the union of those of its children, which are lower, and of the name of a `TApp`: types are gone over as lines, not as trees.
-ghost use mathlib.Core.Path.{_≡_};
 ghost use Prim.Native.Nat.{_+_, _*_, _≤_, _<_};
 ghost use lib.ListN.{length};
 ghost use Rattle.sheet.specs.Sheet as sheet;
 ghost use Rattle.custard.specs.Program as program;
 ghost use Rattle.custard.specs.Rows as rows;
 ghost use Rattle.tables.specs.Tables as tables;
-ghost use Rattle.namesets.specs.Mentions.{Adds, Mentioned};
-ghost use Rattle.namesets.specs.Mentions as spec;
-
-// Puts the declarations of the type that number k of type y's line has into the set of type y.
-fn add_child(s: &[u8], t: &[u32], sets: &mut [u64], words: usize, y: usize, k: usize)
-    requires { ⌜ tables.Tabled (now s) (now t) ⌝ }
-    requires { ⌜ Mentioned (sheet.lines 6 (now s)) words (now sets) y ⌝ }
-    requires { ⌜ (y < rows.count-of program.type-line (sheet.lines 6 (now s))) × (k < 4) ⌝ }
-    requires { ⌜ spec.part (sheet.lines 6 (now s)) y k < y ⌝ }
-    ensures { λ _. ⌜ Adds words y (spec.mentions (sheet.lines 6 (now (s .entry))) (spec.part (sheet.lines 6 (now (s .entry))) y k)) (now (sets .entry)) (now (sets .exit)) ⌝ }
-{
-    let c = tables::type_number(s, t, y, k) as usize;
-    namesets::add_type(sets, words, y, c);
-}
-
-// Type y is an arrow.
-fn add_arrow(s: &[u8], t: &[u32], sets: &mut [u64], words: usize, y: usize)
-    requires { ⌜ tables.Tabled (now s) (now t) ⌝ }
-    requires { ⌜ Mentioned (sheet.lines 6 (now s)) words (now sets) y ⌝ }
-    requires { ⌜ (y < rows.count-of program.type-line (sheet.lines 6 (now s))) × (spec.part (sheet.lines 6 (now s)) y 0 ≡ 7) ⌝ }
-    ensures { λ _. ⌜ Adds words y (spec.mentions (sheet.lines 6 (now (s .entry))) y) (now (sets .entry)) (now (sets .exit)) ⌝ }
-{
-    add_child(s, t, sets, words, y, 1);
-    add_child(s, t, sets, words, y, 3);
-}
-
-// Type y is a `TApp`.
-fn add_app(s: &[u8], t: &[u32], sets: &mut [u64], words: usize, y: usize)
-    requires { ⌜ tables.Tabled (now s) (now t) ⌝ }
-    requires { ⌜ Mentioned (sheet.lines 6 (now s)) words (now sets) y ⌝ }
-    requires { ⌜ (y < rows.count-of program.type-line (sheet.lines 6 (now s))) × (spec.part (sheet.lines 6 (now s)) y 0 ≡ 8) ⌝ }
-    ensures { λ _. ⌜ Adds words y (spec.mentions (sheet.lines 6 (now (s .entry))) y) (now (sets .entry)) (now (sets .exit)) ⌝ }
-{
-    let name = tables::type_number(s, t, y, 1) as usize;
-    let first = tables::type_number(s, t, y, 2) as usize;
-    let k = tables::type_number(s, t, y, 3) as usize;
-    namesets::add_name(s, t, sets, words, y, name);
-    namesets::add_list(s, t, sets, words, y, first, k);
-}
-
-// Type y is a tuple.
-fn add_tuple(s: &[u8], t: &[u32], sets: &mut [u64], words: usize, y: usize)
-    requires { ⌜ tables.Tabled (now s) (now t) ⌝ }
-    requires { ⌜ Mentioned (sheet.lines 6 (now s)) words (now sets) y ⌝ }
-    requires { ⌜ (y < rows.count-of program.type-line (sheet.lines 6 (now s))) × (spec.part (sheet.lines 6 (now s)) y 0 ≡ 9) ⌝ }
-    ensures { λ _. ⌜ Adds words y (spec.mentions (sheet.lines 6 (now (s .entry))) y) (now (sets .entry)) (now (sets .exit)) ⌝ }
-{
-    let first = tables::type_number(s, t, y, 1) as usize;
-    let k = tables::type_number(s, t, y, 2) as usize;
-    namesets::add_list(s, t, sets, words, y, first, k);
-}
+ghost use Rattle.namesets.specs.Mentions.{Mentioned};
 
 // The set of type y, after those of the types before it.
 fn add_line(s: &[u8], t: &[u32], sets: &mut [u64], words: usize, y: usize)
@@ -69,11 +18,11 @@ fn add_line(s: &[u8], t: &[u32], sets: &mut [u64], words: usize, y: usize)
     bits::clear(sets, y * words, words);
     let kind = tables::type_number(s, t, y, 0);
     match kind {
-        7 => add_arrow(s, t, sets, words, y),
-        8 => add_app(s, t, sets, words, y),
-        9 => add_tuple(s, t, sets, words, y),
-        11 => add_child(s, t, sets, words, y, 2),
-        10 | 12 => add_child(s, t, sets, words, y, 1),
+        7 => childsets::add_arrow(s, t, sets, words, y),
+        8 => childsets::add_app(s, t, sets, words, y),
+        9 => childsets::add_tuple(s, t, sets, words, y),
+        11 => childsets::add_child(s, t, sets, words, y, 2),
+        10 | 12 => childsets::add_child(s, t, sets, words, y, 1),
         0..=6 => {}
         _ => {}
     }

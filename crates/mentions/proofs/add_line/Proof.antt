@@ -17,7 +17,7 @@ mul-clear c =
 clear-requires : tie.Need-clear-requires
 clear-requires c κs =
     let p = c .before .before .before .before .pre in
-    row-in _ (p .0 .passed) _ _ _ (p .1 .0) (p .1 .1)
+    omega (arith, row-in _ (p .0 .passed) _ _ _ (p .1 .0) (p .1 .1))
 
 add-arrow-requires : tie.Need-add-arrow-requires
 add-arrow-requires c κs =
@@ -104,17 +104,17 @@ add-line-spec =
     add-tuple-requires
     add-child-requires
     add-child-requires-2
-    (λ c. search needs)
+    (λ c. c .before .before .add-arrow .kept .1 .1 .0 ∙ c .before .before .before .before .before .before .before .before .clear .kept .0)
     returns
-    (λ c. search needs)
+    (λ c. c .before .before .add-app .kept .1 .1 .0 ∙ c .before .before .before .before .before .before .before .before .clear .kept .0)
     returns-2
-    (λ c. search needs)
+    (λ c. c .before .before .add-tuple .kept .1 .1 .0 ∙ c .before .before .before .before .before .before .before .before .clear .kept .0)
     returns-3
-    (λ c. search needs)
+    (λ c. c .before .before .add-child .kept .1 .1 .0 ∙ c .before .before .before .before .before .before .before .before .clear .kept .0)
     returns-4
-    (λ c. search needs)
+    (λ c. c .before .before .add-child2 .kept .1 .1 .0 ∙ c .before .before .before .before .before .before .before .before .clear .kept .0)
     returns-5
-    (λ c. search needs)
+    (λ c. c .before .before .before .before .before .clear .kept .0)
     returns-6
-    (λ c. search needs)
+    (λ c. c .before .before .before .before .before .clear .kept .0)
     returns-7)

@@ -13,7 +13,8 @@ mul-unite-earlier-2 c =
 unite-earlier-requires : tie.Need-unite-earlier-requires
 unite-earlier-requires c κs =
     let a = c .before .before .args in
-    (c .before .before .pre .1, row-before (a .c) (a .y) (a .words) (c .before .before .pre .0))
+    let p = c .before .before .pre in
+    (omega (arith, p .1), omega (arith, row-before (a .c) (a .y) (a .words) (p .0)))
 
 returns : tie.Need-returns
 returns c =

@@ -1,11 +1,11 @@
--- `mentions::add_app` meets its contract. Assumes nothing.
+-- `childsets::add_app` meets its contract. Assumes nothing.
 use mathlib.Core.Path.{_≡_, refl, sym, _∙_}
 use native.Mathlib.Omega.{arith}
 use Rattle.namesets.specs.NamesLaws.{app-name, app-low}
 use Rattle.namesets.specs.AddsLaws.{row-in, adds-app}
 use borrow.Author.Needs.{needs}
-use Rattle.mentions.proofs.add_app.Statement.{statement}
-use Rattle.mentions.proofs.add_app.Tie as tie
+use Rattle.childsets.proofs.add_app.Statement.{statement}
+use Rattle.childsets.proofs.add_app.Tie as tie
 
 add-name-requires : tie.Need-add-name-requires
 add-name-requires c κs =
@@ -34,5 +34,5 @@ add-app-spec =
     (λ c. search needs)
     add-name-requires
     add-list-requires
-    (λ c. search needs)
+    (λ c. c .before .before .add-list .kept .1 .1 .0 ∙ c .before .before .before .before .before .before .add-name .kept .1 .1 .0)
     returns)

@@ -1,10 +1,10 @@
--- `mentions::add_child` meets its contract. Assumes nothing.
+-- `childsets::add_child` meets its contract. Assumes nothing.
 use mathlib.Core.Path.{_≡_, refl, sym, _∙_}
 use native.Mathlib.Omega.{arith}
 use Rattle.namesets.specs.AddsLaws.{row-in, adds-child}
 use borrow.Author.Needs.{needs}
-use Rattle.mentions.proofs.add_child.Statement.{statement}
-use Rattle.mentions.proofs.add_child.Tie as tie
+use Rattle.childsets.proofs.add_child.Statement.{statement}
+use Rattle.childsets.proofs.add_child.Tie as tie
 
 add-type-requires : tie.Need-add-type-requires
 add-type-requires c κs =
@@ -18,4 +18,4 @@ returns c =
 
 pub add-child-spec : {M : Type 1} → statement M
 add-child-spec =
-    tie.close (tie.spec (λ c κs. search needs) (λ c. search needs) add-type-requires (λ c. search needs) returns)
+    tie.close (tie.spec (λ c κs. search needs) (λ c. search needs) add-type-requires (λ c. c .before .before .add-type .kept .0) returns)

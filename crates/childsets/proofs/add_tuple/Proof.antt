@@ -1,11 +1,11 @@
--- `mentions::add_tuple` meets its contract. Assumes nothing.
+-- `childsets::add_tuple` meets its contract. Assumes nothing.
 use mathlib.Core.Path.{_≡_, refl, sym, _∙_}
 use native.Mathlib.Omega.{arith}
 use Rattle.namesets.specs.NamesLaws.{tuple-low}
 use Rattle.namesets.specs.AddsLaws.{row-in, adds-tuple}
 use borrow.Author.Needs.{needs}
-use Rattle.mentions.proofs.add_tuple.Statement.{statement}
-use Rattle.mentions.proofs.add_tuple.Tie as tie
+use Rattle.childsets.proofs.add_tuple.Statement.{statement}
+use Rattle.childsets.proofs.add_tuple.Tie as tie
 
 add-list-requires : tie.Need-add-list-requires
 add-list-requires c κs =
@@ -26,5 +26,5 @@ add-tuple-spec =
     (λ c κs. search needs)
     (λ c. search needs)
     add-list-requires
-    (λ c. search needs)
+    (λ c. c .before .before .add-list .kept .1 .1 .0)
     returns)
