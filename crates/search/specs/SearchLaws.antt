@@ -15,8 +15,9 @@ use Rattle.custard.specs.Laws.Lists.{trues, true-of}
 use Rattle.custard.specs.Laws.Rounds.{At, Le, Le-antisym}
 use Rattle.custard.specs.Laws.Reach.{reach-map, cyclic-sound, cyclic-complete, reached, rank, length-reached, reached-iff}
 use Rattle.bits.specs.Bits.{has}
-use Rattle.search.specs.Search.{Steps, those, steps, answer, Searched}
+use Rattle.search.specs.Search.{Steps, those, steps, marks, answer, Searched}
 use Rattle.search.specs.declared.Found.{Found}
+use Rattle.search.specs.declared.Found.the-variants.{Start, Reached}
 
 -- ---- those that pass a test
 pub mem-those : (p : ℕ → Bool) (n m : ℕ) → m < n → p m ≡ true → List·Memᴰ m (those p n)
@@ -91,6 +92,24 @@ module _ (next next′ : ℕ → List ℕ) (n : ℕ) (within : (a b : ℕ) → L
   pub answer-same : answer next n k ≡ answer next′ n k
   unfolding answer
   answer-same = rw (cyclic-same, rank-same)
+
+-- ---- by the case of the answer
+module _ (next : ℕ → List ℕ) (n k : ℕ) (s : List ℕ) where
+  pub start-found : Searched next n k Start s → cyclic next n k ≡ true
+  unfolding answer
+  start-found d = go (cyclic next n k) (d .answered)
+    where
+      go : (c : Bool) → Start ≡ pick c Start (Reached (rank next n k)) → c ≡ true
+      go true e = refl
+      go false e = let z : _≡_ {A = ℕ} 0 1 = cc in absurd (omega arith)
+
+  pub reached-all : (c : ℕ) → Searched next n k (Reached c) s → (cyclic next n k ≡ false) × (c ≡ rank next n k) × (marks n s ≡ reached next n k)
+  unfolding answer
+  reached-all c d = go (cyclic next n k) refl (d .answered)
+    where
+      go : (b : Bool) → cyclic next n k ≡ b → Reached c ≡ pick b Start (Reached (rank next n k)) → (cyclic next n k ≡ false) × (c ≡ rank next n k) × (marks n s ≡ reached next n k)
+      go true q e = let z : _≡_ {A = ℕ} 0 1 = cc in absurd (omega arith)
+      go false q e = (q, cc, d .marked q)
 
 -- ---- a table whose rows hold the steps of `next`
 pub record Holds (next : ℕ → List ℕ) (n words : ℕ) (t : List ℕ) : Type 0 where
