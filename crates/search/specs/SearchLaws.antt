@@ -131,6 +131,12 @@ module _ (next : ℕ → List ℕ) (n words : ℕ) (t : List ℕ) (h : Holds nex
     λ m. let k = h .within a b m in mem-steps n words t a b k (h .row a b l (omega (arith, k, h .wide)) .1 m),
   )
 
+  pub holds-cyclic : (k : ℕ) → k < n → cyclic (steps n words t) n k ≡ cyclic next n k
+  holds-cyclic k l = cyclic-same (steps n words t) next n (steps-within n words t) (h .within) held k l
+
+  pub holds-rank : (k : ℕ) → k < n → rank (steps n words t) n k ≡ rank next n k
+  holds-rank k l = rank-same (steps n words t) next n (steps-within n words t) (h .within) held k l
+
   -- and what is found in it is what there is in `next`.
   pub searched-as : (k : ℕ) (r : Found) (s : List ℕ) → k < n → Searched (steps n words t) n k r s → Searched next n k r s
   searched-as k r s l d =
