@@ -1,22 +1,35 @@
 -- Laws of sets as bits in words. Assumes nothing.
-use mathlib.Core.Path.{_≡_, refl, ap, ap₂, sym, _∙_}
+use mathlib.Core.Path.{_≡_, refl, ap, sym, _∙_}
 use mathlib.Core.Logic.{_≢_}
 use mathlib.Core.List.{List}
-use mathlib.Core.Bool.{Bool, true, false, _||_}
+use mathlib.Core.Bool.{true, false, _||_}
 use Prim.Native.Nat.{ℕ, zero, suc, _+_, _*_, _/_, _%_, _^_, _≤_, _<_, _-_, min, max}
-use native.Mathlib.Nat.{mod-lt, div-eq-of-lt, mul-mod-left, pow-suc, div-self, div-one, div-add-mod', div-lt-iff-lt-mul}
+use native.Mathlib.Nat.{le-trans, suc-mul, mul-le-mul-right, mod-lt, div-eq-of-lt, mul-mod-left, pow-suc, div-self, div-one, div-add-mod', div-lt-iff-lt-mul}
 use native.Mathlib.Numerals.{one-add}
 use native.Mathlib.Omega.{arith}
 use native.Mathlib.Decide.{ℕ-discrete, decLt}
 use lib.Arith.{digits-mod, lt-one}
 use lib.Bits.{bitAnd, bitOr, bitXor, differ, and-shr, or-shr, xor-shr, and-step, or-step, xor-step}
 use lib.Dec.{eqb}
-use lib.ListN.{length, getD, set, length-set}
+use lib.ListN.{length, getD, length-set}
 use lib.Pow.{pow-pos, pow-lt, shl-shr, shr-shr, pow-add}
 use lib.Count.{trailingZeros, under}
 use lib.Seq.{getD-set-same, getD-set-other}
 use borrow.Author.Tests.{eq-eqb}
 use Rattle.bits.specs.Bits.{digit, has, inserted, cleared, united}
+
+-- ---- rows
+-- a row of so many words stands before the end, and before each later row
+pub row-room : (y n words l : ℕ) → y < n → n * words ≤ l → y * words + words ≤ l
+row-room y n words l h q = let r : suc y * words ≤ l = le-trans (mul-le-mul-right words h) q in rw (suc-mul y words) at r
+
+pub row-before : (c y words : ℕ) → c < y → c * words + words ≤ y * words
+row-before c y words h = row-room c y words (y * words) h (omega arith)
+
+-- a member by the word that it is in
+pub has-words : (s t : List ℕ) (at m : ℕ) → getD t (at + m / 64) 0 ≡ getD s (at + m / 64) 0 → has t at m ≡ has s at m
+unfolding has
+has-words s t at m e = rw e
 
 -- ---- bits of a word
 pub digit-lt : (x k : ℕ) → digit x k < 2

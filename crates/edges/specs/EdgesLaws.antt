@@ -1,9 +1,9 @@
 -- The rows of steps, and what is found in them. Assumes nothing.
-use mathlib.Core.Path.{_≡_, refl, ap, sym, _∙_}
+use mathlib.Core.Path.{_≡_, refl, _∙_}
 use mathlib.Core.Logic.{_↔_}
 use mathlib.Core.List.{List, [], List·Memᴰ, List·Memᴰ·not-nil}
-use mathlib.Core.Bool.{Bool, true, false, _||_, _&&_}
-use Prim.Native.Nat.{ℕ, zero, suc, _+_, _*_, _/_, _≤_, _<_}
+use mathlib.Core.Bool.{Bool, true, false, _&&_}
+use Prim.Native.Nat.{ℕ, _+_, _*_, _/_, _≤_, _<_}
 use native.Mathlib.Omega.{arith}
 use native.Mathlib.Decide.{ℕ-discrete}
 use lib.Dec.{ltb}
@@ -13,15 +13,13 @@ use Rattle.columns.specs.Column.{pick}
 use Rattle.sheet.specs.ListLaws.{false-true}
 use Rattle.sheet.specs.Line.{Line}
 use Rattle.custard.specs.Cty.{TUnit}
-use Rattle.custard.specs.Decl.{member}
 use Rattle.custard.specs.Layout.{names-in}
 use Rattle.custard.specs.Program.{type-line, trees, program}
 use Rattle.custard.specs.Rows.{count-of}
 use Rattle.bits.specs.Bits.{has, cleared, united}
-use Rattle.bits.specs.BitsLaws.{length-cleared, cleared-far, cleared-none, length-united, united-far, united-has}
+use Rattle.bits.specs.BitsLaws.{row-before, has-words, length-cleared, cleared-far, cleared-none, length-united, united-far, united-has}
 use Rattle.namesets.specs.Mentions.{mentions, Mentioned}
 use Rattle.namesets.specs.NamesLaws.{member-iff}
-use Rattle.namesets.specs.AddsLaws.{row-before}
 use Rattle.search.specs.SearchLaws.{Holds}
 use Rattle.edges.specs.Edges.{edge, Edge, Edges}
 
@@ -46,10 +44,6 @@ module _ (words types : ℕ) (sets : List ℕ) (body d : ℕ) (s : List ℕ) (h 
         below = λ i j. united-far c (d * words) sets (body * words) words i (λ k. absurd (omega arith)) ∙ cleared-far s (d * words) words i (λ k. absurd (omega arith));
         row = λ m j. united-has c (d * words) sets (body * words) words (rw (length-cleared s (d * words) words) h) m j ∙ rw (cleared-none s (d * words) words h m j, lt-ltb body types l);
       }
-
-has-words : (s s′ : List ℕ) (at m : ℕ) → getD s′ (at + m / 64) 0 ≡ getD s (at + m / 64) 0 → has s′ at m ≡ has s at m
-unfolding has
-has-words s s′ at m e = rw e
 
 -- one declaration more
 pub edges-more : (words types : ℕ) (sets bodies : List ℕ) (d : ℕ) (s t u : List ℕ) (body : ℕ)

@@ -1,7 +1,7 @@
 // The search from every node: which nodes reach themselves (the guard), or the first that does and the ranks of those before it (row 8).
 use search::Found;
 ghost use mathlib.Core.Path.{_≡_};
-ghost use Prim.Native.Nat.{_≤_, _<_};
+ghost use Prim.Native.Nat.{_≤_};
 ghost use lib.ListN.{length};
 ghost use Rattle.search.specs.Search.{Steps};
 ghost use Rattle.search.specs.Search as spec;

@@ -1,15 +1,13 @@
 -- What is put into the set of a type, and the set of one type more. Assumes nothing.
-use mathlib.Core.Path.{_≡_, refl, ap, ap₂, sym, _∙_}
-use mathlib.Core.Logic.{_≢_}
-use mathlib.Core.List.{List, [], _∷_}
+use mathlib.Core.Path.{_≡_, refl, ap, sym, _∙_}
+use mathlib.Core.List.{List}
 use mathlib.Core.Bool.{Bool, true, false, _||_}
-use Prim.Native.Nat.{ℕ, zero, suc, _+_, _*_, _/_, _≤_, _<_}
-use native.Mathlib.Nat.{suc-mul, mul-le-mul-right, le-trans}
+use Prim.Native.Nat.{ℕ, _+_, _*_, _/_, _≤_, _<_}
 use native.Mathlib.Numerals.{add-one}
 use native.Mathlib.Omega.{arith}
 use native.Mathlib.Decide.{ℕ-discrete}
-use lib.Dec.{eqb, ltb}
-use lib.ListN.{length, getD}
+use lib.Dec.{eqb}
+use lib.ListN.{length}
 use borrow.Author.Tests.{eq-eqb, ne-eqb, lt-ltb, le-ltb}
 use Rattle.columns.specs.Column.{pick}
 use Rattle.sheet.specs.Line.{Line}
@@ -24,23 +22,11 @@ use Rattle.refusals.specs.Rows.{Passed}
 use Rattle.refusals.specs.RowsLaws.{passed-kept}
 use Rattle.tables.specs.Tables.{decls-of}
 use Rattle.bits.specs.Bits.{has, inserted, cleared, united}
-use Rattle.bits.specs.BitsLaws.{length-inserted, inserted-far, inserted-same, inserted-other, length-cleared, cleared-far, cleared-none, length-united, united-far, united-has}
+use Rattle.bits.specs.BitsLaws.{row-room, row-before, has-words, length-inserted, inserted-far, inserted-same, inserted-other, length-cleared, cleared-far, cleared-none, length-united, united-far, united-has}
 use Rattle.namesets.specs.Mentions.{part, arg-of, mentions, named, any, Adds, Lower, of-list, Mentioned}
 use Rattle.namesets.specs.NamesLaws.{any-same, arrow-names, app-low, app-names, tuple-low, tuple-names}
 
--- ---- rows
--- a row stands before the end, and before each later row
-pub row-room : (y n words l : ℕ) → y < n → n * words ≤ l → y * words + words ≤ l
-row-room y n words l h q = let r : suc y * words ≤ l = le-trans (mul-le-mul-right words h) q in rw (suc-mul y words) at r
-
-pub row-before : (c y words : ℕ) → c < y → c * words + words ≤ y * words
-row-before c y words h = row-room c y words (y * words) h (omega arith)
-
--- the set of a row by its words
-has-words : (s s′ : List ℕ) (at m : ℕ) → getD s′ (at + m / 64) 0 ≡ getD s (at + m / 64) 0 → has s′ at m ≡ has s at m
-unfolding has
-has-words s s′ at m e = rw e
-
+-- ---- tests
 or-false : (c : Bool) → c ≡ (c || false)
 or-false true = refl
 or-false false = refl

@@ -3,16 +3,16 @@ use mathlib.Core.Path.{_≡_, refl, ap, ap₂, sym, _∙_}
 use mathlib.Core.Logic.{_↔_, _⊎_, inl, inr, ⊎-elim}
 use mathlib.Core.List.{List, [], _∷_, _++_, List·Memᴰ, List·Memᴰ·head, List·Memᴰ·tail, List·Memᴰ·not-nil, List·Memᴰ·cases-cons}
 use mathlib.Core.Bool.{Bool, true, false, _||_}
-use Prim.Native.Nat.{ℕ, zero, suc, _+_, _*_, _≤_, _<_}
+use Prim.Native.Nat.{ℕ, zero, suc, _+_, _≤_, _<_}
 use native.Mathlib.Omega.{arith}
 use lib.Dec.{eqb, ltb}
 use lib.ListN.{length, getD, length-map, List·getD-map}
-use borrow.Author.Tests.{eq-eqb, eqb-true, eqb-false}
+use borrow.Author.Tests.{eqb-true, eqb-false}
 use Rattle.columns.specs.Column.{pick}
 use Rattle.sheet.specs.Line.{Line, bad, number}
 use Rattle.sheet.specs.ListLaws.{false-true}
 use Rattle.sheet.specs.Sheet.{lines}
-use Rattle.custard.specs.Cty.{Cty, Ctys, TUnit, TAny, TExn, TVar, TInt, TFloat, TConst, TArrow, TApp, TTuple, TBuf, TRef, TInline, nil, cons, gather, gathers, names-of-cty, uninline}
+use Rattle.custard.specs.Cty.{Cty, Ctys, TUnit, TArrow, TApp, gather, gathers, names-of-cty}
 use Rattle.custard.specs.Decl.{Decl, member, position}
 use Rattle.custard.specs.Layout.{positions, names-in}
 use Rattle.custard.specs.Program.{name-line, arg-line, type-line, select, list-of, tree, trees, program}

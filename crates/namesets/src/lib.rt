@@ -1,5 +1,4 @@
 // What goes into the set of the declarations that a type names: those of lower types, and of a name.
-ghost use mathlib.Core.Path.{_≡_};
 ghost use Prim.Native.Nat.{_+_, _*_, _≤_, _<_};
 ghost use lib.ListN.{length};
 ghost use Rattle.sheet.specs.Sheet as sheet;

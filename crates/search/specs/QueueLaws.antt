@@ -1,18 +1,18 @@
 -- The search by a queue of nodes, each of them marked but for the start, which stands first. Assumes nothing.
-use mathlib.Core.Path.{_≡_, refl, ap, sym, _∙_}
-use mathlib.Core.Logic.{_⊎_, inl, inr, ⊎-elim, _≢_}
+use mathlib.Core.Path.{_≡_, ap, sym, _∙_}
+use mathlib.Core.Logic.{_⊎_, inr, ⊎-elim, _≢_}
 use mathlib.Core.List.{List, List·Memᴰ}
 use mathlib.Core.Bool.{Bool, true, false}
-use Prim.Native.Nat.{ℕ, zero, suc, _+_, _≤_, _<_}
+use Prim.Native.Nat.{ℕ, suc, _+_, _≤_, _<_}
 use native.Mathlib.Omega.{arith}
 use native.Mathlib.Numerals.{add-one}
 use native.Mathlib.Decide.{decLt}
 use lib.ListN.{length, getD, set, length-set}
 use lib.Seq.{getD-set-same, getD-set-other}
 use Rattle.custard.specs.Reach.{Reach, one, more}
-use Rattle.custard.specs.Laws.Lists.{trues, true-of}
+use Rattle.custard.specs.Laws.Lists.{trues}
 use Rattle.custard.specs.Laws.Rounds.{At, Le-antisym}
-use Rattle.custard.specs.Laws.Reach.{trues-out, trues-set, mark-at, mark-up, mark-only, reach-further, reach-stays, reached, rank, length-reached, reached-iff}
+use Rattle.custard.specs.Laws.Reach.{trues-out, trues-set, mark-up, mark-only, reach-further, reach-stays, reached, rank, length-reached, reached-iff}
 
 -- where a node stands among the entries up to the last
 pub record Entry (order : List ℕ) (last b : ℕ) : Type 0 where

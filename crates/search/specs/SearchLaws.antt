@@ -1,19 +1,18 @@
 -- Laws of the search: what a row holds, and what answer a table gives for the steps that its rows hold. Assumes nothing.
 use mathlib.Core.Path.{_≡_, refl, ap, sym, _∙_}
 use mathlib.Core.Logic.{_↔_, ⊎-elim}
-use mathlib.Core.List.{List, [], _∷_, List·Memᴰ, List·Memᴰ·head, List·Memᴰ·tail, List·Memᴰ·not-nil, List·Memᴰ·cases-cons}
+use mathlib.Core.List.{List, _∷_, List·Memᴰ, List·Memᴰ·head, List·Memᴰ·tail, List·Memᴰ·not-nil, List·Memᴰ·cases-cons}
 use mathlib.Core.Bool.{Bool, true, false}
-use Prim.Native.Nat.{ℕ, zero, suc, _+_, _*_, _≤_, _<_}
+use Prim.Native.Nat.{ℕ, zero, suc, _*_, _≤_, _<_}
 use native.Mathlib.Omega.{arith}
 use native.Mathlib.Decide.{ℕ-discrete}
-use lib.Dec.{T}
-use lib.ListN.{length, getD}
+use lib.ListN.{length}
 use Rattle.columns.specs.Column.{pick}
 use Rattle.sheet.specs.ListLaws.{false-true, same-test}
 use Rattle.custard.specs.Reach.{Reach, one, more, cyclic}
-use Rattle.custard.specs.Laws.Lists.{trues, true-of}
-use Rattle.custard.specs.Laws.Rounds.{At, Le, Le-antisym}
-use Rattle.custard.specs.Laws.Reach.{reach-map, cyclic-sound, cyclic-complete, reached, rank, length-reached, reached-iff}
+use Rattle.custard.specs.Laws.Lists.{trues}
+use Rattle.custard.specs.Laws.Rounds.{Le-antisym}
+use Rattle.custard.specs.Laws.Reach.{cyclic-sound, cyclic-complete, reached, rank, length-reached, reached-iff}
 use Rattle.bits.specs.Bits.{has}
 use Rattle.search.specs.Search.{Steps, those, steps, marks, answer, Searched}
 use Rattle.search.specs.declared.Found.{Found}

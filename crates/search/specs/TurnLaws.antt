@@ -1,24 +1,23 @@
 -- What holds in the loops of the search, and what a turn of each makes of it. Assumes nothing.
-use mathlib.Core.Path.{_≡_, refl, ap, sym, _∙_}
-use mathlib.Core.Logic.{_≢_, inl, ⊎-elim}
+use mathlib.Core.Path.{_≡_, refl, sym, _∙_}
+use mathlib.Core.Logic.{_≢_, inl}
 use mathlib.Core.List.{List, [], _∷_, List·Memᴰ}
 use mathlib.Core.Bool.{Bool, true, false, _&&_, not}
-use Prim.Native.Nat.{ℕ, zero, suc, _+_, _-_, _*_, _/_, _^_, _≤_, _<_}
-use native.Mathlib.Nat.{suc-mul, mul-le-mul-right, le-trans}
+use Prim.Native.Nat.{ℕ, suc, _+_, _-_, _*_, _/_, _^_, _≤_, _<_}
+use native.Mathlib.Nat.{mul-le-mul-right}
 use native.Mathlib.Omega.{arith}
 use borrow.Author.Tests.{not-true}
 use lib.ListN.{length, getD, set, length-set}
 use lib.Seq.{getD-set-same, getD-set-other, ext-getD}
-use Rattle.columns.specs.Column.{pick}
 use Rattle.sheet.specs.ListLaws.{both, contrary}
 use Rattle.sheet.specs.Sheet.{first}
 use Rattle.sheet.specs.FirstLaws.{first-holds, first-before}
 use Rattle.custard.specs.Reach.{Reach, cyclic}
-use Rattle.custard.specs.Laws.Lists.{trues, length-table, getD-table, getD-table-past, true-of}
+use Rattle.custard.specs.Laws.Lists.{trues, length-table, getD-table, true-of}
 use Rattle.custard.specs.Laws.Rounds.{At, At-lt, cases-eq}
-use Rattle.custard.specs.Laws.Reach.{cyclic-sound, cyclic-complete, reached, rank}
+use Rattle.custard.specs.Laws.Reach.{cyclic-sound, cyclic-complete}
 use Rattle.bits.specs.Bits.{has, inserted, cleared}
-use Rattle.bits.specs.BitsLaws.{length-inserted, inserted-same, inserted-other, length-cleared, cleared-none}
+use Rattle.bits.specs.BitsLaws.{row-room, length-inserted, inserted-same, inserted-other, length-cleared, cleared-none}
 use Rattle.search.specs.declared.Found.the-variants.{Start, Reached}
 use Rattle.bits.specs.Outside.{outside}
 use Rattle.search.specs.Search.{Steps, steps, marks, answer, Searched}
@@ -132,9 +131,7 @@ module _ (t : List ℕ) (words n k : ℕ) where
 
     -- the row of an entry stands in the table
     pub outer-row : head ≤ last → getD qs head 0 * words + words ≤ length t
-    outer-row h =
-        let r : suc (getD qs head 0) * words ≤ length t = le-trans (mul-le-mul-right words (o .state .node head h)) (o .table .long) in
-        rw (suc-mul (getD qs head 0) words) at r
+    outer-row h = row-room (getD qs head 0) n words (length t) (o .state .node head h) (o .table .long)
 
     pub outer-place : head ≤ last → getD qs head 0 * words < 2 ^ 64
     outer-place h =

@@ -1,6 +1,5 @@
 // The search through a table of steps: what a node reaches, left where it reaches itself.
 use bits::WORD;
-ghost use mathlib.Core.Path.{_≡_};
 ghost use Prim.Native.Nat.{_≤_, _<_};
 ghost use lib.ListN.{length};
 ghost use Rattle.search.specs.Search.{Steps, Searched};

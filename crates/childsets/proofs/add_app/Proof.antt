@@ -1,6 +1,5 @@
 -- `childsets::add_app` meets its contract. Assumes nothing.
-use mathlib.Core.Path.{_≡_, refl, sym, _∙_}
-use native.Mathlib.Omega.{arith}
+use mathlib.Core.Path.{_∙_}
 use Rattle.namesets.specs.NamesLaws.{app-name, app-low}
 use Rattle.namesets.specs.AddsLaws.{row-in, adds-app}
 use borrow.Author.Needs.{needs}

@@ -1,10 +1,9 @@
 -- `childsets::add_arrow` meets its contract. Assumes nothing.
-use mathlib.Core.Path.{_≡_, refl, sym, _∙_}
+use mathlib.Core.Path.{_∙_}
 use native.Mathlib.Omega.{arith}
 use Rattle.sheet.specs.Sheet.{lines}
 use Rattle.namesets.specs.NamesLaws.{arrow-low}
 use Rattle.namesets.specs.AddsLaws.{kept, adds-arrow}
-use borrow.Author.Needs.{needs}
 use Rattle.childsets.proofs.add_arrow.Statement.{statement}
 use Rattle.childsets.proofs.add_arrow.Tie as tie
 

@@ -1,6 +1,4 @@
 -- `childsets::add_child` meets its contract. Assumes nothing.
-use mathlib.Core.Path.{_≡_, refl, sym, _∙_}
-use native.Mathlib.Omega.{arith}
 use Rattle.namesets.specs.AddsLaws.{row-in, adds-child}
 use borrow.Author.Needs.{needs}
 use Rattle.childsets.proofs.add_child.Statement.{statement}

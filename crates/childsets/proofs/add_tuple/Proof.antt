@@ -1,6 +1,4 @@
 -- `childsets::add_tuple` meets its contract. Assumes nothing.
-use mathlib.Core.Path.{_≡_, refl, sym, _∙_}
-use native.Mathlib.Omega.{arith}
 use Rattle.namesets.specs.NamesLaws.{tuple-low}
 use Rattle.namesets.specs.AddsLaws.{row-in, adds-tuple}
 use borrow.Author.Needs.{needs}

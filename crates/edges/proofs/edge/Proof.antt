@@ -1,7 +1,7 @@
 -- `edges::edge` meets its contract. Assumes nothing.
 use native.Mathlib.Omega.{arith}
 use lib.ListN.{length}
-use Rattle.namesets.specs.AddsLaws.{row-room}
+use Rattle.bits.specs.BitsLaws.{row-room}
 use Rattle.edges.specs.EdgesLaws.{edge-none, edge-some}
 use borrow.Author.Needs.{needs}
 use Rattle.edges.proofs.edge.Statement.{statement}

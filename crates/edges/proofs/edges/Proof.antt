@@ -4,7 +4,7 @@ use Prim.Native.Nat.{_-_, _≤_}
 use native.Mathlib.Omega.{arith}
 use lib.ListN.{length}
 use borrow.Author.Needs.{needs}
-use Rattle.namesets.specs.AddsLaws.{row-room}
+use Rattle.bits.specs.BitsLaws.{row-room}
 use Rattle.edges.specs.Edges.{Edges}
 use Rattle.edges.specs.EdgesLaws.{edges-more}
 use Rattle.edges.proofs.edges.Statement.{statement}

@@ -1,6 +1,7 @@
 -- `namesets::add_type` meets its contract. Assumes nothing.
 use native.Mathlib.Omega.{arith}
-use Rattle.namesets.specs.AddsLaws.{row-before, adds-type}
+use Rattle.bits.specs.BitsLaws.{row-before}
+use Rattle.namesets.specs.AddsLaws.{adds-type}
 use borrow.Author.Needs.{needs}
 use Rattle.namesets.proofs.add_type.Statement.{statement}
 use Rattle.namesets.proofs.add_type.Tie as tie
