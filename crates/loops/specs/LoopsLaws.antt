@@ -1,6 +1,6 @@
 -- One node more, and what a table of steps says of the steps that it holds. Assumes nothing.
 use mathlib.Core.Path.{_≡_, ap, _∙_}
-use mathlib.Core.List.{List}
+use mathlib.Core.List.{List, List·Memᴰ}
 use mathlib.Core.Bool.{true, false}
 use Prim.Native.Nat.{ℕ, _+_, _≤_, _<_}
 use native.Mathlib.Omega.{arith}
@@ -9,10 +9,10 @@ use lib.ListN.{length, getD, set, length-set}
 use lib.Seq.{getD-set-same, getD-set-other}
 use Rattle.sheet.specs.ListLaws.{contrary}
 use Rattle.sheet.specs.Sheet.{first}
-use Rattle.sheet.specs.FirstLaws.{place-unique, first-place, first-congr}
+use Rattle.sheet.specs.FirstLaws.{place-unique, first-place, first-before, first-congr}
 use Rattle.custard.specs.Output.{bit}
-use Rattle.custard.specs.Reach.{cyclic}
-use Rattle.custard.specs.Laws.Reach.{rank, rank-bound, cyclic-complete}
+use Rattle.custard.specs.Reach.{Reach, cyclic}
+use Rattle.custard.specs.Laws.Reach.{rank, rank-less, rank-bound, cyclic-complete}
 use Rattle.search.specs.declared.Found.{Found}
 use Rattle.search.specs.declared.Found.the-variants.{Start, Reached}
 use Rattle.search.specs.Search.{steps, Searched}
@@ -78,3 +78,19 @@ module _ (next : ℕ → List ℕ) (n words : ℕ) (t : List ℕ) (h : Holds nex
   pub first-as : (k : ℕ) → k ≤ n → First (steps n words t) n k s s′ → First next n k s s′
   first-as k l r =
       record { is = r .is ∙ first-congr (cyclic (steps n words t) n) (cyclic next n) n (λ i j. holds-cyclic next n words t h i j); before = ranked-as k l (r .before) }
+
+-- ---- where no node reaches itself
+module _ (next : ℕ → List ℕ) (n : ℕ) (within : (a b : ℕ) → List·Memᴰ b (next a) → b < n) (s s′ : List ℕ) (r : First next n n s s′) where
+  pub none-loops : (k : ℕ) → k < n → Reach next k k → ⊥
+  none-loops k h w =
+      contrary (cyclic next n k) (cyclic-complete next n k within w) (first-before (cyclic next n) n k (omega (arith, r .is)))
+
+  -- each step lowers the rank,
+  pub ranks-fall : (a b : ℕ) → a < n → List·Memᴰ b (next a) → getD s′ b 0 < getD s′ a 0
+  ranks-fall a b h m =
+      let l : b < n = within a b m in
+      rw (r .before .ranks b l, r .before .ranks a h) (rank-less next n within a b m (none-loops b l))
+
+  -- which is below the number of nodes.
+  pub ranks-below : (a : ℕ) → a < n → getD s′ a 0 < n
+  ranks-below a h = rw (r .before .ranks a h) (rank-bound next n within a h (none-loops a h))
