@@ -74,7 +74,7 @@ max-zero-of : (x y : ℕ) → y ≡ 0 → max x y ≡ x
 max-zero-of x y e = omega arith
 
 -- a bit of the or is set where one of the two bits is
-or-one : (x y : ℕ) → x < 2 → y < 2 → eqb (max x y) 1 ≡ (eqb x 1 || eqb y 1)
+pub or-one : (x y : ℕ) → x < 2 → y < 2 → eqb (max x y) 1 ≡ (eqb x 1 || eqb y 1)
 or-one zero zero h k = refl
 or-one zero (suc zero) h k = refl
 or-one zero (suc (suc y)) h k = absurd (omega arith)

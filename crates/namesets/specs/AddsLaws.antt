@@ -1,13 +1,16 @@
 -- What is put into the set of a type, and the set of one type more. Assumes nothing.
-use mathlib.Core.Path.{_≡_, refl, ap, sym, _∙_}
+use mathlib.Core.Path.{_≡_, refl, ap, ap₂, sym, _∙_}
 use mathlib.Core.List.{List}
 use mathlib.Core.Bool.{Bool, true, false, _||_}
-use Prim.Native.Nat.{ℕ, _+_, _*_, _/_, _≤_, _<_}
-use native.Mathlib.Numerals.{add-one}
+use Prim.Native.Nat.{ℕ, zero, suc, _+_, _*_, _/_, _%_, _≤_, _<_}
+use native.Mathlib.Nat.{div-eq-of-lt}
 use native.Mathlib.Omega.{arith}
 use native.Mathlib.Decide.{ℕ-discrete}
 use lib.Dec.{eqb}
-use lib.ListN.{length}
+use lib.Bits.{bitOr}
+use lib.ListN.{length, getD, set, length-set}
+use lib.Pow.{pow-pos}
+use lib.Seq.{getD-set-same, getD-set-other}
 use borrow.Author.Tests.{eq-eqb, ne-eqb, lt-ltb, le-ltb}
 use Rattle.columns.specs.Column.{pick}
 use Rattle.sheet.specs.Line.{Line}
@@ -21,9 +24,9 @@ use Rattle.limits.specs.Limits.{counts-of}
 use Rattle.refusals.specs.Rows.{Passed}
 use Rattle.refusals.specs.RowsLaws.{passed-kept}
 use Rattle.tables.specs.Tables.{decls-of}
-use Rattle.bits.specs.Bits.{has, inserted, cleared, united}
-use Rattle.bits.specs.BitsLaws.{row-room, row-before, has-words, length-inserted, inserted-far, inserted-same, inserted-other, length-cleared, cleared-far, cleared-none, length-united, united-far, united-has}
-use Rattle.namesets.specs.Mentions.{part, arg-of, mentions, named, any, Adds, Lower, of-list, Mentioned}
+use Rattle.bits.specs.Bits.{digit, has, inserted, cleared, united}
+use Rattle.bits.specs.BitsLaws.{row-room, row-before, has-words, digit-lt, digit-or, or-one, length-inserted, inserted-far, inserted-same, inserted-other, length-cleared, cleared-far, cleared-none, length-united, united-far, united-has}
+use Rattle.namesets.specs.Mentions.{part, arg-of, mentions, named, any, Adds, Lower, Inside, word-of, of-list, Mentioned}
 use Rattle.namesets.specs.NamesLaws.{any-same, arrow-names, app-low, app-names, tuple-low, tuple-names}
 
 -- ---- tests
@@ -87,23 +90,72 @@ module _ (words y : ℕ) where
       go m (no n) w = inserted-other s (y * words) d w m n ∙ rw (ne-eqb d m (λ z. n (sym z))) (or-false (has s (y * words) m))
 
 -- ---- a list
-module _ (ls : List Line) (words y first : ℕ) (s : List ℕ) where
-  pub list-none : Adds words y (of-list ls words s first 0) s s
-  unfolding of-list any
-  list-none = adds-none words y s
+-- the first w words of the set of type y with those of a list's types
+pub record Words (ls : List Line) (words y first k : ℕ) (s t : List ℕ) (w : ℕ) : Type 0 where
+  pub long : length t ≡ length s
+  pub below : (i : ℕ) → i < y * words → getD t i 0 ≡ getD s i 0
+  pub done : (i : ℕ) → i < w → getD t (y * words + i) 0 ≡ bitOr (getD s (y * words + i) 0) (word-of ls words s first i k)
+  pub rest : (i : ℕ) → w ≤ i → getD t (y * words + i) 0 ≡ getD s (y * words + i) 0
 
-  pub list-more : (j : ℕ) (t u : List ℕ) (c : ℕ)
-      → Adds words y (of-list ls words s first j) s t
-      → c ≡ arg-of ls (first + j)
-      → arg-of ls (first + j) < y
-      → Adds words y (has t (c * words)) t u
-      → Adds words y (of-list ls words s first (j + 1)) s u
-  unfolding of-list any
-  list-more j t u c a e l b =
-      let k : c < y = rw e l in
-      rw
-      (add-one j)
-      (adds-both words y (of-list ls words s first j) (has s (arg-of ls (first + j) * words)) s t u a (adds-same words y (has t (c * words)) (has s (arg-of ls (first + j) * words)) t u (λ m h. adds-lower words y (of-list ls words s first j) s t a c m k h ∙ ap (λ (x : ℕ). has s (x * words) m) e) b))
+module _ (ls : List Line) (words y first : ℕ) (s : List ℕ) where
+  pub words-none : (k : ℕ) → Words ls words y first k s s 0
+  words-none k = record { long = refl; below = λ i h. refl; done = λ i h. absurd (omega arith); rest = λ i h. refl }
+
+  -- the sets of lower types are as they were
+  word-same : (t : List ℕ) (w k : ℕ) → w < words → Lower ls y first k → ((i : ℕ) → i < y * words → getD t i 0 ≡ getD s i 0) → word-of ls words t first w k ≡ word-of ls words s first w k
+  unfolding word-of
+  word-same t w zero h l e = refl
+  word-same t w (suc k) h l e =
+      ap₂ bitOr (word-same t w k h (λ j q. l j (omega arith)) e) (e (arg-of ls (first + k) * words + w) (omega (arith, row-before (arg-of ls (first + k)) y words (l k (omega arith) .1))))
+
+  pub words-more : (k : ℕ) (t : List ℕ) (w x : ℕ)
+      → Words ls words y first k s t w
+      → w < words
+      → y * words + words ≤ length s
+      → Lower ls y first k
+      → x ≡ word-of ls words t first w k
+      → Words ls words y first k s (set t (y * words + w) (bitOr (getD t (y * words + w) 0) x)) (w + 1)
+  words-more k t w x r h l q e =
+      let v : ℕ = bitOr (getD t (y * words + w) 0) x in
+      record {
+        long = length-set t (y * words + w) v ∙ r .long;
+        below = λ i j. getD-set-other t (y * words + w) i v 0 (λ z. omega arith) ∙ r .below i j;
+        done = λ i j. go i j (ℕ-discrete i w);
+        rest = λ i j. getD-set-other t (y * words + w) (y * words + i) v 0 (λ z. omega arith) ∙ r .rest i (omega arith);
+      }
+    where
+      go : (i : ℕ) → i < w + 1 → Dec (i ≡ w) → getD (set t (y * words + w) (bitOr (getD t (y * words + w) 0) x)) (y * words + i) 0 ≡ bitOr (getD s (y * words + i) 0) (word-of ls words s first i k)
+      go i j (yes z) = rw z (getD-set-same t (y * words + w) _ 0 (omega (arith, r .long)) ∙ ap₂ bitOr (r .rest w (omega arith)) (e ∙ word-same t w k h q (r .below)))
+      go i j (no z) = getD-set-other t (y * words + w) (y * words + i) _ 0 (λ u. z (omega arith)) ∙ r .done i (omega arith)
+
+  -- a bit of the united words is set where one of the sets has it
+  word-any : (w c k : ℕ) → eqb (digit (word-of ls words s first w k) c) 1 ≡ any (λ j. eqb (digit (getD s (arg-of ls (first + j) * words + w) 0) c) 1) k
+  unfolding word-of any
+  word-any w c zero = ap (λ (x : ℕ). eqb (x % 2) 1) (div-eq-of-lt (pow-pos c))
+  word-any w c (suc k) =
+      let p : ℕ = word-of ls words s first w k in
+      let q : ℕ = getD s (arg-of ls (first + k) * words + w) 0 in
+      ap (λ (x : ℕ). eqb x 1) (digit-or p q c) ∙ or-one (digit p c) (digit q c) (digit-lt p c) (digit-lt q c) ∙ ap (λ (x : Bool). x || eqb (digit q c) 1) (word-any w c k)
+
+  -- all words are done
+  pub words-adds : (k : ℕ) (t : List ℕ) → Words ls words y first k s t words → Adds words y (of-list ls words s first k) s t
+  unfolding of-list has
+  words-adds k t r =
+      record {
+        long = r .long;
+        below = r .below;
+        row = λ m h.
+            let x : ℕ = getD s (y * words + m / 64) 0 in
+            let z : ℕ = word-of ls words s first (m / 64) k in
+            ap (λ (u : ℕ). eqb (digit u (m % 64)) 1) (r .done (m / 64) (omega arith))
+            ∙ ap (λ (u : ℕ). eqb u 1) (digit-or x z (m % 64))
+            ∙ or-one (digit x (m % 64)) (digit z (m % 64)) (digit-lt x (m % 64)) (digit-lt z (m % 64))
+            ∙ ap (λ (u : Bool). eqb (digit x (m % 64)) 1 || u) (word-any (m / 64) (m % 64) k);
+      }
+
+  -- what is asked of each word
+  pub list-inside : (k : ℕ) (t : List ℕ) → Lower ls y first k → y * words + words ≤ length t → Inside ls words t first k
+  list-inside k t l h j q = (l j q .0, omega (arith, row-before (arg-of ls (first + j)) y words (l j q .1)))
 
 -- its types name what their sets hold
 pub list-names : (ls : List Line) (words y first k : ℕ) (s : List ℕ) → Mentioned ls words s y → Lower ls y first k → (m : ℕ) → m < 64 * words → of-list ls words s first k m ≡ any (λ j. mentions ls (arg-of ls (first + j)) m) k

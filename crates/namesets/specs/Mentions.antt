@@ -3,6 +3,7 @@ use mathlib.Core.Path.{_≡_}
 use mathlib.Core.List.{List, [], _∷_}
 use mathlib.Core.Bool.{Bool, false, _||_}
 use Prim.Native.Nat.{ℕ, zero, suc, _+_, _*_, _≤_, _<_}
+use lib.Bits.{bitOr}
 use lib.ListN.{length, getD}
 use Rattle.sheet.specs.Line.{Line, number}
 use Rattle.custard.specs.Cty.{TUnit}
@@ -42,6 +43,15 @@ pub record Adds (words y : ℕ) (p : ℕ → Bool) (s s′ : List ℕ) : Type 0 
 -- the k types from A line `first` on are there and lower than y
 abbrev pub Lower : List Line → ℕ → ℕ → ℕ → Type 0
 Lower ls y first k = (j : ℕ) → j < k → (first + j < count-of arg-line ls) × (arg-of ls (first + j) < y)
+
+-- the k types from A line `first` on have sets
+abbrev pub Inside : List Line → ℕ → List ℕ → ℕ → ℕ → Type 0
+Inside ls words s first k = (j : ℕ) → j < k → (first + j < count-of arg-line ls) × (arg-of ls (first + j) * words + words ≤ length s)
+
+-- word w of these sets, united
+unfoldable pub word-of : List Line → ℕ → List ℕ → ℕ → ℕ → ℕ → ℕ
+word-of ls words s first w zero = 0
+word-of ls words s first w (suc k) = bitOr (word-of ls words s first w k) (getD s (arg-of ls (first + k) * words + w) 0)
 
 -- one of these types has m in its set
 unfoldable pub of-list : List Line → ℕ → List ℕ → ℕ → ℕ → ℕ → Bool
