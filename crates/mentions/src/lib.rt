@@ -1,0 +1,42 @@
+// The declarations that each type names, as sets, one for each type of a sheet that passed rows 1 to 7. The set of a type
+// is the union of those of its children, which are lower, and of the name of a `TApp`: types are gone over as lines, not as trees.
+ghost use Prim.Native.Nat.{_+_, _*_, _≤_, _<_};
+ghost use lib.ListN.{length};
+ghost use Rattle.sheet.specs.Sheet as sheet;
+ghost use Rattle.custard.specs.Program as program;
+ghost use Rattle.custard.specs.Rows as rows;
+ghost use Rattle.tables.specs.Tables as tables;
+ghost use Rattle.namesets.specs.Mentions.{Mentioned};
+
+// The set of type y, after those of the types before it.
+fn add_line(s: &[u8], t: &[u32], sets: &mut [u64], words: usize, y: usize)
+    requires { ⌜ tables.Tabled (now s) (now t) ⌝ }
+    requires { ⌜ Mentioned (sheet.lines 6 (now s)) words (now sets) y ⌝ }
+    requires { ⌜ y < rows.count-of program.type-line (sheet.lines 6 (now s)) ⌝ }
+    ensures { λ _. ⌜ Mentioned (sheet.lines 6 (now (s .entry))) words (now (sets .exit)) (y + 1) ⌝ }
+{
+    bits::clear(sets, y * words, words);
+    let kind = tables::type_number(s, t, y, 0);
+    match kind {
+        7 => childsets::add_arrow(s, t, sets, words, y),
+        8 => childsets::add_app(s, t, sets, words, y),
+        9 => childsets::add_tuple(s, t, sets, words, y),
+        11 => childsets::add_child(s, t, sets, words, y, 2),
+        10 | 12 => childsets::add_child(s, t, sets, words, y, 1),
+        0..=6 => {}
+        _ => {}
+    }
+}
+
+// The sets of all types, of words words each.
+pub fn mentions(s: &[u8], t: &[u32], sets: &mut [u64], words: usize)
+    requires { ⌜ tables.Tabled (now s) (now t) ⌝ }
+    requires { ⌜ tables.decls-of (sheet.lines 6 (now s)) ≤ 64 * words ⌝ }
+    requires { ⌜ rows.count-of program.type-line (sheet.lines 6 (now s)) * words ≤ length (now sets) ⌝ }
+    ensures { λ _. ⌜ Mentioned (sheet.lines 6 (now (s .entry))) words (now (sets .exit)) (rows.count-of program.type-line (sheet.lines 6 (now (s .entry)))) ⌝ }
+{
+    let n = tables::types(s, t);
+    for y in 0..n {
+        add_line(s, t, sets, words, y);
+    }
+}

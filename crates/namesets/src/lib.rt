@@ -1,0 +1,78 @@
+// What goes into the set of the declarations that a type names: those of lower types, and of a name.
+ghost use mathlib.Core.Path.{_≡_};
+ghost use Prim.Native.Nat.{_+_, _*_, _≤_, _<_};
+ghost use lib.ListN.{length};
+ghost use Rattle.sheet.specs.Sheet as sheet;
+ghost use Rattle.custard.specs.Program as program;
+ghost use Rattle.custard.specs.Rows as rows;
+ghost use Rattle.tables.specs.Tables as tables;
+ghost use Rattle.bits.specs.Bits as bits;
+ghost use Rattle.namesets.specs.Mentions.{Adds, Lower, Inside};
+ghost use Rattle.namesets.specs.Mentions as spec;
+
+// Puts the declarations of type c into the set of type y.
+pub fn add_type(sets: &mut [u64], words: usize, y: usize, c: usize)
+    requires { ⌜ (c < y) × (y * words + words ≤ length (now sets)) ⌝ }
+    ensures { λ _. ⌜ Adds words y (bits.has (now (sets .entry)) (c * words)) (now (sets .entry)) (now (sets .exit)) ⌝ }
+{
+    unions::unite_earlier(sets, y * words, c * words, words);
+}
+
+// Word w of the sets of the k types from A line first on, united.
+fn list_word(
+    s: &[u8],
+    t: &[u32],
+    sets: &[u64],
+    words: usize,
+    w: usize,
+    first: usize,
+    k: usize,
+) -> u64
+    requires { ⌜ tables.Tabled (now s) (now t) ⌝ }
+    requires { ⌜ Inside (sheet.lines 6 (now s)) words (now sets) first k ⌝ }
+    requires { ⌜ w < words ⌝ }
+    ensures { λ r. ⌜ r ≡ spec.word-of (sheet.lines 6 (now (s .entry))) words (now (sets .entry)) first w k ⌝ }
+{
+    let mut x = 0;
+    for j in 0..k {
+        let c = tables::arg(s, t, first + j);
+        x |= sets[c * words + w];
+    }
+    x
+}
+
+// Puts the declarations of the k types from A line first on into the set of type y.
+pub fn add_list(
+    s: &[u8],
+    t: &[u32],
+    sets: &mut [u64],
+    words: usize,
+    y: usize,
+    first: usize,
+    k: usize,
+)
+    requires { ⌜ tables.Tabled (now s) (now t) ⌝ }
+    requires { ⌜ Lower (sheet.lines 6 (now s)) y first k ⌝ }
+    requires { ⌜ y * words + words ≤ length (now sets) ⌝ }
+    ensures { λ _. ⌜ Adds words y (spec.of-list (sheet.lines 6 (now (s .entry))) words (now (sets .entry)) first k) (now (sets .entry)) (now (sets .exit)) ⌝ }
+{
+    let row = y * words;
+    for w in 0..words {
+        let more = list_word(s, t, sets, words, w, first, k);
+        let x = sets[row + w];
+        sets[row + w] = x | more;
+    }
+}
+
+// Puts the declaration of name n, if it has one, into the set of type y.
+pub fn add_name(s: &[u8], t: &[u32], sets: &mut [u64], words: usize, y: usize, n: usize)
+    requires { ⌜ tables.Tabled (now s) (now t) ⌝ }
+    requires { ⌜ n < rows.count-of program.name-line (sheet.lines 6 (now s)) ⌝ }
+    requires { ⌜ (tables.decls-of (sheet.lines 6 (now s)) ≤ 64 * words) × (y * words + words ≤ length (now sets)) ⌝ }
+    ensures { λ _. ⌜ Adds words y (spec.named (sheet.lines 6 (now (s .entry))) n) (now (sets .entry)) (now (sets .exit)) ⌝ }
+{
+    let d = tables::decl_of(s, t, n);
+    if d < tables::decls(s, t) {
+        bits::insert(sets, y * words, d);
+    }
+}

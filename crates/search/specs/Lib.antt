@@ -1,0 +1,4 @@
+pub mod Search
+pub mod SearchLaws
+pub mod QueueLaws
+pub mod TurnLaws

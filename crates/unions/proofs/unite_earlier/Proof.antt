@@ -1,0 +1,53 @@
+-- `unions::unite_earlier` meets its contract: after w turns the first w words are united, and the earlier set stands as it was. Assumes nothing.
+use mathlib.Core.Path.{_≡_, refl, ap, _∙_}
+use Prim.Native.Nat.{_+_, _-_, _≤_}
+use native.Mathlib.Numerals.{add-one}
+use native.Mathlib.Omega.{arith}
+use lib.ListN.{length}
+use borrow.Author.Needs.{needs}
+use Rattle.bits.specs.Bits.{united}
+use Rattle.bits.specs.BitsLaws.{united-far}
+use Rattle.unions.proofs.unite_earlier.Statement.{statement}
+use Rattle.unions.proofs.unite_earlier.Tie as tie
+
+abbrev Inv-loop : tie.InvT-loop
+Inv-loop s₀ to from words w₀ s w = (w ≤ words) × (length s ≡ length s₀) × (s ≡ united s₀ to s₀ from w)
+
+abbrev μ-loop : tie.MeasureT-loop
+μ-loop s₀ to from words w₀ s w = words - w
+
+loop-holds : tie.Need-loop-holds Inv-loop μ-loop
+unfolding united
+loop-holds c = (search needs, refl, refl)
+
+loop-again : tie.Need-loop-again Inv-loop μ-loop
+unfolding united
+loop-again c =
+    let a = c .before .before .before .before .args in
+    let s = c .before .before .before .loop in
+    (search needs, search needs, rw (add-one, s .inv .2, united-far (a .s .now) (a .to) (a .s .now) (a .from) (s .w) (a .from + s .w) (λ k. absurd (omega arith))))
+
+returns : tie.Need-returns Inv-loop μ-loop
+returns c = c .before .loop .inv .2 ∙ ap (united (c .before .before .args .s .now) (c .before .before .args .to) (c .before .before .args .s .now) (c .before .before .args .from)) (omega arith)
+
+pub unite-earlier-spec : {M : Type 1} → statement M
+unite-earlier-spec =
+    tie.close
+    (tie.spec
+    Inv-loop
+    μ-loop
+    loop-holds
+    (λ c. search needs)
+    (λ c. search needs)
+    (λ c. search needs)
+    (λ c. search needs)
+    (λ c. search needs)
+    (λ c. search needs)
+    (λ c. search needs)
+    (λ c. search needs)
+    (λ c. search needs)
+    (λ c. search needs)
+    (λ c. search needs)
+    loop-again
+    (λ c. search needs)
+    returns)
