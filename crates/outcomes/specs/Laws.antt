@@ -1,3 +1,4 @@
 pub mod Shape
 pub mod Ev
 pub mod Fuel
+pub mod Answer
