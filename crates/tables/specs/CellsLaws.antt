@@ -167,9 +167,9 @@ module _ (ls : List Line) where
       let r = row-holds k at w (λ j. numbers w (nth x ls j)) n e s (λ j. numbers-length w (nth x ls j)) i j h q in
       (r .0, r .1 ∙ getD-table (number (nth x ls i)) w j 0 q)
 
-  pub header-cell : (k : ℕ) → k < 12 → Holds 0 k (getD (header (sizes-of ls)) k 0)
+  pub header-cell : (k : ℕ) → k < 12 → (k < length (cells-of ls)) × (getD (cells-of ls) k 0 ≡ getD (header (sizes-of ls)) k 0)
   unfolding sections offset header
-  header-cell k h = holds 0 0 k (getD (header (sizes-of ls)) k 0) refl h refl
+  header-cell k h = let e : 0 + k ≡ k = omega arith in rw e at (holds 0 0 k (getD (header (sizes-of ls)) k 0) refl h refl)
 
   pub type-cell : (y k : ℕ) → y < count-of type-line ls → k < 4 → Holds 12 (y * 4 + k) (number (nth type-line ls y) k)
   unfolding sections offset header
@@ -239,9 +239,22 @@ module _ (b t : List ℕ) (m : Tabled b t) where
   unfolding header
   read-decl d k h q = read 5 (at-decls (sizes-of (lines 6 b))) (d * 6 + k) _ (omega arith) refl (decl-cell (lines 6 b) d k h q)
 
+  pub read-number : (d k : ℕ) → d < decls-of (lines 6 b) → k < 5 → Read t 5 (d * 6 + k) (number (head-line (lines 6 b) d) k)
+  read-number d k h q =
+      let l : Line = head-line (lines 6 b) d in
+      let r = read-decl d k h (omega arith) in
+      record { within = r .within; value = r .value ∙ List·getD-append (numbers 5 l) (letter l ∷ []) 0 k (rw (length-table (number l) 5) q) ∙ getD-table (number l) 5 k 0 q }
+
+  pub read-letter : (d : ℕ) → d < decls-of (lines 6 b) → Read t 5 (d * 6 + 5) (letter (head-line (lines 6 b) d))
+  unfolding table
+  read-letter d h = read-decl d 5 h (omega arith)
+
   pub read-begin : (d k : ℕ) → d ≤ decls-of (lines 6 b) → k < 4 → Read t 6 (d * 4 + k) (getD (begin-row (lines 6 b) d) k 0)
   unfolding header
   read-begin d k h q = read 6 (at-begins (sizes-of (lines 6 b))) (d * 4 + k) _ (omega arith) refl (begin-cell (lines 6 b) d k h q)
+
+  pub read-line : (d : ℕ) → d ≤ decls-of (lines 6 b) → Read t 6 (d * 4) (start (lines 6 b) d)
+  read-line d h = let e : d * 4 + 0 ≡ d * 4 = omega arith in rw e at (read-begin d 0 h (omega arith))
 
   pub read-verdict : (d k : ℕ) → d < decls-of (lines 6 b) → k < 2 → Read t 7 (d * 2 + k) (number (nth verdict-line (lines 6 b) d) k)
   unfolding header

@@ -1,21 +1,15 @@
+-- `tables::arg` meets its contract: the cell is the A line's. Assumes nothing.
+use mathlib.Core.Path.{_∙_}
 use borrow.Author.Needs.{needs}
+use Rattle.tables.specs.CellsLaws.{read-arg}
 use Rattle.tables.proofs.arg.Statement.{statement}
 use Rattle.tables.proofs.arg.Tie as tie
-use Rattle.tables.proofs.arg.Reads as reads
-use Rattle.tables.proofs.arg.Lts as lts
-use Rattle.tables.proofs.cell.Reads as cell-reads
 
--- src/lib.rt:92:5
 cell-requires : tie.Need-cell-requires
-cell-requires c κs = ?
+cell-requires c κs = let a = c .before .before in read-arg (a .args .s .now) (a .args .t .now) (a .pre .0) (a .args .i) (a .pre .1) .within
 
--- src/lib.rt:92:5
-cast-result : tie.Need-cast-result
-cast-result c = search needs
-
--- src/lib.rt:87:1
 returns : tie.Need-returns
-returns c = ?
+returns c = let a = c .before .before .before in c .cell .ensures ∙ read-arg (a .args .s .now) (a .args .t .now) (a .pre .0) (a .args .i) (a .pre .1) .value
 
 pub arg-spec : {M : Type 1} → statement M
-arg-spec = tie.close (tie.spec cell-requires cast-result returns)
+arg-spec = tie.close (tie.spec cell-requires (λ c. search needs) returns)

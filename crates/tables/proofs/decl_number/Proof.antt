@@ -1,24 +1,21 @@
+-- `tables::decl_number` meets its contract: the cell is the D or I line's. Assumes nothing.
+use mathlib.Core.Path.{_∙_}
+use native.Mathlib.Omega.{arith}
+use Rattle.tables.specs.CellsLaws.{read-number}
 use Rattle.tables.proofs.decl_number.Statement.{statement}
 use Rattle.tables.proofs.decl_number.Tie as tie
-use Rattle.tables.proofs.decl_number.Reads as reads
-use Rattle.tables.proofs.decl_number.Lts as lts
-use Rattle.tables.proofs.cell.Reads as cell-reads
 
--- src/lib.rt:101:23
 mul-cell : tie.Need-mul-cell
-mul-cell c = ?
+mul-cell c = let a = c .before .before in omega (arith, read-number (a .args .s .now) (a .args .t .now) (a .pre .0) (a .args .d) (a .args .k) (a .pre .1 .0) (a .pre .1 .1) .within .in-section)
 
--- src/lib.rt:101:23
 add-cell : tie.Need-add-cell
-add-cell c = ?
+add-cell c = let a = c .before .before in omega (arith, read-number (a .args .s .now) (a .args .t .now) (a .pre .0) (a .args .d) (a .args .k) (a .pre .1 .0) (a .pre .1 .1) .within .in-section)
 
--- src/lib.rt:101:5
 cell-requires : tie.Need-cell-requires
-cell-requires c κs = ?
+cell-requires c κs = let a = c .before .before in read-number (a .args .s .now) (a .args .t .now) (a .pre .0) (a .args .d) (a .args .k) (a .pre .1 .0) (a .pre .1 .1) .within
 
--- src/lib.rt:96:1
 returns : tie.Need-returns
-returns c = ?
+returns c = let a = c .before .before .before in c .cell .ensures ∙ read-number (a .args .s .now) (a .args .t .now) (a .pre .0) (a .args .d) (a .args .k) (a .pre .1 .0) (a .pre .1 .1) .value
 
 pub decl-number-spec : {M : Type 1} → statement M
 decl-number-spec = tie.close (tie.spec mul-cell add-cell cell-requires returns)

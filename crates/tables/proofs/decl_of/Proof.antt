@@ -1,21 +1,15 @@
+-- `tables::decl_of` meets its contract: the cell is the name's. Assumes nothing.
+use mathlib.Core.Path.{_∙_}
 use borrow.Author.Needs.{needs}
+use Rattle.tables.specs.CellsLaws.{read-name}
 use Rattle.tables.proofs.decl_of.Statement.{statement}
 use Rattle.tables.proofs.decl_of.Tie as tie
-use Rattle.tables.proofs.decl_of.Reads as reads
-use Rattle.tables.proofs.decl_of.Lts as lts
-use Rattle.tables.proofs.cell.Reads as cell-reads
 
--- src/lib.rt:191:5
 cell-requires : tie.Need-cell-requires
-cell-requires c κs = ?
+cell-requires c κs = let a = c .before .before in read-name (a .args .s .now) (a .args .t .now) (a .pre .0) (a .args .n) (a .pre .1) .within
 
--- src/lib.rt:191:5
-cast-result : tie.Need-cast-result
-cast-result c = search needs
-
--- src/lib.rt:186:1
 returns : tie.Need-returns
-returns c = ?
+returns c = let a = c .before .before .before in c .cell .ensures ∙ read-name (a .args .s .now) (a .args .t .now) (a .pre .0) (a .args .n) (a .pre .1) .value
 
 pub decl-of-spec : {M : Type 1} → statement M
-decl-of-spec = tie.close (tie.spec cell-requires cast-result returns)
+decl-of-spec = tie.close (tie.spec cell-requires (λ c. search needs) returns)

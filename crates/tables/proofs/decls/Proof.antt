@@ -1,19 +1,17 @@
+-- `tables::decls` meets its contract: the header has the count. Assumes nothing.
+use native.Mathlib.Omega.{arith}
+use Rattle.tables.specs.CellsLaws.{read-decls}
 use Rattle.tables.proofs.decls.Statement.{statement}
 use Rattle.tables.proofs.decls.Tie as tie
-use Rattle.tables.proofs.decls.Reads as reads
-use Rattle.tables.proofs.decls.Lts as lts
 
--- src/lib.rt:74:5
 shared-slice-read-result : tie.Need-shared-slice-read-result
-shared-slice-read-result c = ?
+shared-slice-read-result c = read-decls (c .before .args .s .now) (c .before .args .t .now) (c .before .pre) .0
 
--- src/lib.rt:74:5
 cast-result : tie.Need-cast-result
-cast-result c = ?
+cast-result c = omega (arith, c .shared-slice-known .given 1)
 
--- src/lib.rt:70:1
 returns : tie.Need-returns
-returns c = ?
+returns c = read-decls (c .before .args .s .now) (c .before .args .t .now) (c .before .pre) .1
 
 pub decls-spec : {M : Type 1} → statement M
 decls-spec = tie.close (tie.spec shared-slice-read-result cast-result returns)

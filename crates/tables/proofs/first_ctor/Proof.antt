@@ -1,29 +1,22 @@
+-- `tables::first_ctor` meets its contract: the cell is the count of lines before the declaration. Assumes nothing.
+use mathlib.Core.Path.{_∙_}
+use native.Mathlib.Omega.{arith}
 use borrow.Author.Needs.{needs}
+use Rattle.tables.specs.CellsLaws.{read-begin}
 use Rattle.tables.proofs.first_ctor.Statement.{statement}
 use Rattle.tables.proofs.first_ctor.Tie as tie
-use Rattle.tables.proofs.first_ctor.Reads as reads
-use Rattle.tables.proofs.first_ctor.Lts as lts
-use Rattle.tables.proofs.cell.Reads as cell-reads
 
--- src/lib.rt:137:24
 mul-cell : tie.Need-mul-cell
-mul-cell c = ?
+mul-cell c = let a = c .before .before in omega (arith, read-begin (a .args .s .now) (a .args .t .now) (a .pre .0) (a .args .d) 2 (a .pre .1) (omega arith) .within .in-section)
 
--- src/lib.rt:137:24
 add-cell : tie.Need-add-cell
-add-cell c = ?
+add-cell c = let a = c .before .before in omega (arith, read-begin (a .args .s .now) (a .args .t .now) (a .pre .0) (a .args .d) 2 (a .pre .1) (omega arith) .within .in-section)
 
--- src/lib.rt:137:5
 cell-requires : tie.Need-cell-requires
-cell-requires c κs = ?
+cell-requires c κs = let a = c .before .before in read-begin (a .args .s .now) (a .args .t .now) (a .pre .0) (a .args .d) 2 (a .pre .1) (omega arith) .within
 
--- src/lib.rt:137:5
-cast-result : tie.Need-cast-result
-cast-result c = search needs
-
--- src/lib.rt:132:1
 returns : tie.Need-returns
-returns c = ?
+returns c = let a = c .before .before .before in c .cell .ensures ∙ read-begin (a .args .s .now) (a .args .t .now) (a .pre .0) (a .args .d) 2 (a .pre .1) (omega arith) .value
 
 pub first-ctor-spec : {M : Type 1} → statement M
-first-ctor-spec = tie.close (tie.spec mul-cell add-cell cell-requires cast-result returns)
+first-ctor-spec = tie.close (tie.spec mul-cell add-cell cell-requires (λ c. search needs) returns)

@@ -1,24 +1,24 @@
+-- `tables::is_import` meets its contract: the cell is the D or I line's letter. Assumes nothing.
+use mathlib.Core.Path.{_∙_}
+use native.Mathlib.Omega.{arith}
+use mathlib.Core.Path.{ap}
+use Prim.Native.Nat.{ℕ}
+use lib.Dec.{eqb}
+use Rattle.tables.specs.CellsLaws.{read-letter}
 use Rattle.tables.proofs.is_import.Statement.{statement}
 use Rattle.tables.proofs.is_import.Tie as tie
-use Rattle.tables.proofs.is_import.Reads as reads
-use Rattle.tables.proofs.is_import.Lts as lts
-use Rattle.tables.proofs.cell.Reads as cell-reads
 
--- src/lib.rt:110:23
 mul-cell : tie.Need-mul-cell
-mul-cell c = ?
+mul-cell c = let a = c .before .before in omega (arith, read-letter (a .args .s .now) (a .args .t .now) (a .pre .0) (a .args .d) (a .pre .1) .within .in-section)
 
--- src/lib.rt:110:23
 add-cell : tie.Need-add-cell
-add-cell c = ?
+add-cell c = let a = c .before .before in omega (arith, read-letter (a .args .s .now) (a .args .t .now) (a .pre .0) (a .args .d) (a .pre .1) .within .in-section)
 
--- src/lib.rt:110:5
 cell-requires : tie.Need-cell-requires
-cell-requires c κs = ?
+cell-requires c κs = let a = c .before .before in read-letter (a .args .s .now) (a .args .t .now) (a .pre .0) (a .args .d) (a .pre .1) .within
 
--- src/lib.rt:105:1
 returns : tie.Need-returns
-returns c = ?
+returns c = let a = c .before .before .before in ap (λ (x : ℕ). eqb x 73) (c .cell .ensures ∙ read-letter (a .args .s .now) (a .args .t .now) (a .pre .0) (a .args .d) (a .pre .1) .value)
 
 pub is-import-spec : {M : Type 1} → statement M
 is-import-spec = tie.close (tie.spec mul-cell add-cell cell-requires returns)

@@ -1,25 +1,19 @@
+-- `tables::line_of` meets its contract: the cell is the declaration's line. Assumes nothing.
+use mathlib.Core.Path.{_∙_}
+use native.Mathlib.Omega.{arith}
 use borrow.Author.Needs.{needs}
+use Rattle.tables.specs.CellsLaws.{read-line}
 use Rattle.tables.proofs.line_of.Statement.{statement}
 use Rattle.tables.proofs.line_of.Tie as tie
-use Rattle.tables.proofs.line_of.Reads as reads
-use Rattle.tables.proofs.line_of.Lts as lts
-use Rattle.tables.proofs.cell.Reads as cell-reads
 
--- src/lib.rt:119:24
 mul-cell : tie.Need-mul-cell
-mul-cell c = ?
+mul-cell c = let a = c .before .before in omega (arith, read-line (a .args .s .now) (a .args .t .now) (a .pre .0) (a .args .d) (a .pre .1) .within .in-section)
 
--- src/lib.rt:119:5
 cell-requires : tie.Need-cell-requires
-cell-requires c κs = ?
+cell-requires c κs = let a = c .before .before in read-line (a .args .s .now) (a .args .t .now) (a .pre .0) (a .args .d) (a .pre .1) .within
 
--- src/lib.rt:119:5
-cast-result : tie.Need-cast-result
-cast-result c = search needs
-
--- src/lib.rt:114:1
 returns : tie.Need-returns
-returns c = ?
+returns c = let a = c .before .before .before in c .cell .ensures ∙ read-line (a .args .s .now) (a .args .t .now) (a .pre .0) (a .args .d) (a .pre .1) .value
 
 pub line-of-spec : {M : Type 1} → statement M
-line-of-spec = tie.close (tie.spec mul-cell cell-requires cast-result returns)
+line-of-spec = tie.close (tie.spec mul-cell cell-requires (λ c. search needs) returns)

@@ -1,21 +1,15 @@
+-- `tables::param` meets its contract: the cell is the P line's. Assumes nothing.
+use mathlib.Core.Path.{_∙_}
 use borrow.Author.Needs.{needs}
+use Rattle.tables.specs.CellsLaws.{read-param}
 use Rattle.tables.proofs.param.Statement.{statement}
 use Rattle.tables.proofs.param.Tie as tie
-use Rattle.tables.proofs.param.Reads as reads
-use Rattle.tables.proofs.param.Lts as lts
-use Rattle.tables.proofs.cell.Reads as cell-reads
 
--- src/lib.rt:164:5
 cell-requires : tie.Need-cell-requires
-cell-requires c κs = ?
+cell-requires c κs = let a = c .before .before in read-param (a .args .s .now) (a .args .t .now) (a .pre .0) (a .args .p) (a .pre .1) .within
 
--- src/lib.rt:164:5
-cast-result : tie.Need-cast-result
-cast-result c = search needs
-
--- src/lib.rt:159:1
 returns : tie.Need-returns
-returns c = ?
+returns c = let a = c .before .before .before in c .cell .ensures ∙ read-param (a .args .s .now) (a .args .t .now) (a .pre .0) (a .args .p) (a .pre .1) .value
 
 pub param-spec : {M : Type 1} → statement M
-param-spec = tie.close (tie.spec cell-requires cast-result returns)
+param-spec = tie.close (tie.spec cell-requires (λ c. search needs) returns)

@@ -1,19 +1,17 @@
+-- `tables::types` meets its contract: the header has the count. Assumes nothing.
+use native.Mathlib.Omega.{arith}
+use Rattle.tables.specs.CellsLaws.{read-types}
 use Rattle.tables.proofs.types.Statement.{statement}
 use Rattle.tables.proofs.types.Tie as tie
-use Rattle.tables.proofs.types.Reads as reads
-use Rattle.tables.proofs.types.Lts as lts
 
--- src/lib.rt:66:5
 shared-slice-read-result : tie.Need-shared-slice-read-result
-shared-slice-read-result c = ?
+shared-slice-read-result c = read-types (c .before .args .s .now) (c .before .args .t .now) (c .before .pre) .0
 
--- src/lib.rt:66:5
 cast-result : tie.Need-cast-result
-cast-result c = ?
+cast-result c = omega (arith, c .shared-slice-known .given 0)
 
--- src/lib.rt:62:1
 returns : tie.Need-returns
-returns c = ?
+returns c = read-types (c .before .args .s .now) (c .before .args .t .now) (c .before .pre) .1
 
 pub types-spec : {M : Type 1} → statement M
 types-spec = tie.close (tie.spec shared-slice-read-result cast-result returns)
