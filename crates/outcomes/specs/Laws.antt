@@ -2,3 +2,4 @@ pub mod Shape
 pub mod Ev
 pub mod Fuel
 pub mod Answer
+pub mod Scratch
