@@ -13,7 +13,15 @@ pub const ONE: usize = 4;
 
 // The outcome of variable v in declaration d, of whose arguments `count` outcomes stand from place
 // `at` on. A variable that is not bound has one node.
-pub fn argument(s: &[u8], t: &[u32], d: usize, out: &[u16], at: usize, count: usize, v: usize) -> usize
+pub fn argument(
+    s: &[u8],
+    t: &[u32],
+    d: usize,
+    out: &[u16],
+    at: usize,
+    count: usize,
+    v: usize,
+) -> usize
     requires { ⌜ tables.Tabled (now s) (now t) × (d < tables.decls-of (sheet.lines 6 (now s))) × (at + count ≤ length (now out)) ⌝ }
     ensures { λ r. ⌜ (r ≡ outcome.argument (params.params-of (sheet.lines 6 (now (s .entry))) d) (scratch.part at count (now (out .entry))) v) × (r < 65536) ⌝ }
 {

@@ -97,8 +97,8 @@ listing xs y i k h = go (eqb k 0) refl h
         record {
           inside = leb-true (i + k) (length xs) (and-left (leb (i + k) (length xs)) (not (some-below test k)) p);
           each = λ j q.
-          let n : ltb (first test k) k ≡ false = not-true (ltb (first test k) k) (and-right (leb (i + k) (length xs)) (not (some-below test k)) p) in
-          ltb-true (getD xs (i + j) 0) y (not-false (ltb (getD xs (i + j) 0) y) (first-before test k j (omega (arith, ltb-false (first test k) k n))));
+              let n : ltb (first test k) k ≡ false = not-true (ltb (first test k) k) (and-right (leb (i + k) (length xs)) (not (some-below test k)) p) in
+              ltb-true (getD xs (i + j) 0) y (not-false (ltb (getD xs (i + j) 0) y) (first-before test k j (omega (arith, ltb-false (first test k) k n))));
         }
 
 module _ (b : List ℕ) (passed : Passed b) where
@@ -131,9 +131,10 @@ module _ (b : List ℕ) (passed : Passed b) where
     unfolding good-type
     app-kids k =
         let g = rw k at (type-good y h) in
-        let g₂ = and-left (ltb (number l 1) (count-of name-line ls) && is-list (arg-types ls) y (number l 2) (number l 3)) (zeros-from 4 l) g in
-        (ltb-true (number l 1) (count-of name-line ls) (and-left (ltb (number l 1) (count-of name-line ls)) (is-list (arg-types ls) y (number l 2) (number l 3)) g₂),
-        listing (arg-types ls) y (number l 2) (number l 3) (and-right (ltb (number l 1) (count-of name-line ls)) (is-list (arg-types ls) y (number l 2) (number l 3)) g₂))
+        let g₂ = and-left (ltb (number l 1) (count-of name-line ls) && is-list (arg-types ls) y (number l 2) (number l 3)) (zeros-from 4 l) g in (
+          ltb-true (number l 1) (count-of name-line ls) (and-left (ltb (number l 1) (count-of name-line ls)) (is-list (arg-types ls) y (number l 2) (number l 3)) g₂),
+          listing (arg-types ls) y (number l 2) (number l 3) (and-right (ltb (number l 1) (count-of name-line ls)) (is-list (arg-types ls) y (number l 2) (number l 3)) g₂),
+        )
 
     tuple-kids : kind-of ls y ≡ 9 → Listing (arg-types ls) y (number l 1) (number l 2)
     unfolding good-type

@@ -12,7 +12,16 @@ ghost use Rattle.weighing.specs.Weigh as weigh;
 
 // The nodes of Y line y's type, at the `count` outcomes from place `at` on for declaration d's
 // arguments, added to `from`.
-pub fn weigh(s: &[u8], t: &[u32], y: usize, d: usize, out: &[u16], at: usize, count: usize, from: usize) -> usize
+pub fn weigh(
+    s: &[u8],
+    t: &[u32],
+    y: usize,
+    d: usize,
+    out: &[u16],
+    at: usize,
+    count: usize,
+    from: usize,
+) -> usize
     requires { ⌜ tables.Tabled (now s) (now t) × (y < rows.count-of program.type-line (sheet.lines 6 (now s))) ⌝ }
     requires { ⌜ (d < tables.decls-of (sheet.lines 6 (now s))) × (at + count ≤ length (now out)) × (from ≤ 1025) ⌝ }
     ensures { λ r. ⌜ r ≡ scratch.capped 1024 (from + weigh.weight-of (sheet.lines 6 (now (s .entry))) d (now (out .entry)) at count y) ⌝ }
@@ -25,7 +34,16 @@ pub fn weigh(s: &[u8], t: &[u32], y: usize, d: usize, out: &[u16], at: usize, co
 }
 
 // The nodes of its parts; it stops above the limit.
-fn weigh_kids(s: &[u8], t: &[u32], y: usize, d: usize, out: &[u16], at: usize, count: usize, from: usize) -> usize
+fn weigh_kids(
+    s: &[u8],
+    t: &[u32],
+    y: usize,
+    d: usize,
+    out: &[u16],
+    at: usize,
+    count: usize,
+    from: usize,
+) -> usize
     requires { ⌜ tables.Tabled (now s) (now t) × (y < rows.count-of program.type-line (sheet.lines 6 (now s))) ⌝ }
     requires { ⌜ (d < tables.decls-of (sheet.lines 6 (now s))) × (at + count ≤ length (now out)) × (from ≤ 1025) ⌝ }
     ensures { λ r. ⌜ r ≡ scratch.capped 1024 (from + weigh.weights-of (sheet.lines 6 (now (s .entry))) d (now (out .entry)) at count y (nodes.kids-of (sheet.lines 6 (now (s .entry))) y)) ⌝ }

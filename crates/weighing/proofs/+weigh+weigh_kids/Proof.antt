@@ -1,3 +1,16 @@
+-- `weighing::weigh` and `weighing::weigh_kids` meet their contracts. The measure falls with the Y line. Assumes nothing.
+use mathlib.Core.Path.{_≡_, sym, _∙_, ap}
+use Prim.Native.Nat.{_+_, _-_, _*_, _≤_}
+use native.Mathlib.Omega.{arith}
+use borrow.Author.Needs.{needs}
+use Rattle.sheet.specs.Sheet.{lines}
+use Rattle.outcomes.specs.Scratch.{part, capped}
+use Rattle.outcomes.specs.Laws.Scratch.{capped-most}
+use Rattle.kids.specs.Nodes.{kids-of, kid-of, type-of}
+use Rattle.kids.specs.NodesLaws.{node-at}
+use Rattle.arguments.specs.Params.{params-of}
+use Rattle.weighing.specs.Weigh.{weight-of, weights-of}
+use Rattle.weighing.specs.WeighLaws.{weigh-var, weigh-node, kids-none, kids-more, kids-over}
 use Prim.Native.Nat.{ℕ, _<_}
 use borrow.Fn.Kinds.{In}
 use borrow.Fn.PlainCycle.{Measures, is, falls, and}
@@ -16,10 +29,10 @@ use Rattle.weighing.proofs.+weigh+weigh_kids.{statement}
 use Rattle.weighing.proofs.+weigh+weigh_kids.Tie.{close}
 
 abbrev μ-weigh : Measures 3 weigh-kinds.ps ℕ
-μ-weigh κs a = ?
+μ-weigh κs a = 2 * a .1 .1 .0 + 1
 
 abbrev μ-weigh-kids : Measures 3 weigh-kids-kinds.ps ℕ
-μ-weigh-kids κs a = ?
+μ-weigh-kids κs a = 2 * a .1 .1 .0
 
 abbrev weigh-at : ℕ → In 3 weigh-kinds.ps
 weigh-at t = and 3 weigh-kinds.ps (is 3 weigh-kinds.ps μ-weigh t) weigh.Pre
@@ -35,7 +48,6 @@ abbrev weigh-kids-below : ℕ → In 3 weigh-kids-kinds.ps
 weigh-kids-below t =
     and 3 weigh-kids-kinds.ps (falls 3 weigh-kids-kinds.ps _<_ μ-weigh-kids t) weigh-kids.Pre
 
--- src/lib.rt:20:8
 weigh-type-number-requires : (t : ℕ) → weigh-lts.Need-type-number-requires (
   type-number-reads.Asked,
   type-number-reads.Learnt,
@@ -46,9 +58,8 @@ weigh-type-number-requires : (t : ℕ) → weigh-lts.Need-type-number-requires (
   weigh-kids-below t,
   weigh-kids.Post,
 ) (weigh-at t) weigh.Post
-weigh-type-number-requires t c κs = ?
+weigh-type-number-requires t c κs = let p = c .before .before .before .pre .1 in (p .0 .0, (p .0 .1, omega arith))
 
--- src/lib.rt:21:17
 weigh-type-number-requires-2 : (t : ℕ) → weigh-lts.Need-type-number-requires-2 (
   type-number-reads.Asked,
   type-number-reads.Learnt,
@@ -59,9 +70,8 @@ weigh-type-number-requires-2 : (t : ℕ) → weigh-lts.Need-type-number-requires
   weigh-kids-below t,
   weigh-kids.Post,
 ) (weigh-at t) weigh.Post
-weigh-type-number-requires-2 t c κs = ?
+weigh-type-number-requires-2 t c κs = let p = c .before .before .before .before .before .pre .1 in (p .0 .0, (p .0 .1, omega arith))
 
--- src/lib.rt:21:17
 weigh-cast-v : (t : ℕ) → weigh-lts.Need-cast-v (
   type-number-reads.Asked,
   type-number-reads.Learnt,
@@ -72,9 +82,8 @@ weigh-cast-v : (t : ℕ) → weigh-lts.Need-cast-v (
   weigh-kids-below t,
   weigh-kids.Post,
 ) (weigh-at t) weigh.Post
-weigh-cast-v t c = ?
+weigh-cast-v t c = search needs
 
--- src/lib.rt:22:33
 weigh-argument-requires : (t : ℕ) → weigh-lts.Need-argument-requires (
   type-number-reads.Asked,
   type-number-reads.Learnt,
@@ -85,9 +94,8 @@ weigh-argument-requires : (t : ℕ) → weigh-lts.Need-argument-requires (
   weigh-kids-below t,
   weigh-kids.Post,
 ) (weigh-at t) weigh.Post
-weigh-argument-requires t c κs = ?
+weigh-argument-requires t c κs = let p = c .before .before .before .before .before .before .pre .1 in (p .0 .0, p .1 .0, p .1 .1)
 
--- src/lib.rt:22:9
 weigh-more-requires : (t : ℕ) → weigh-lts.Need-more-requires (
   type-number-reads.Asked,
   type-number-reads.Learnt,
@@ -98,9 +106,8 @@ weigh-more-requires : (t : ℕ) → weigh-lts.Need-more-requires (
   weigh-kids-below t,
   weigh-kids.Post,
 ) (weigh-at t) weigh.Post
-weigh-more-requires t c κs = ?
+weigh-more-requires t c κs = (omega (arith, c .before .before .before .before .before .before .before .pre .1 .1 .2), omega (arith, c .argument .ensures .1))
 
--- src/lib.rt:22:9
 weigh-returns : (t : ℕ) → weigh-lts.Need-returns (
   type-number-reads.Asked,
   type-number-reads.Learnt,
@@ -111,9 +118,11 @@ weigh-returns : (t : ℕ) → weigh-lts.Need-returns (
   weigh-kids-below t,
   weigh-kids.Post,
 ) (weigh-at t) weigh.Post
-weigh-returns t c = ?
+weigh-returns t c =
+    let a = c .before .before .before .before .before .before .before .before .args in
+    let p = c .before .before .before .before .before .before .before .before .pre .1 in
+    weigh-var (a .s .now) (p .0 .0 .passed) (params-of (lines 6 (a .s .now)) (a .d)) (part (a .at) (a .count) (a .out .now)) (a .y) (p .0 .1) (a .from) _ _ _ (sym (c .before .before .before .before .type-number .ensures) ∙ c .before .before .before .if1 .taken) (c .before .before .type-number2 .ensures) (c .before .argument .ensures .0) (c .more .ensures)
 
--- src/lib.rt:24:44
 weigh-more-requires-2 : (t : ℕ) → weigh-lts.Need-more-requires-2 (
   type-number-reads.Asked,
   type-number-reads.Learnt,
@@ -124,9 +133,8 @@ weigh-more-requires-2 : (t : ℕ) → weigh-lts.Need-more-requires-2 (
   weigh-kids-below t,
   weigh-kids.Post,
 ) (weigh-at t) weigh.Post
-weigh-more-requires-2 t c κs = ?
+weigh-more-requires-2 t c κs = (omega (arith, c .before .before .before .before .before .pre .1 .1 .2), omega arith)
 
--- src/lib.rt:24:5
 weigh-weigh-kids-requires : (t : ℕ) → weigh-lts.Need-weigh-kids-requires (
   type-number-reads.Asked,
   type-number-reads.Learnt,
@@ -137,9 +145,10 @@ weigh-weigh-kids-requires : (t : ℕ) → weigh-lts.Need-weigh-kids-requires (
   weigh-kids-below t,
   weigh-kids.Post,
 ) (weigh-at t) weigh.Post
-weigh-weigh-kids-requires t c κs = ?
+weigh-weigh-kids-requires t c κs =
+    let p = c .before .before .before .before .before .before .pre .1 in
+    (omega (arith, c .before .before .before .before .before .before .pre .0), ((p .0 .0, p .0 .1), (p .1 .0, p .1 .1, omega (arith, c .more2 .ensures, capped-most 1024 (c .before .before .before .before .before .before .args .from + 1)))))
 
--- src/lib.rt:15:1
 weigh-returns-2 : (t : ℕ) → weigh-lts.Need-returns-2 (
   type-number-reads.Asked,
   type-number-reads.Learnt,
@@ -150,15 +159,17 @@ weigh-returns-2 : (t : ℕ) → weigh-lts.Need-returns-2 (
   weigh-kids-below t,
   weigh-kids.Post,
 ) (weigh-at t) weigh.Post
-weigh-returns-2 t c = ?
+weigh-returns-2 t c =
+    let a = c .before .before .before .before .before .before .before .args in
+    let p = c .before .before .before .before .before .before .before .pre .1 in
+    weigh-node (a .s .now) (p .0 .0 .passed) (params-of (lines 6 (a .s .now)) (a .d)) (part (a .at) (a .count) (a .out .now)) (a .y) (p .0 .1) (a .from) _ _ (λ e. c .before .before .if1 .left (c .before .before .before .type-number .ensures ∙ e)) (c .before .more2 .ensures) (c .weigh-kids .ensures)
 
 abbrev weigh-kids-Inv-loop : weigh-kids-lts.InvT-loop
-weigh-kids-Inv-loop s t y d out at count from n w₀ i₀ w i = ?
+weigh-kids-Inv-loop s t y d out at count from n w₀ i₀ w i = (i ≤ n) × (w ≡ capped 1024 (from + weights-of (lines 6 s) d out at count y i))
 
 abbrev weigh-kids-μ-loop : weigh-kids-lts.MeasureT-loop
-weigh-kids-μ-loop s t y d out at count from n w₀ i₀ w i = ?
+weigh-kids-μ-loop s t y d out at count from n w₀ i₀ w i = n - i
 
--- src/lib.rt:33:9
 weigh-kids-kids-requires : (t : ℕ) → weigh-kids-lts.Need-kids-requires (
   kids-reads.Asked,
   kids-reads.Learnt,
@@ -167,9 +178,8 @@ weigh-kids-kids-requires : (t : ℕ) → weigh-kids-lts.Need-kids-requires (
   weigh-below t,
   weigh.Post,
 ) (weigh-kids-at t) weigh-kids.Post weigh-kids-Inv-loop weigh-kids-μ-loop
-weigh-kids-kids-requires t c κs = ?
+weigh-kids-kids-requires t c κs = let p = c .before .before .before .pre .1 in (p .0 .0, p .0 .1)
 
--- src/lib.rt:35:5
 weigh-kids-loop-holds : (t : ℕ) → weigh-kids-lts.Need-loop-holds (
   kids-reads.Asked,
   kids-reads.Learnt,
@@ -178,9 +188,10 @@ weigh-kids-loop-holds : (t : ℕ) → weigh-kids-lts.Need-loop-holds (
   weigh-below t,
   weigh.Post,
 ) (weigh-kids-at t) weigh-kids.Post weigh-kids-Inv-loop weigh-kids-μ-loop
-weigh-kids-loop-holds t c = ?
+weigh-kids-loop-holds t c =
+    let a = c .before .before .before .before .args in
+    (omega arith, kids-none (params-of (lines 6 (a .s .now)) (a .d)) (part (a .at) (a .count) (a .out .now)) (λ i. type-of (lines 6 (a .s .now)) (kid-of (lines 6 (a .s .now)) (a .y) i)) (a .from) (c .before .before .before .before .pre .1 .1 .2))
 
--- src/lib.rt:37:13
 weigh-kids-returns : (t : ℕ) → weigh-kids-lts.Need-returns (
   kids-reads.Asked,
   kids-reads.Learnt,
@@ -189,9 +200,10 @@ weigh-kids-returns : (t : ℕ) → weigh-kids-lts.Need-returns (
   weigh-below t,
   weigh.Post,
 ) (weigh-kids-at t) weigh-kids.Post weigh-kids-Inv-loop weigh-kids-μ-loop
-weigh-kids-returns t c = ?
+weigh-kids-returns t c =
+    let a = c .before .before .before .before .before .before .before .args in
+    kids-over (params-of (lines 6 (a .s .now)) (a .d)) (part (a .at) (a .count) (a .out .now)) (λ i. type-of (lines 6 (a .s .now)) (kid-of (lines 6 (a .s .now)) (a .y) i)) (a .from) (c .before .before .loop .i) (kids-of (lines 6 (a .s .now)) (a .y)) (c .before .before .loop .w) (omega (arith, c .before .before .loop .inv .0, c .before .before .before .kids .ensures)) (c .before .before .loop .inv .1) (c .if1 .taken)
 
--- src/lib.rt:39:13
 weigh-kids-kid-requires : (t : ℕ) → weigh-kids-lts.Need-kid-requires (
   kids-reads.Asked,
   kids-reads.Learnt,
@@ -200,9 +212,8 @@ weigh-kids-kid-requires : (t : ℕ) → weigh-kids-lts.Need-kid-requires (
   weigh-below t,
   weigh.Post,
 ) (weigh-kids-at t) weigh-kids.Post weigh-kids-Inv-loop weigh-kids-μ-loop
-weigh-kids-kid-requires t c κs = ?
+weigh-kids-kid-requires t c κs = let p = c .before .before .before .before .before .before .before .pre .1 in (p .0 .0, (p .0 .1, omega (arith, c .before .before .before .kids .ensures, c .before .loop-test .taken)))
 
--- src/lib.rt:40:9
 weigh-kids-weigh-requires : (t : ℕ) → weigh-kids-lts.Need-weigh-requires (
   kids-reads.Asked,
   kids-reads.Learnt,
@@ -211,9 +222,12 @@ weigh-kids-weigh-requires : (t : ℕ) → weigh-kids-lts.Need-weigh-requires (
   weigh-below t,
   weigh.Post,
 ) (weigh-kids-at t) weigh-kids.Post weigh-kids-Inv-loop weigh-kids-μ-loop
-weigh-kids-weigh-requires t c κs = ?
+weigh-kids-weigh-requires t c κs =
+    let a = c .before .before .before .before .before .before .before .before .args in
+    let p = c .before .before .before .before .before .before .before .before .pre .1 in
+    let l = node-at (a .s .now) (p .0 .0 .passed) (a .y) (p .0 .1) .lower (c .before .before .before .loop .i) (omega (arith, c .before .before .before .before .kids .ensures, c .before .before .loop-test .taken)) in
+    (omega (arith, l, c .kid .ensures, c .before .before .before .before .before .before .before .before .pre .0), ((p .0 .0, omega (arith, l, c .kid .ensures, p .0 .1)), (p .1 .0, p .1 .1, omega (arith, c .before .if1 .left))))
 
--- src/lib.rt:35:9
 weigh-kids-add-i : (t : ℕ) → weigh-kids-lts.Need-add-i (
   kids-reads.Asked,
   kids-reads.Learnt,
@@ -222,9 +236,8 @@ weigh-kids-add-i : (t : ℕ) → weigh-kids-lts.Need-add-i (
   weigh-below t,
   weigh.Post,
 ) (weigh-kids-at t) weigh-kids.Post weigh-kids-Inv-loop weigh-kids-μ-loop
-weigh-kids-add-i t c = ?
+weigh-kids-add-i t c = omega (arith, c .before .before .before .loop-test .taken)
 
--- src/lib.rt:35:5
 weigh-kids-loop-less : (t : ℕ) → weigh-kids-lts.Need-loop-less (
   kids-reads.Asked,
   kids-reads.Learnt,
@@ -233,9 +246,8 @@ weigh-kids-loop-less : (t : ℕ) → weigh-kids-lts.Need-loop-less (
   weigh-below t,
   weigh.Post,
 ) (weigh-kids-at t) weigh-kids.Post weigh-kids-Inv-loop weigh-kids-μ-loop
-weigh-kids-loop-less t c = ?
+weigh-kids-loop-less t c = omega (arith, c .before .before .before .loop-test .taken)
 
--- src/lib.rt:35:5
 weigh-kids-loop-again : (t : ℕ) → weigh-kids-lts.Need-loop-again (
   kids-reads.Asked,
   kids-reads.Learnt,
@@ -244,9 +256,10 @@ weigh-kids-loop-again : (t : ℕ) → weigh-kids-lts.Need-loop-again (
   weigh-below t,
   weigh.Post,
 ) (weigh-kids-at t) weigh-kids.Post weigh-kids-Inv-loop weigh-kids-μ-loop
-weigh-kids-loop-again t c = ?
+weigh-kids-loop-again t c =
+    let a = c .before .before .before .before .before .before .before .before .before .args in
+    (omega (arith, c .before .before .before .loop-test .taken), kids-more (params-of (lines 6 (a .s .now)) (a .d)) (part (a .at) (a .count) (a .out .now)) (λ i. type-of (lines 6 (a .s .now)) (kid-of (lines 6 (a .s .now)) (a .y) i)) (a .from) (c .before .before .before .before .loop .i) (c .before .before .before .before .loop .w) _ (c .before .before .before .before .loop .inv .1) (c .weigh .ensures ∙ ap (λ k. capped 1024 (c .before .before .before .before .loop .w + weight-of (lines 6 (a .s .now)) (a .d) (a .out .now) (a .at) (a .count) k)) (c .before .kid .ensures)))
 
--- src/lib.rt:28:1
 weigh-kids-returns-2 : (t : ℕ) → weigh-kids-lts.Need-returns-2 (
   kids-reads.Asked,
   kids-reads.Learnt,
@@ -255,7 +268,9 @@ weigh-kids-returns-2 : (t : ℕ) → weigh-kids-lts.Need-returns-2 (
   weigh-below t,
   weigh.Post,
 ) (weigh-kids-at t) weigh-kids.Post weigh-kids-Inv-loop weigh-kids-μ-loop
-weigh-kids-returns-2 t c = ?
+weigh-kids-returns-2 t c =
+    let a = c .before .before .before .before .before .before .args in
+    c .before .loop .inv .1 ∙ ap (λ k. capped 1024 (a .from + weights-of (lines 6 (a .s .now)) (a .d) (a .out .now) (a .at) (a .count) (a .y) k)) (omega (arith, c .before .before .kids .ensures, c .before .loop .inv .0, c .loop-test .left))
 
 pub +weigh+weigh-kids-spec : {M : Type 1} → statement M
 +weigh+weigh-kids-spec = close μ-weigh μ-weigh-kids (λ t. weigh-lts.spec (
