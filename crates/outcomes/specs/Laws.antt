@@ -3,3 +3,5 @@ pub mod Ev
 pub mod Fuel
 pub mod Answer
 pub mod Scratch
+pub mod Nodes
+pub mod Call

@@ -194,3 +194,17 @@ unfoldable pub ev : ℕ → (ℕ → Unfold) → ℕ → List ℕ → List ℕ �
 ev limit lay zero ps os c = spent
 ev limit lay (suc k) ps os c =
     entered limit (attached (instance-shape ps os c) (extra ps os)) (eval limit lay (ev limit lay k) ps os c (extra ps os))
+
+-- ---- the counts of a call
+-- as many arguments as parameters; too few; or a surplus, and whether it is taken
+abbrev pub counted : Bool → Bool → Bool → Bool
+counted true few taken = true
+counted false true taken = false
+counted false false taken = taken
+
+-- whether an unfolded name takes these arguments
+unfoldable pub fits : List ℕ → Unfold → Bool
+fits os gone = true
+fits os (newtype ps c) = eqb (length os) (length ps)
+fits os (abbreviation ps c) = counted (eqb (length os) (length ps)) (ltb (length os) (length ps)) (eqb (instance-head ps os c) app)
+fits os stays = true

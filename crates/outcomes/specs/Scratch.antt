@@ -5,7 +5,7 @@ use mathlib.Core.List.{List}
 use mathlib.Core.Bool.{true, false}
 use Prim.Native.Nat.{ℕ, suc, _+_, _≤_, _<_}
 use lib.Dec.{leb}
-use lib.ListN.{length, take, drop}
+use lib.ListN.{length, getD, take, drop}
 use Rattle.custard.specs.Resolve.{Result}
 use Rattle.outcomes.specs.Answer.{nine, answer}
 
@@ -27,3 +27,7 @@ pub record Says (e : Result ℕ) (r : ℕ) : Type 0 where
   pub decided : nine ≤ r
   pub small : r < 65536
   pub is : e ≡ answer r r
+
+-- every outcome has a node
+abbrev pub Nodes : List ℕ → Type 0
+Nodes os = (i : ℕ) → i < length os → 4 ≤ getD os i 0
