@@ -107,6 +107,12 @@ part-drop i n k xs h =
 pub same-refl : (k : ℕ) (xs : List ℕ) → Same k xs xs
 same-refl k xs = record { below = refl; long = refl }
 
+pub same-sym : (k : ℕ) (xs ys : List ℕ) → Same k xs ys → Same k ys xs
+same-sym k xs ys s = record { below = sym (s .below); long = sym (s .long) }
+
+pub same-get : (k i : ℕ) (xs ys : List ℕ) → i < k → Same k xs ys → getD xs i 0 ≡ getD ys i 0
+same-get k i xs ys h s = sym (getD-take k xs i 0 h) ∙ (ap (λ (zs : List ℕ). getD zs i 0) (s .below) ∙ getD-take k ys i 0 h)
+
 pub same-trans : (k : ℕ) (xs ys zs : List ℕ) → Same k xs ys → Same k ys zs → Same k xs zs
 same-trans k xs ys zs s t = record { below = s .below ∙ t .below; long = s .long ∙ t .long }
 
