@@ -13,10 +13,12 @@ use Rattle.sheet.specs.Line.{Line, number}
 use Rattle.sheet.specs.Sheet.{lines}
 use Rattle.custard.specs.Cty.{Cty, Ctys, TVar, TApp, nil, cons, append, size, sizes}
 use Rattle.custard.specs.Decl.{position}
-use Rattle.custard.specs.Program.{type-line, program}
+use Rattle.custard.specs.Program.{name-line, type-line, program}
 use Rattle.custard.specs.Rows.{count-of}
 use Rattle.custard.specs.Resolve.{Unfold, gone, newtype, abbreviation, stays, Result, ok, fault, spent, bind}
 use Rattle.custard.specs.Laws.Cty.{size-positive}
+use Rattle.custard.specs.Laws.Names.{position-le}
+use Rattle.custard.specs.Laws.Program.{length-program}
 use Rattle.refusals.specs.Rows.{Passed}
 use Rattle.tables.specs.Tables.{decls-of}
 use Rattle.outcomes.specs.Outcome.{other, app, one, total, attached, built, argument, weight, instance-head, extra, called, eval, evals, ev, fits}
@@ -25,22 +27,28 @@ use Rattle.outcomes.specs.Scratch.{part, Same, capped, Says, Nodes}
 use Rattle.outcomes.specs.Laws.Shape.{attached-none, sizes-append}
 use Rattle.outcomes.specs.Laws.Fuel.{Leads, leads-same}
 use Rattle.outcomes.specs.Laws.Answer.{eval-plain, evals-last, size-parts, answer-value, told-stop, told-go, told-known, told-same, told-next}
-use Rattle.outcomes.specs.Laws.Scratch.{part-none, part-length, part-drop, part-same, part-join, part-set, same-refl, same-sym, same-trans, same-less, same-set, capped-add, capped-over, capped-under}
+use Rattle.outcomes.specs.Laws.Scratch.{part-none, part-length, part-drop, part-same, part-join, part-set, same-refl, same-sym, same-trans, same-less, same-set, capped-add, capped-most, capped-over, capped-under}
 use Rattle.outcomes.specs.Laws.Nodes.{argument-nodes, nodes-none, nodes-append, nodes-one, nodes-drop, total-nodes, size-weight}
 use Rattle.outcomes.specs.Laws.Call.{extra-none, unfolded, fits-enough, fits-app, call-small, call-large, call-spent, call-nine, var-surplus}
 use Rattle.kids.specs.Nodes.{y-line, kind-of, type-of, kids-of, kid-of}
-use Rattle.kids.specs.NodesLaws.{var-type, app-type, plain-type}
+use Rattle.kids.specs.NodesLaws.{node-at, var-type, app-type, plain-type}
 use Rattle.arguments.specs.Params.{params-of}
+use Rattle.arguments.specs.ParamsLaws.{decls-few}
 use Rattle.weighing.specs.Weigh.{kid-types, weight-of}
 use Rattle.calls.specs.CallsLaws.{Copied}
 use Rattle.memory.specs.Slots.{Slots}
 use Rattle.resolver.specs.Resolver.{unfold-at, lay-of, States, Setup, call-of, enter-of, eval-of, evals-of, last-of, Args, Place, Short, Found, FoundAll, Done}
 
 -- a cell past the end
-getD-past : (xs : List ℕ) (i v : ℕ) → length xs ≤ i → getD xs i v ≡ v
+pub getD-past : (xs : List ℕ) (i v : ℕ) → length xs ≤ i → getD xs i v ≡ v
 getD-past [] i v h = refl
 getD-past (x ∷ xs) zero v h = absurd (omega arith)
 getD-past (x ∷ xs) (suc i) v h = getD-past xs i v (omega arith)
+
+pub getD-any : (xs : List ℕ) (i v w : ℕ) → i < length xs → getD xs i v ≡ getD xs i w
+getD-any [] i v w h = absurd (omega arith)
+getD-any (x ∷ xs) zero v w h = refl
+getD-any (x ∷ xs) (suc i) v w h = getD-any xs i v w (omega arith)
 
 -- ---- sizes of lists
 sizes-last : (f : ℕ → Cty) (n : ℕ) → sizes (listed f (suc n)) ≡ sizes (listed f n) + size (f n)
@@ -184,12 +192,12 @@ module _ (b t u : List ℕ) where
             }
 
         -- no room for the surplus
-        pub node-full : (n : ℕ) → n ≡ kids-of ls y → length out′ < top + n + over → Found E k room top out out′ call slots′ 1
-        node-full n e h =
+        pub node-full : (n : ℕ) (out″ : List ℕ) → n ≡ kids-of ls y → length out′ < top + n + over → out″ ≡ out′ → Found E k room top out out″ call slots′ 1
+        node-full n out″ e h q =
             record {
               told = no-room-told E k 1 (Short out room k) (omega (arith, node-size m, sizes-count (λ i. type-of ls (kid-of ls y i)) (kids-of ls y), found .kept .long));
               small = omega arith;
-              kept = found .kept;
+              kept = subst (λ (xs : List ℕ). Same top xs out) (sym q) (found .kept);
               slots = found .slots;
             }
 
@@ -559,3 +567,18 @@ module _ (b t u : List ℕ) where
           kept = f .kept;
           slots = f .slots;
         }
+
+-- a name's declaration, or their number
+pub decl-least : (b : List ℕ) → Passed b → (n : ℕ) → position (program (lines 6 b)) n ≤ 96
+decl-least b passed n = omega (arith, position-le (program (lines 6 b)) n, length-program (lines 6 b), decls-few b passed)
+
+-- ---- for the code
+module _ (b : List ℕ) (passed : Passed b) (y : ℕ) (h : y < count-of type-line (lines 6 b)) where
+  pub kid-below : (i : ℕ) → i < kids-of (lines 6 b) y → kid-of (lines 6 b) y i < y
+  kid-below = node-at b passed y h .lower
+
+  pub name-within : kind-of (lines 6 b) y ≡ 8 → number (y-line (lines 6 b) y) 1 < count-of name-line (lines 6 b)
+  name-within = node-at b passed y h .named
+
+pub capped-least : (r n : ℕ) → r ≡ capped 1024 n → r ≤ 1025
+capped-least r n e = omega (arith, capped-most 1024 n)
