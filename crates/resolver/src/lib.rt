@@ -14,7 +14,7 @@ ghost use Rattle.arguments.specs.Params as params;
 ghost use Rattle.kids.specs.Nodes as nodes;
 ghost use Rattle.weighing.specs.Weigh as weigh;
 ghost use Rattle.memory.specs.Slots.{Slots};
-ghost use Rattle.resolver.specs.Resolver as resolver;
+ghost use Rattle.resolving.specs.Resolver as resolver;
 
 // The fuel is spent; the scratch is full; codes 9 and 10. Every greater number is an outcome.
 pub const NO_FUEL: usize = 0;

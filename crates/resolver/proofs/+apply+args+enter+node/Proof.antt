@@ -15,8 +15,8 @@ use Rattle.kids.specs.NodesLaws.{types-few}
 use Rattle.arguments.specs.ParamsLaws.{decls-few}
 use Rattle.calls.specs.CallsLaws.{Copy}
 use Rattle.memory.specs.Slots.{Slots}
-use Rattle.resolver.specs.Resolver.{evals-of, call-of, Args, Found, Done}
-use Rattle.resolver.specs.ResolverLaws.{node-var, node-stop, node-built, node-full, joined-args, node-apply, args-none, args-more, args-stop, args-full, args-done, enter-nine, enter-spent, enough, enter-ten, enter-var, enter-node, unfolded-is, unfolded-place, apply-gone, apply-stays, apply-enter, decl-least, kid-below, name-within, capped-least}
+use Rattle.resolving.specs.Resolver.{evals-of, call-of, Args, Found, Done}
+use Rattle.resolving.specs.ResolverLaws.{node-var, node-stop, node-built, node-full, joined-args, node-apply, args-none, args-more, args-stop, args-full, args-done, enter-nine, enter-spent, enough, enter-ten, enter-var, enter-node, unfolded-is, unfolded-place, apply-gone, apply-stays, apply-enter, decl-least, kid-below, name-within, capped-least}
 use Prim.Native.Nat.{ℕ, _<_}
 use borrow.Fn.Kinds.{In}
 use borrow.Fn.PlainCycle.{Measures, is, falls, and}

@@ -2,7 +2,7 @@
 use mathlib.Core.Path.{sym}
 use Prim.Native.Nat.{_*_}
 use native.Mathlib.Omega.{arith}
-use Rattle.resolver.specs.ResolverLaws.{getD-past, getD-any}
+use Rattle.resolving.specs.ResolverLaws.{getD-past, getD-any}
 use borrow.Author.Needs.{needs}
 use Rattle.resolver.proofs.state.Statement.{statement}
 use Rattle.resolver.proofs.state.Tie as tie
