@@ -178,15 +178,50 @@ fn enter(
     }
     let n = calls::params(s, t, d);
     let over = count - n;
-    let w = weighing::weigh(s, t, y, d, out, at, count, sums::total(out, at + n, over, 0));
+    let w = weighing::weigh(
+        s,
+        t,
+        y,
+        d,
+        out,
+        at,
+        count,
+        sums::total(out, at + n, over, 0),
+    );
     if w > sums::LIMIT {
         return TEN;
     }
     if over == 0 {
-        return node(s, t, u, out, slots, k - 1, y, d, at, count, over, at + count);
+        return node(
+            s,
+            t,
+            u,
+            out,
+            slots,
+            k - 1,
+            y,
+            d,
+            at,
+            count,
+            over,
+            at + count,
+        );
     }
     if tables::type_number(s, t, y, 0) == 3 {
         return 4 * w + 1;
     }
-    node(s, t, u, out, slots, k - 1, y, d, at, count, over, at + count)
+    node(
+        s,
+        t,
+        u,
+        out,
+        slots,
+        k - 1,
+        y,
+        d,
+        at,
+        count,
+        over,
+        at + count,
+    )
 }

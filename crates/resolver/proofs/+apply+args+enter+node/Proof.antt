@@ -173,11 +173,16 @@ apply-enter-requires : (t : ℕ) → apply-lts.Need-enter-requires (
 ) (apply-at t) apply.Post
 apply-enter-requires t c κs =
     let a = c .before .before .before .before .before .before .before .before .before .before .before .args in
-    let p = c .before .before .before .before .before .before .before .before .before .before .before .pre .1 in
-    (omega (arith, c .before .before .before .before .before .before .before .before .before .before .before .pre .0),
-    ((unfolded-place (a .s .now) (a .t .now) (a .u .now) (p .0 .0) (a .n) _ _ (a .at) (a .count) (c .before .before .before .before .before .decl-of .ensures) (c .before .before .before .before .state .ensures) (a .out .now) (p .1 .0) (a .slots .now) (p .1 .1) (c .before .before .before .if1 .left) (c .before .before .if2 .left),
-    unfolded-is (a .s .now) (a .t .now) (a .u .now) (p .0 .0) (a .n) _ _ (a .at) (a .count) (c .before .before .before .before .before .decl-of .ensures) (c .before .before .before .before .state .ensures) (a .out .now) (p .1 .0) (a .slots .now) (p .1 .1) (c .before .before .before .if1 .left) (c .before .before .if2 .left)),
-    (p .1 .0, p .1 .1)))
+    let p = c .before .before .before .before .before .before .before .before .before .before .before .pre .1 in (
+      omega (arith, c .before .before .before .before .before .before .before .before .before .before .before .pre .0),
+      (
+        (
+          unfolded-place (a .s .now) (a .t .now) (a .u .now) (p .0 .0) (a .n) _ _ (a .at) (a .count) (c .before .before .before .before .before .decl-of .ensures) (c .before .before .before .before .state .ensures) (a .out .now) (p .1 .0) (a .slots .now) (p .1 .1) (c .before .before .before .if1 .left) (c .before .before .if2 .left),
+          unfolded-is (a .s .now) (a .t .now) (a .u .now) (p .0 .0) (a .n) _ _ (a .at) (a .count) (c .before .before .before .before .before .decl-of .ensures) (c .before .before .before .before .state .ensures) (a .out .now) (p .1 .0) (a .slots .now) (p .1 .1) (c .before .before .before .if1 .left) (c .before .before .if2 .left),
+        ),
+        (p .1 .0, p .1 .1),
+      ),
+    )
 
 apply-same-length-2 : (t : ℕ) → apply-lts.Need-same-length-2 (
   decl-of-reads.Asked,
@@ -301,11 +306,16 @@ args-node-requires : (t : ℕ) → args-lts.Need-node-requires (
 args-node-requires t c κs =
     let a = c .before .before .before .before .before .before .before .before .before .before .before .before .args in
     let p = c .before .before .before .before .before .before .before .before .before .before .before .before .pre .1 in
-    let l = kid-below (a .s .now) (p .0 .setup .tabled .passed) (a .y) (p .0 .type) (c .before .before .before .before .before .loop .i) (omega (arith, c .before .before .before .before .before .before .kids .ensures, c .before .before .before .before .loop-test .taken)) in
-    (omega (arith, l, c .before .before .kid .ensures, c .before .before .before .before .before .before .before .before .before .before .before .before .pre .0),
-    (record { setup = p .0 .setup; type = omega (arith, l, c .before .before .kid .ensures, p .0 .type); decl = p .0 .decl },
-    ((record { inside = omega (arith, p .1 .0 .inside, c .before .before .before .before .before .loop .inv .1); room = omega (arith, c .before .before .before .if1 .left); nodes = subst Nodes (sym (part-same (a .at) (a .count) (a .top) (c .before .before .before .before .before .loop .out) (a .out .now) (p .1 .0 .inside) (c .before .before .before .before .before .loop .inv .3 .kept))) (p .1 .0 .nodes) }, omega arith, λ e. refl),
-    c .before .before .before .before .before .loop .inv .3 .slots)))
+    let l = kid-below (a .s .now) (p .0 .setup .tabled .passed) (a .y) (p .0 .type) (c .before .before .before .before .before .loop .i) (omega (arith, c .before .before .before .before .before .before .kids .ensures, c .before .before .before .before .loop-test .taken)) in (
+      omega (arith, l, c .before .before .kid .ensures, c .before .before .before .before .before .before .before .before .before .before .before .before .pre .0),
+      (
+        record { setup = p .0 .setup; type = omega (arith, l, c .before .before .kid .ensures, p .0 .type); decl = p .0 .decl },
+        (
+          (record { inside = omega (arith, p .1 .0 .inside, c .before .before .before .before .before .loop .inv .1); room = omega (arith, c .before .before .before .if1 .left); nodes = subst Nodes (sym (part-same (a .at) (a .count) (a .top) (c .before .before .before .before .before .loop .out) (a .out .now) (p .1 .0 .inside) (c .before .before .before .before .before .loop .inv .3 .kept))) (p .1 .0 .nodes) }, omega arith, λ e. refl),
+          c .before .before .before .before .before .loop .inv .3 .slots,
+        ),
+      ),
+    )
 
 args-same-length-3 : (t : ℕ) → args-lts.Need-same-length-3 (
   kids-reads.Asked,
@@ -410,9 +420,12 @@ args-loop-again : (t : ℕ) → args-lts.Need-loop-again (
 ) (args-at t) args.Post args-Inv-loop args-μ-loop
 args-loop-again t c =
     let a = c .before .before .before .before .before .before .before .before .before .before .before .before .before .before .before .before .before .before .args in
-    let p = c .before .before .before .before .before .before .before .before .before .before .before .before .before .before .before .before .before .before .pre .1 in
-    (omega (arith, c .before .before .before .before .before .before .before .before .before .before .loop-test .taken), omega (arith, c .before .before .before .before .before .before .before .before .before .before .before .loop .inv .1), search needs,
-    rw (sym (c .before .before .before .before .before .before .before .before .before .before .before .loop .inv .1)) at (args-more (a .s .now) (a .t .now) (a .u .now) (a .y) (a .d) (p .0) (a .at) (a .count) (a .top) (a .out .now) (p .1 .0) (c .before .before .before .before .before .before .before .before .before .before .before .loop .i) _ (c .before .before .before .before .before .before .before .before .before .before .before .loop .out) (c .before .before .before .before .before .before .before .before .before .before .before .loop .slots) (c .before .before .before .before .before .before .before .before .before .before .before .loop .inv .3) (omega (arith, c .before .before .before .before .before .before .before .before .before .before .before .before .kids .ensures, c .before .before .before .before .before .before .before .before .before .before .loop-test .taken)) (c .before .before .before .before .before .before .before .before .kid .ensures) (a .k) _ _ _ (rw (c .before .before .before .before .before .before .before .before .before .before .before .loop .inv .1) at (c .before .before .before .before .before .node .ensures)) (c .if2 .left) (omega (arith, c .before .before .before .before .before .before .before .before .before .if1 .left, c .before .before .before .before .before .before .before .before .before .before .before .loop .inv .1))))
+    let p = c .before .before .before .before .before .before .before .before .before .before .before .before .before .before .before .before .before .before .pre .1 in (
+      omega (arith, c .before .before .before .before .before .before .before .before .before .before .loop-test .taken),
+      omega (arith, c .before .before .before .before .before .before .before .before .before .before .before .loop .inv .1),
+      search needs,
+      rw (sym (c .before .before .before .before .before .before .before .before .before .before .before .loop .inv .1)) at (args-more (a .s .now) (a .t .now) (a .u .now) (a .y) (a .d) (p .0) (a .at) (a .count) (a .top) (a .out .now) (p .1 .0) (c .before .before .before .before .before .before .before .before .before .before .before .loop .i) _ (c .before .before .before .before .before .before .before .before .before .before .before .loop .out) (c .before .before .before .before .before .before .before .before .before .before .before .loop .slots) (c .before .before .before .before .before .before .before .before .before .before .before .loop .inv .3) (omega (arith, c .before .before .before .before .before .before .before .before .before .before .before .before .kids .ensures, c .before .before .before .before .before .before .before .before .before .before .loop-test .taken)) (c .before .before .before .before .before .before .before .before .kid .ensures) (a .k) _ _ _ (rw (c .before .before .before .before .before .before .before .before .before .before .before .loop .inv .1) at (c .before .before .before .before .before .node .ensures)) (c .if2 .left) (omega (arith, c .before .before .before .before .before .before .before .before .before .if1 .left, c .before .before .before .before .before .before .before .before .before .before .before .loop .inv .1))),
+    )
 
 args-same-length-5 : (t : ℕ) → args-lts.Need-same-length-5 (
   kids-reads.Asked,
@@ -785,9 +798,10 @@ enter-node-requires : (t : ℕ) → enter-lts.Need-node-requires (
 ) (enter-at t) enter.Post
 enter-node-requires t c κs =
     let a = c .before .before .before .before .before .before .before .before .before .before .before .before .before .before .before .before .before .before .args in
-    let p = c .before .before .before .before .before .before .before .before .before .before .before .before .before .before .before .before .before .before .pre .1 in
-    (omega (arith, c .before .before .before .before .before .before .before .before .before .before .before .before .before .before .before .before .before .before .pre .0, c .before .before .before .before .before .before .before .before .if2 .left, p .0 .0 .type, types-few (a .s .now) (p .0 .0 .setup .tabled .passed)),
-    (p .0 .0, ((p .1 .0, omega arith, λ e. c .before .before .if4 .taken), p .1 .1)))
+    let p = c .before .before .before .before .before .before .before .before .before .before .before .before .before .before .before .before .before .before .pre .1 in (
+      omega (arith, c .before .before .before .before .before .before .before .before .before .before .before .before .before .before .before .before .before .before .pre .0, c .before .before .before .before .before .before .before .before .if2 .left, p .0 .0 .type, types-few (a .s .now) (p .0 .0 .setup .tabled .passed)),
+      (p .0 .0, ((p .1 .0, omega arith, λ e. c .before .before .if4 .taken), p .1 .1)),
+    )
 
 enter-same-length-4 : (t : ℕ) → enter-lts.Need-same-length-4 (
   fits-reads.Asked,
@@ -971,9 +985,10 @@ enter-node-requires-2 : (t : ℕ) → enter-lts.Need-node-requires-2 (
 ) (enter-at t) enter.Post
 enter-node-requires-2 t c κs =
     let a = c .before .before .before .before .before .before .before .before .before .before .before .before .before .before .before .before .before .before .before .before .args in
-    let p = c .before .before .before .before .before .before .before .before .before .before .before .before .before .before .before .before .before .before .before .before .pre .1 in
-    (omega (arith, c .before .before .before .before .before .before .before .before .before .before .before .before .before .before .before .before .before .before .before .before .pre .0, c .before .before .before .before .before .before .before .before .before .before .if2 .left, p .0 .0 .type, types-few (a .s .now) (p .0 .0 .setup .tabled .passed)),
-    (p .0 .0, ((p .1 .0, omega arith, λ e. absurd (c .before .before .if5 .left (c .before .before .before .type-number .ensures ∙ e))), p .1 .1)))
+    let p = c .before .before .before .before .before .before .before .before .before .before .before .before .before .before .before .before .before .before .before .before .pre .1 in (
+      omega (arith, c .before .before .before .before .before .before .before .before .before .before .before .before .before .before .before .before .before .before .before .before .pre .0, c .before .before .before .before .before .before .before .before .before .before .if2 .left, p .0 .0 .type, types-few (a .s .now) (p .0 .0 .setup .tabled .passed)),
+      (p .0 .0, ((p .1 .0, omega arith, λ e. absurd (c .before .before .if5 .left (c .before .before .before .type-number .ensures ∙ e))), p .1 .1)),
+    )
 
 enter-same-length-7 : (t : ℕ) → enter-lts.Need-same-length-7 (
   fits-reads.Asked,
@@ -1342,11 +1357,16 @@ node-apply-requires : (t : ℕ) → node-lts.Need-apply-requires (
 node-apply-requires t c κs =
     let a = c .before .before .before .before .before .before .before .before .before .before .before .before .before .before .before .before .before .before .before .before .before .before .before .before .before .args in
     let p = c .before .before .before .before .before .before .before .before .before .before .before .before .before .before .before .before .before .before .before .before .before .before .before .before .before .pre .1 in
-    let w = rw (c .before .before .if4 .taken) at (c .before .before .before .before .before .copy .ensures) in
-    (omega (arith, c .before .before .before .before .before .before .before .before .before .before .before .before .before .before .before .before .before .before .before .before .before .before .before .before .before .pre .0),
-    ((p .0 .setup, omega (arith, c .before .before .before .before .before .before .before .before .before .before .before .before .before .before .before .before .before .before .type-number2 .ensures, name-within (a .s .now) (p .0 .setup .tabled .passed) (a .y) (p .0 .type) (sym (c .before .before .before .before .before .before .before .before .before .before .before .before .before .before .before .before .before .before .before .type-number .ensures) ∙ c .before .before .before .before .before .before .before .if3 .taken))),
-    (joined-args (a .s .now) (a .t .now) (a .u .now) (a .y) (a .d) (p .0) (a .at) (a .count) (a .over) (a .top) (a .out .now) (p .1 .0 .0) (a .k) _ _ _ (λ e. c .before .before .before .before .before .before .before .before .before .before .before .before .before .before .before .before .before .if1 .left (c .before .before .before .before .before .before .before .before .before .before .before .before .before .before .before .before .before .before .before .type-number .ensures ∙ e)) (c .before .before .before .before .before .before .before .before .before .before .before .before .before .before .args2 .ensures) _ (c .before .before .before .before .before .before .before .before .kids .ensures) (c .before .before .before .before .before .before .before .before .before .if2 .left) (p .1 .0 .1) _ (w .0) (w .1),
-    c .before .before .before .before .before .before .before .before .before .before .before .before .before .before .args2 .ensures .slots)))
+    let w = rw (c .before .before .if4 .taken) at (c .before .before .before .before .before .copy .ensures) in (
+      omega (arith, c .before .before .before .before .before .before .before .before .before .before .before .before .before .before .before .before .before .before .before .before .before .before .before .before .before .pre .0),
+      (
+        (p .0 .setup, omega (arith, c .before .before .before .before .before .before .before .before .before .before .before .before .before .before .before .before .before .before .type-number2 .ensures, name-within (a .s .now) (p .0 .setup .tabled .passed) (a .y) (p .0 .type) (sym (c .before .before .before .before .before .before .before .before .before .before .before .before .before .before .before .before .before .before .before .type-number .ensures) ∙ c .before .before .before .before .before .before .before .if3 .taken))),
+        (
+          joined-args (a .s .now) (a .t .now) (a .u .now) (a .y) (a .d) (p .0) (a .at) (a .count) (a .over) (a .top) (a .out .now) (p .1 .0 .0) (a .k) _ _ _ (λ e. c .before .before .before .before .before .before .before .before .before .before .before .before .before .before .before .before .before .if1 .left (c .before .before .before .before .before .before .before .before .before .before .before .before .before .before .before .before .before .before .before .type-number .ensures ∙ e)) (c .before .before .before .before .before .before .before .before .before .before .before .before .before .before .args2 .ensures) _ (c .before .before .before .before .before .before .before .before .kids .ensures) (c .before .before .before .before .before .before .before .before .before .if2 .left) (p .1 .0 .1) _ (w .0) (w .1),
+          c .before .before .before .before .before .before .before .before .before .before .before .before .before .before .args2 .ensures .slots,
+        ),
+      ),
+    )
 
 node-same-length-4 : (t : ℕ) → node-lts.Need-same-length-4 (
   type-number-reads.Asked,
