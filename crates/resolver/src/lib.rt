@@ -148,7 +148,13 @@ fn apply(
     if what > ABBREVIATION {
         return sums::built(out, at, count, 1);
     }
-    enter(s, t, u, out, slots, k, what == NEWTYPE, d, at, count)
+    let known = memory::recall(slots, n, out, at, count);
+    if known != 0 {
+        return known;
+    }
+    let r = enter(s, t, u, out, slots, k, what == NEWTYPE, d, at, count);
+    memory::remember(slots, n, out, at, count, r);
+    r
 }
 
 // The outcome of a call of declaration d, which is unfolded.

@@ -19,7 +19,9 @@ use Rattle.custard.specs.Resolve.{Unfold, gone, newtype, abbreviation, stays, R
 use Rattle.custard.specs.Laws.Cty.{size-positive}
 use Rattle.custard.specs.Laws.Names.{position-le}
 use Rattle.custard.specs.Laws.Program.{length-program}
+use Rattle.limits.specs.Limits.{counts-of}
 use Rattle.refusals.specs.Rows.{Passed}
+use Rattle.refusals.specs.RowsLaws.{passed-kept}
 use Rattle.tables.specs.Tables.{decls-of}
 use Rattle.outcomes.specs.Outcome.{other, app, one, total, attached, built, argument, weight, instance-head, extra, called, eval, evals, ev, fits}
 use Rattle.outcomes.specs.Answer.{parts, listed, nine, answer, Told}
@@ -36,7 +38,7 @@ use Rattle.arguments.specs.Params.{params-of}
 use Rattle.arguments.specs.ParamsLaws.{decls-few}
 use Rattle.weighing.specs.Weigh.{kid-types, weight-of}
 use Rattle.calls.specs.CallsLaws.{Copied}
-use Rattle.memory.specs.Slots.{Slots}
+use Rattle.memory.specs.Slots.{Slots, Written, Recalled, slots-written}
 use Rattle.resolving.specs.Resolver.{unfold-at, lay-of, States, Setup, call-of, enter-of, eval-of, evals-of, last-of, Args, Place, Short, Found, FoundAll, Done}
 
 -- a cell past the end
@@ -568,6 +570,25 @@ module _ (b t u : List ℕ) where
           slots = f .slots;
         }
 
+  -- ---- remembered calls
+  module _ (n at count : ℕ) (out : List ℕ) (k : ℕ) where
+    -- in a slot
+    pub apply-known : (r : ℕ) (slots : List ℕ) → Slots call slots → Recalled slots n (part at count out) r → (r ≡ 0 → ⊥) → Found (call n (part at count out)) k (at + count) (at + count) out out call slots r
+    apply-known r slots held f z =
+        let w = held .right n (part at count out) r (f z) in
+        record { told = told-known (call n (part at count out)) k r (Short out (at + count) k) r (w .decided) (w .gives); small = w .small; kept = same-refl (at + count) out; slots = held }
+
+    -- kept in one
+    pub apply-kept : (r : ℕ) (out′ slots slots′ : List ℕ) → at + count ≤ length out → Found (call n (part at count out)) k (at + count) (at + count) out out′ call slots r → Written n (part at count out′) r slots slots′ → Found (call n (part at count out)) k (at + count) (at + count) out out′ call slots′ r
+    apply-kept r out′ slots slots′ h f w =
+        record {
+          told = f .told;
+          small = f .small;
+          kept = f .kept;
+          slots = slots-written call n (part at count out) r slots slots′ (f .slots) (λ d. record { decided = d; small = f .small; gives = f .told .knows d })
+              (subst (λ (os : List ℕ). Written n os r slots slots′) (part-same at count (at + count) out′ out (omega arith) (f .kept)) w);
+        }
+
 -- a name's declaration, or their number
 pub decl-least : (b : List ℕ) → Passed b → (n : ℕ) → position (program (lines 6 b)) n ≤ 96
 decl-least b passed n = omega (arith, position-le (program (lines 6 b)) n, length-program (lines 6 b), decls-few b passed)
@@ -579,6 +600,11 @@ module _ (b : List ℕ) (passed : Passed b) (y : ℕ) (h : y < count-of type-lin
 
   pub name-within : kind-of (lines 6 b) y ≡ 8 → number (y-line (lines 6 b) y) 1 < count-of name-line (lines 6 b)
   name-within = node-at b passed y h .named
+
+-- names are few
+pub names-few : (b : List ℕ) → Passed b → count-of name-line (lines 6 b) ≤ 256
+unfolding counts-of
+names-few b passed = passed-kept b passed .names
 
 pub capped-least : (r n : ℕ) → r ≡ capped 1024 n → r ≤ 1025
 capped-least r n e = omega (arith, capped-most 1024 n)

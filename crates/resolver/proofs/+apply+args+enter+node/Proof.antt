@@ -16,7 +16,7 @@ use Rattle.arguments.specs.ParamsLaws.{decls-few}
 use Rattle.calls.specs.CallsLaws.{Copy}
 use Rattle.memory.specs.Slots.{Slots}
 use Rattle.resolving.specs.Resolver.{evals-of, call-of, Args, Found, Done}
-use Rattle.resolving.specs.ResolverLaws.{node-var, node-stop, node-built, node-full, joined-args, node-apply, args-none, args-more, args-stop, args-full, args-done, enter-nine, enter-spent, enough, enter-ten, enter-var, enter-node, unfolded-is, unfolded-place, apply-gone, apply-stays, apply-enter, decl-least, kid-below, name-within, capped-least}
+use Rattle.resolving.specs.ResolverLaws.{node-var, node-stop, node-built, node-full, joined-args, node-apply, args-none, args-more, args-stop, args-full, args-done, enter-nine, enter-spent, enough, enter-ten, enter-var, enter-node, unfolded-is, unfolded-place, apply-gone, apply-stays, apply-enter, decl-least, kid-below, name-within, names-few, capped-least, apply-known, apply-kept}
 use Prim.Native.Nat.{ℕ, _<_}
 use borrow.Fn.Kinds.{In}
 use borrow.Fn.PlainCycle.{Measures, is, falls, and}
@@ -38,6 +38,8 @@ use Rattle.calls.proofs.fits.Reads as fits-reads
 use Rattle.calls.proofs.params.Reads as params-reads
 use Rattle.kids.proofs.kid.Reads as kid-reads
 use Rattle.kids.proofs.kids.Reads as kids-reads
+use Rattle.memory.proofs.recall.Reads as recall-reads
+use Rattle.memory.proofs.remember.Reads as remember-reads
 use Rattle.resolver.proofs.state.Reads as state-reads
 use Rattle.sums.proofs.built.Reads as built-reads
 use Rattle.sums.proofs.total.Reads as total-reads
@@ -90,8 +92,12 @@ apply-decl-of-requires : (t : ℕ) → apply-lts.Need-decl-of-requires (
   state-reads.Learnt,
   built-reads.Asked,
   built-reads.Learnt,
+  recall-reads.Asked,
+  recall-reads.Learnt,
   enter-below t,
   enter.Post,
+  remember-reads.Asked,
+  remember-reads.Learnt,
 ) (apply-at t) apply.Post
 apply-decl-of-requires t c κs = let p = c .before .before .before .before .before .pre .1 in (p .0 .0 .tabled, p .0 .1)
 
@@ -102,8 +108,12 @@ apply-state-requires : (t : ℕ) → apply-lts.Need-state-requires (
   state-reads.Learnt,
   built-reads.Asked,
   built-reads.Learnt,
+  recall-reads.Asked,
+  recall-reads.Learnt,
   enter-below t,
   enter.Post,
+  remember-reads.Asked,
+  remember-reads.Learnt,
 ) (apply-at t) apply.Post
 apply-state-requires t c κs = omega (arith, c .decl-of .ensures, decl-least (c .before .before .before .before .before .before .args .s .now) (c .before .before .before .before .before .before .pre .1 .0 .0 .tabled .passed) (c .before .before .before .before .before .before .args .n))
 
@@ -114,8 +124,12 @@ apply-returns : (t : ℕ) → apply-lts.Need-returns (
   state-reads.Learnt,
   built-reads.Asked,
   built-reads.Learnt,
+  recall-reads.Asked,
+  recall-reads.Learnt,
   enter-below t,
   enter.Post,
+  remember-reads.Asked,
+  remember-reads.Learnt,
 ) (apply-at t) apply.Post
 apply-returns t c =
     let a = c .before .before .before .before .before .before .before .before .args in
@@ -129,8 +143,12 @@ apply-built-requires : (t : ℕ) → apply-lts.Need-built-requires (
   state-reads.Learnt,
   built-reads.Asked,
   built-reads.Learnt,
+  recall-reads.Asked,
+  recall-reads.Learnt,
   enter-below t,
   enter.Post,
+  remember-reads.Asked,
+  remember-reads.Learnt,
 ) (apply-at t) apply.Post
 apply-built-requires t c κs = (omega (arith, c .before .before .before .before .before .before .before .before .before .before .pre .1 .1 .0 .room), omega arith)
 
@@ -141,8 +159,12 @@ apply-same-length : (t : ℕ) → apply-lts.Need-same-length (
   state-reads.Learnt,
   built-reads.Asked,
   built-reads.Learnt,
+  recall-reads.Asked,
+  recall-reads.Learnt,
   enter-below t,
   enter.Post,
+  remember-reads.Asked,
+  remember-reads.Learnt,
 ) (apply-at t) apply.Post
 apply-same-length t c = search needs
 
@@ -153,36 +175,33 @@ apply-returns-2 : (t : ℕ) → apply-lts.Need-returns-2 (
   state-reads.Learnt,
   built-reads.Asked,
   built-reads.Learnt,
+  recall-reads.Asked,
+  recall-reads.Learnt,
   enter-below t,
   enter.Post,
+  remember-reads.Asked,
+  remember-reads.Learnt,
 ) (apply-at t) apply.Post
 apply-returns-2 t c =
     let a = c .before .before .before .before .before .before .before .before .before .before .before .args in
     let p = c .before .before .before .before .before .before .before .before .before .before .before .pre .1 in
     apply-stays (a .s .now) (a .t .now) (a .u .now) (p .0 .0) (a .n) _ _ (a .at) (a .count) (c .before .before .before .before .before .decl-of .ensures) (c .before .before .before .before .state .ensures) (a .out .now) (p .1 .0) (a .slots .now) (p .1 .1) (a .k) _ (c .before .before .if2 .taken) (c .built .ensures)
 
-apply-enter-requires : (t : ℕ) → apply-lts.Need-enter-requires (
+apply-recall-requires : (t : ℕ) → apply-lts.Need-recall-requires (
   decl-of-reads.Asked,
   decl-of-reads.Learnt,
   state-reads.Asked,
   state-reads.Learnt,
   built-reads.Asked,
   built-reads.Learnt,
+  recall-reads.Asked,
+  recall-reads.Learnt,
   enter-below t,
   enter.Post,
+  remember-reads.Asked,
+  remember-reads.Learnt,
 ) (apply-at t) apply.Post
-apply-enter-requires t c κs =
-    let a = c .before .before .before .before .before .before .before .before .before .before .before .args in
-    let p = c .before .before .before .before .before .before .before .before .before .before .before .pre .1 in (
-      omega (arith, c .before .before .before .before .before .before .before .before .before .before .before .pre .0),
-      (
-        (
-          unfolded-place (a .s .now) (a .t .now) (a .u .now) (p .0 .0) (a .n) _ _ (a .at) (a .count) (c .before .before .before .before .before .decl-of .ensures) (c .before .before .before .before .state .ensures) (a .out .now) (p .1 .0) (a .slots .now) (p .1 .1) (c .before .before .before .if1 .left) (c .before .before .if2 .left),
-          unfolded-is (a .s .now) (a .t .now) (a .u .now) (p .0 .0) (a .n) _ _ (a .at) (a .count) (c .before .before .before .before .before .decl-of .ensures) (c .before .before .before .before .state .ensures) (a .out .now) (p .1 .0) (a .slots .now) (p .1 .1) (c .before .before .before .if1 .left) (c .before .before .if2 .left),
-        ),
-        (p .1 .0, p .1 .1),
-      ),
-    )
+apply-recall-requires t c κs = (omega (arith, c .before .before .before .before .before .before .before .before .before .before .before .pre .1 .0 .1, names-few (c .before .before .before .before .before .before .before .before .before .before .before .args .s .now) (c .before .before .before .before .before .before .before .before .before .before .before .pre .1 .0 .0 .tabled .passed)), c .before .before .before .before .before .before .before .before .before .before .before .pre .1 .1 .0 .room)
 
 apply-same-length-2 : (t : ℕ) → apply-lts.Need-same-length-2 (
   decl-of-reads.Asked,
@@ -191,10 +210,14 @@ apply-same-length-2 : (t : ℕ) → apply-lts.Need-same-length-2 (
   state-reads.Learnt,
   built-reads.Asked,
   built-reads.Learnt,
+  recall-reads.Asked,
+  recall-reads.Learnt,
   enter-below t,
   enter.Post,
+  remember-reads.Asked,
+  remember-reads.Learnt,
 ) (apply-at t) apply.Post
-apply-same-length-2 t c = c .before .before .before .before .enter .ensures .kept .long
+apply-same-length-2 t c = search needs
 
 apply-same-length-3 : (t : ℕ) → apply-lts.Need-same-length-3 (
   decl-of-reads.Asked,
@@ -203,8 +226,12 @@ apply-same-length-3 : (t : ℕ) → apply-lts.Need-same-length-3 (
   state-reads.Learnt,
   built-reads.Asked,
   built-reads.Learnt,
+  recall-reads.Asked,
+  recall-reads.Learnt,
   enter-below t,
   enter.Post,
+  remember-reads.Asked,
+  remember-reads.Learnt,
 ) (apply-at t) apply.Post
 apply-same-length-3 t c = search needs
 
@@ -215,13 +242,113 @@ apply-returns-3 : (t : ℕ) → apply-lts.Need-returns-3 (
   state-reads.Learnt,
   built-reads.Asked,
   built-reads.Learnt,
+  recall-reads.Asked,
+  recall-reads.Learnt,
   enter-below t,
   enter.Post,
+  remember-reads.Asked,
+  remember-reads.Learnt,
 ) (apply-at t) apply.Post
 apply-returns-3 t c =
-    let a = c .before .before .before .before .before .before .before .before .before .before .before .before .before .before .before .before .args in
-    let p = c .before .before .before .before .before .before .before .before .before .before .before .before .before .before .before .before .pre .1 in
-    apply-enter (a .s .now) (a .t .now) (a .u .now) (p .0 .0) (a .n) _ _ (a .at) (a .count) (c .before .before .before .before .before .before .before .before .before .before .decl-of .ensures) (c .before .before .before .before .before .before .before .before .before .state .ensures) (a .out .now) (p .1 .0) (a .slots .now) (p .1 .1) (a .k) _ _ _ (c .before .before .before .before .enter .ensures)
+    let a = c .before .before .before .before .before .before .before .before .before .before .before .before .before .args in
+    let p = c .before .before .before .before .before .before .before .before .before .before .before .before .before .pre .1 in
+    apply-known (a .s .now) (a .t .now) (a .u .now) (a .n) (a .at) (a .count) (a .out .now) (a .k) _ (a .slots .now) (p .1 .1) (c .before .recall .ensures) (c .if3 .taken)
+
+apply-enter-requires : (t : ℕ) → apply-lts.Need-enter-requires (
+  decl-of-reads.Asked,
+  decl-of-reads.Learnt,
+  state-reads.Asked,
+  state-reads.Learnt,
+  built-reads.Asked,
+  built-reads.Learnt,
+  recall-reads.Asked,
+  recall-reads.Learnt,
+  enter-below t,
+  enter.Post,
+  remember-reads.Asked,
+  remember-reads.Learnt,
+) (apply-at t) apply.Post
+apply-enter-requires t c κs =
+    let a = c .before .before .before .before .before .before .before .before .before .before .before .before .before .before .before .args in
+    let p = c .before .before .before .before .before .before .before .before .before .before .before .before .before .before .before .pre .1 in (
+      omega (arith, c .before .before .before .before .before .before .before .before .before .before .before .before .before .before .before .pre .0),
+      (
+        (
+          unfolded-place (a .s .now) (a .t .now) (a .u .now) (p .0 .0) (a .n) _ _ (a .at) (a .count) (c .before .before .before .before .before .before .before .before .before .decl-of .ensures) (c .before .before .before .before .before .before .before .before .state .ensures) (a .out .now) (p .1 .0) (a .slots .now) (p .1 .1) (c .before .before .before .before .before .before .before .if1 .left) (c .before .before .before .before .before .before .if2 .left),
+          unfolded-is (a .s .now) (a .t .now) (a .u .now) (p .0 .0) (a .n) _ _ (a .at) (a .count) (c .before .before .before .before .before .before .before .before .before .decl-of .ensures) (c .before .before .before .before .before .before .before .before .state .ensures) (a .out .now) (p .1 .0) (a .slots .now) (p .1 .1) (c .before .before .before .before .before .before .before .if1 .left) (c .before .before .before .before .before .before .if2 .left),
+        ),
+        (p .1 .0, p .1 .1),
+      ),
+    )
+
+apply-remember-requires : (t : ℕ) → apply-lts.Need-remember-requires (
+  decl-of-reads.Asked,
+  decl-of-reads.Learnt,
+  state-reads.Asked,
+  state-reads.Learnt,
+  built-reads.Asked,
+  built-reads.Learnt,
+  recall-reads.Asked,
+  recall-reads.Learnt,
+  enter-below t,
+  enter.Post,
+  remember-reads.Asked,
+  remember-reads.Learnt,
+) (apply-at t) apply.Post
+apply-remember-requires t c κs = (omega (arith, c .before .before .before .before .before .before .before .before .before .before .before .before .before .before .before .before .before .before .before .before .before .before .pre .1 .0 .1, names-few (c .before .before .before .before .before .before .before .before .before .before .before .before .before .before .before .before .before .before .before .before .before .before .args .s .now) (c .before .before .before .before .before .before .before .before .before .before .before .before .before .before .before .before .before .before .before .before .before .before .pre .1 .0 .0 .tabled .passed)), omega (arith, c .before .before .before .before .before .before .before .before .before .before .before .before .before .before .before .before .before .before .before .before .before .before .pre .1 .1 .0 .room, c .before .before .before .before .before .before .enter .ensures .kept .long), c .before .before .before .before .before .before .enter .ensures .small)
+
+apply-same-length-4 : (t : ℕ) → apply-lts.Need-same-length-4 (
+  decl-of-reads.Asked,
+  decl-of-reads.Learnt,
+  state-reads.Asked,
+  state-reads.Learnt,
+  built-reads.Asked,
+  built-reads.Learnt,
+  recall-reads.Asked,
+  recall-reads.Learnt,
+  enter-below t,
+  enter.Post,
+  remember-reads.Asked,
+  remember-reads.Learnt,
+) (apply-at t) apply.Post
+apply-same-length-4 t c = c .before .before .before .before .before .before .before .before .before .enter .ensures .kept .long
+
+apply-same-length-5 : (t : ℕ) → apply-lts.Need-same-length-5 (
+  decl-of-reads.Asked,
+  decl-of-reads.Learnt,
+  state-reads.Asked,
+  state-reads.Learnt,
+  built-reads.Asked,
+  built-reads.Learnt,
+  recall-reads.Asked,
+  recall-reads.Learnt,
+  enter-below t,
+  enter.Post,
+  remember-reads.Asked,
+  remember-reads.Learnt,
+) (apply-at t) apply.Post
+apply-same-length-5 t c = search needs
+
+apply-returns-4 : (t : ℕ) → apply-lts.Need-returns-4 (
+  decl-of-reads.Asked,
+  decl-of-reads.Learnt,
+  state-reads.Asked,
+  state-reads.Learnt,
+  built-reads.Asked,
+  built-reads.Learnt,
+  recall-reads.Asked,
+  recall-reads.Learnt,
+  enter-below t,
+  enter.Post,
+  remember-reads.Asked,
+  remember-reads.Learnt,
+) (apply-at t) apply.Post
+apply-returns-4 t c =
+    let a = c .before .before .before .before .before .before .before .before .before .before .before .before .before .before .before .before .before .before .before .before .before .before .before .before .before .args in
+    let p = c .before .before .before .before .before .before .before .before .before .before .before .before .before .before .before .before .before .before .before .before .before .before .before .before .before .pre .1 in
+    apply-kept (a .s .now) (a .t .now) (a .u .now) (a .n) (a .at) (a .count) (a .out .now) (a .k) _ _ _ _ (p .1 .0 .room)
+    (apply-enter (a .s .now) (a .t .now) (a .u .now) (p .0 .0) (a .n) _ _ (a .at) (a .count) (c .before .before .before .before .before .before .before .before .before .before .before .before .before .before .before .before .before .before .before .decl-of .ensures) (c .before .before .before .before .before .before .before .before .before .before .before .before .before .before .before .before .before .before .state .ensures) (a .out .now) (p .1 .0) (a .slots .now) (p .1 .1) (a .k) _ _ _ (c .before .before .before .before .before .before .before .before .before .enter .ensures))
+    (c .before .before .remember .ensures)
 
 abbrev args-Inv-loop : args-lts.InvT-loop
 args-Inv-loop s t u out₀ slots₀ k y d at count top n next₀ i₀ out slots next i = (i ≤ n) × (next ≡ top + i) × (length slots ≡ length slots₀) × Done (evals-of (lines 6 s) u d (part at count out₀) y) top i out₀ out (call-of (lines 6 s) u) slots
@@ -1571,8 +1698,12 @@ pub +apply+args+enter+node-spec : {M : Type 1} → statement M
   state-reads.Learnt,
   built-reads.Asked,
   built-reads.Learnt,
+  recall-reads.Asked,
+  recall-reads.Learnt,
   enter-below t,
   enter.Post,
+  remember-reads.Asked,
+  remember-reads.Learnt,
 )
     (apply-at t)
     apply.Post
@@ -1582,10 +1713,15 @@ pub +apply+args+enter+node-spec : {M : Type 1} → statement M
     (apply-built-requires t)
     (apply-same-length t)
     (apply-returns-2 t)
-    (apply-enter-requires t)
+    (apply-recall-requires t)
     (apply-same-length-2 t)
     (apply-same-length-3 t)
-    (apply-returns-3 t))
+    (apply-returns-3 t)
+    (apply-enter-requires t)
+    (apply-remember-requires t)
+    (apply-same-length-4 t)
+    (apply-same-length-5 t)
+    (apply-returns-4 t))
     (λ t. args-lts.spec (
       kids-reads.Asked,
       kids-reads.Learnt,
