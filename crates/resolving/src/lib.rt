@@ -1,0 +1,1 @@
+// What the resolution by outcomes asks and answers: the definitions and laws are in specs/.
