@@ -1,0 +1,2 @@
+pub mod SubstLaws
+pub mod FormLaws
