@@ -1,2 +1,4 @@
 pub mod SubstLaws
 pub mod FormLaws
+pub mod Nodes
+pub mod NodesLaws
