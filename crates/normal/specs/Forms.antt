@@ -37,9 +37,9 @@ unfoldable pub place : List ℕ → ℕ → ℕ
 place [] v = 0
 place (p ∷ ps) v = pick (eqb p v) 0 (suc (place ps v))
 
--- a type with places for its variables
-unfoldable pub by-place : List ℕ → Cty → Cty
-by-place ps = walk (λ v. TVar (place ps v)) TApp
+-- a type with other numbers for its variables
+unfoldable pub renamed : (ℕ → ℕ) → Cty → Cty
+renamed ρ = walk (λ v. TVar (ρ v)) TApp
 
 unfoldable pub joined : List (List Node) → List Node
 joined [] = []
@@ -62,16 +62,17 @@ named n xs xss stays = joined xss ++ (node 8 (length xss) n ∷ [])
 
 -- a variable that the declaration does not bind is `TAny`
 unfoldable pub variable : Bool → ℕ → Node
-variable b i = pick b (node 3 0 i) (node 1 0 0)
+variable b v = pick b (node 3 0 v) (node 1 0 0)
 
--- in a declaration with parameters ps
-module _ (lay : ℕ → Unfold) (form : ℕ → List Node) (ps : List ℕ) where
+-- In a declaration with parameters ps. ρ says how variables are told: by place in a normal form, by
+-- name in a type that is left.
+module _ (lay : ℕ → Unfold) (form : ℕ → List Node) (ps : List ℕ) (ρ : ℕ → ℕ) where
   unfoldable mutual
     pub nodes : Cty → List Node
     nodes TUnit = node 0 0 0 ∷ []
     nodes TAny = node 1 0 0 ∷ []
     nodes TExn = node 2 0 0 ∷ []
-    nodes (TVar v) = variable (member v ps) (place ps v) ∷ []
+    nodes (TVar v) = variable (member v ps) (ρ v) ∷ []
     nodes (TInt s w) = node 4 s w ∷ []
     nodes (TFloat f) = node 5 0 f ∷ []
     nodes (TConst c) = node 6 0 c ∷ []

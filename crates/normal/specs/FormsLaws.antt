@@ -64,6 +64,7 @@ use Rattle.custard.specs.Laws.Cty.{
   walk-each,
   walk-cong,
   walk-still,
+  walk-id,
   look-each,
   firsts-eachs,
   others-eachs,
@@ -77,9 +78,9 @@ use Rattle.normal.specs.SubstLaws.{firsts-walks, others-walks, lengths-w
 use Rattle.normal.specs.FormLaws.{BodyBound, Bound, bind-ok, within-ok, ok-same, newtype-ok, abbreviation-ok, surplus-ok, resolve-put}
 use Rattle.normal.specs.Nodes.{Node, node, post, posts, spread, attached}
 use Rattle.normal.specs.NodesLaws.{post-put, post-attach}
-use Rattle.normal.specs.Forms.{place, by-place, joined, argument, placed, named, variable, nodes, nodes-each}
+use Rattle.normal.specs.Forms.{place, renamed, joined, argument, placed, named, variable, nodes, nodes-each}
 
--- ---- types by place
+-- ---- variables by place
 -- the type of argument i, `TUnit` where there is none
 unfoldable pub nth : Ctys → ℕ → Cty
 nth nil i = TUnit
@@ -108,22 +109,22 @@ place-below (p ∷ ps) v h = go (eqb p v) (λ k. place-below ps v k) h
     go true ih k = omega arith
     go false ih k = omega (arith, ih k)
 
--- places go through a surplus
-pub by-place-attach : (ps : List ℕ) (c : Cty) (us : Ctys) → by-place ps (attach c us) ≡ attach (by-place ps c) (walks (λ v. TVar (place ps v)) TApp us)
-unfolding by-place walk attach
-by-place-attach ps TUnit us = refl
-by-place-attach ps TAny us = refl
-by-place-attach ps TExn us = refl
-by-place-attach ps (TVar v) us = refl
-by-place-attach ps (TInt s w) us = refl
-by-place-attach ps (TFloat f) us = refl
-by-place-attach ps (TConst c) us = refl
-by-place-attach ps (TArrow a e b) us = refl
-by-place-attach ps (TApp n ts) us = ap (TApp n) (walks-append (λ v. TVar (place ps v)) TApp ts us)
-by-place-attach ps (TTuple ts) us = refl
-by-place-attach ps (TBuf t) us = refl
-by-place-attach ps (TRef k t) us = refl
-by-place-attach ps (TInline t) us = refl
+-- other numbers for variables go through a surplus
+pub renamed-attach : (ρ : ℕ → ℕ) (c : Cty) (us : Ctys) → renamed ρ (attach c us) ≡ attach (renamed ρ c) (walks (λ v. TVar (ρ v)) TApp us)
+unfolding renamed walk attach
+renamed-attach ρ TUnit us = refl
+renamed-attach ρ TAny us = refl
+renamed-attach ρ TExn us = refl
+renamed-attach ρ (TVar v) us = refl
+renamed-attach ρ (TInt s w) us = refl
+renamed-attach ρ (TFloat f) us = refl
+renamed-attach ρ (TConst c) us = refl
+renamed-attach ρ (TArrow a e b) us = refl
+renamed-attach ρ (TApp n ts) us = ap (TApp n) (walks-append (λ v. TVar (ρ v)) TApp ts us)
+renamed-attach ρ (TTuple ts) us = refl
+renamed-attach ρ (TBuf t) us = refl
+renamed-attach ρ (TRef k t) us = refl
+renamed-attach ρ (TInline t) us = refl
 
 -- ---- lists of nodes
 unfoldable pub post-each : Ctys → List (List Node)
@@ -161,13 +162,13 @@ spread-cong f g h (x ∷ xs) =
 
 -- A normal form by places with the nodes of arguments is the nodes of the type with the arguments put in.
 pub placed-post : (ps : List ℕ) (us : Ctys) (t : Cty) → length ps ≤ lengths us → Each (λ v. T (member v ps)) Any t
-    → placed (length ps) (post (by-place ps t)) (post-each us) ≡ post (attach (walk (look (zip ps (firsts (length ps) us))) TApp t) (others (length ps) us))
-unfolding placed by-place walk
+    → placed (length ps) (post (renamed (place ps) t)) (post-each us) ≡ post (attach (walk (look (zip ps (firsts (length ps) us))) TApp t) (others (length ps) us))
+unfolding placed renamed walk
 placed-post ps us t h b =
     rw (drop-post-each (length ps) us, length-post-each (others (length ps) us), joined-post (others (length ps) us))
     (ap (λ (l : List Node). attached l (lengths (others (length ps) us)) (posts (others (length ps) us)))
-    (spread-cong (argument (post-each us)) (λ i. post (nth us i)) (argument-post us) (post (by-place ps t))
-    ∙ (sym (post-put (nth us) (by-place ps t))
+    (spread-cong (argument (post-each us)) (λ i. post (nth us i)) (argument-post us) (post (renamed (place ps) t))
+    ∙ (sym (post-put (nth us) (renamed (place ps) t))
     ∙ ap post
     (walk-subst (nth us) TApp (λ v. TVar (place ps v)) t
     ∙ walk-cong (λ v. nth us (place ps v)) (look (zip ps (firsts (length ps) us))) TApp TApp t
@@ -215,7 +216,7 @@ module _ (limit : ℕ) (lay : ℕ → Unfold) (bound : Bound lay) where
     pub fuel : ℕ
     pub type : Cty
     pub answers : resolve-checked limit lay fuel c ≡ ok type
-    pub are : xs ≡ post (by-place ps type)
+    pub are : xs ≡ post (renamed (place ps) type)
 
   abbrev pub Formed : Unfold → List Node → Type 0
   Formed gone xs = Unit {0}
@@ -248,15 +249,15 @@ module _ (limit : ℕ) (lay : ℕ → Unfold) (bound : Bound lay) where
             (rw (← instance-zip ps fs c (sym (lengths-firsts (length ps) us (p .0)))) (surplus-ok (resolve-checked limit lay m) (instance ps fs c) (others (length ps) us) R (p .1))),
       )
 
-  module _ (ps : List ℕ) where
+  module _ (ps : List ℕ) (ρ : ℕ → ℕ) where
     abbrev π : ℕ → Cty
-    π v = TVar (place ps v)
+    π v = TVar (ρ v)
 
     -- the nodes of a name's answer
     put-form : (n : ℕ) (us : Ctys) (qs : List ℕ) (c N R : Cty) (k : ℕ) → Each (λ v. T (member v qs)) Any c → resolve-checked limit lay k c ≡ ok N → length qs ≤ lengths us
         → R ≡ attach (walk (look (zip qs (firsts (length qs) us))) TApp N) (others (length qs) us)
-        → placed (length qs) (post (by-place qs N)) (post-each (walks π TApp us)) ≡ post (by-place ps R)
-    unfolding by-place
+        → placed (length qs) (post (renamed (place qs) N)) (post-each (walks π TApp us)) ≡ post (renamed ρ R)
+    unfolding renamed
     put-form n us qs c N R k b e h f =
         let bN : Each (λ v. T (member v qs)) Any N = form-bound qs k c N b e in
         let fs : Ctys = firsts (length qs) us in
@@ -264,8 +265,8 @@ module _ (limit : ℕ) (lay : ℕ → Unfold) (bound : Bound lay) where
         ∙ ap post
         (rw (firsts-walks π TApp (length qs) us, others-walks π TApp (length qs) us)
         (sym
-        (ap (by-place ps) f
-        ∙ (by-place-attach ps (walk (look (zip qs fs)) TApp N) (others (length qs) us)
+        (ap (renamed ρ) f
+        ∙ (renamed-attach ρ (walk (look (zip qs fs)) TApp N) (others (length qs) us)
         ∙ ap (λ (t : Cty). attach t (walks π TApp (others (length qs) us)))
         (walk-subst π TApp (look (zip qs fs)) N
         ∙ walk-cong (λ v. walk π TApp (look (zip qs fs) v)) (look (zip qs (walks π TApp fs))) TApp TApp N
@@ -273,9 +274,9 @@ module _ (limit : ℕ) (lay : ℕ → Unfold) (bound : Bound lay) where
         (λ v t. look-walks π TApp qs fs v (sym (lengths-firsts (length qs) us h)) t) (λ m u ws. refl) N bN))))))
 
     named-post : (m n : ℕ) (us : Ctys) (R : Cty) (xs : List Node) (l : Unfold) → lay n ≡ l → Alls (Stays lay) us → Formed l xs
-        → checked-applied (resolve-checked limit lay m) n us l ≡ ok R → named n xs (post-each (walks π TApp us)) l ≡ post (by-place ps R)
-    unfolding named checked-applied by-place walk post
-    named-post m n us R xs gone q h w e = ap (λ (t : Cty). post (by-place ps t)) (ok-same TUnit R e)
+        → checked-applied (resolve-checked limit lay m) n us l ≡ ok R → named n xs (post-each (walks π TApp us)) l ≡ post (renamed ρ R)
+    unfolding named checked-applied renamed walk post
+    named-post m n us R xs gone q h w e = ap (λ (t : Cty). post (renamed ρ t)) (ok-same TUnit R e)
     named-post m n us R xs (newtype qs c) q h w e =
         let b : Each (λ v. T (member v qs)) Any c = subst BodyBound q (bound n) in
         let r = newtype-form (w .fuel) m n us qs c (w .type) R b h (w .answers) e in
@@ -286,7 +287,7 @@ module _ (limit : ℕ) (lay : ℕ → Unfold) (bound : Bound lay) where
         ap (λ (l : List Node). placed (length qs) l (post-each (walks π TApp us))) (w .are) ∙ put-form n us qs c (w .type) R (w .fuel) b (w .answers) (r .0) (r .1)
     named-post m n us R xs stays q h w e =
         ap₂ (λ (l : List Node) (k : ℕ). l ++ (node 8 k n ∷ [])) (joined-post (walks π TApp us)) (length-post-each (walks π TApp us))
-        ∙ ap (λ (t : Cty). post (by-place ps t)) (ok-same (TApp n us) R e)
+        ∙ ap (λ (t : Cty). post (renamed ρ t)) (ok-same (TApp n us) R e)
 
     module _ (form : ℕ → List Node) (m : ℕ) where
       abbrev χ : ℕ → Cty
@@ -300,21 +301,21 @@ module _ (limit : ℕ) (lay : ℕ → Unfold) (bound : Bound lay) where
           let q = bind-ok (checkeds limit lay (resolve-checked limit lay m) ts) _ us (p .then) in
           subst (Alls (Stays lay)) (ok-same (cons (p .value) (q .value)) us (q .then)) (checked-normal lay limit (suc m) t (p .value) (p .first), stay ts (q .value) (q .first))
 
-      leaf : (c R : Cty) (xs : List Node) → within limit c (ok c) ≡ ok R → xs ≡ post (by-place ps c) → xs ≡ post (by-place ps R)
-      leaf c R xs e h = h ∙ ap (λ (t : Cty). post (by-place ps t)) (ok-same c R (within-ok limit c (ok c) R e))
+      leaf : (c R : Cty) (xs : List Node) → within limit c (ok c) ≡ ok R → xs ≡ post (renamed ρ c) → xs ≡ post (renamed ρ R)
+      leaf c R xs e h = h ∙ ap (λ (t : Cty). post (renamed ρ t)) (ok-same c R (within-ok limit c (ok c) R e))
 
       mutual
-        unfolding nodes close walk checked by-place post variable lengths post-each
+        unfolding nodes close walk checked renamed post variable lengths post-each
 
         level-post : (c R : Cty) → All (λ n. Formed (lay n) (form n)) c → checked limit lay (resolve-checked limit lay m) (walk χ TApp c) ≡ ok R
-            → nodes lay form ps c ≡ post (by-place ps R)
+            → nodes lay form ps ρ c ≡ post (renamed ρ R)
         level-post TUnit R h e = leaf TUnit R (node 0 0 0 ∷ []) e refl
         level-post TAny R h e = leaf TAny R (node 1 0 0 ∷ []) e refl
         level-post TExn R h e = leaf TExn R (node 2 0 0 ∷ []) e refl
         level-post (TVar v) R h e = go (member v ps) e
           where
-            go : (b : Bool) → checked limit lay (resolve-checked limit lay m) (pick b (TVar v) TAny) ≡ ok R → pick b (node 3 0 (place ps v)) (node 1 0 0) ∷ [] ≡ post (by-place ps R)
-            go true f = leaf (TVar v) R (node 3 0 (place ps v) ∷ []) f refl
+            go : (b : Bool) → checked limit lay (resolve-checked limit lay m) (pick b (TVar v) TAny) ≡ ok R → pick b (node 3 0 (ρ v)) (node 1 0 0) ∷ [] ≡ post (renamed ρ R)
+            go true f = leaf (TVar v) R (node 3 0 (ρ v) ∷ []) f refl
             go false f = leaf TAny R (node 1 0 0 ∷ []) f refl
         level-post (TInt s w) R h e = leaf (TInt s w) R (node 4 s w ∷ []) e refl
         level-post (TFloat f) R h e = leaf (TFloat f) R (node 5 0 f ∷ []) e refl
@@ -323,7 +324,7 @@ module _ (limit : ℕ) (lay : ℕ → Unfold) (bound : Bound lay) where
             let p = bind-ok (checked limit lay (resolve-checked limit lay m) (walk χ TApp a)) _ R (within-ok limit (TArrow (walk χ TApp a) x (walk χ TApp b)) _ R e) in
             let q = bind-ok (checked limit lay (resolve-checked limit lay m) (walk χ TApp b)) _ R (p .then) in
             ap₂ (λ (l r : List Node). l ++ (r ++ (node 7 2 x ∷ []))) (level-post a (p .value) (h .0) (p .first)) (level-post b (q .value) (h .1) (q .first))
-            ∙ ap (λ (t : Cty). post (by-place ps t)) (ok-same (TArrow (p .value) x (q .value)) R (q .then))
+            ∙ ap (λ (t : Cty). post (renamed ρ t)) (ok-same (TArrow (p .value) x (q .value)) R (q .then))
         level-post (TApp n ts) R h e =
             let p = bind-ok (checkeds limit lay (resolve-checked limit lay m) (walks χ TApp ts)) _ R (within-ok limit (TApp n (walks χ TApp ts)) _ R e) in
             ap (λ (l : List (List Node)). named n (form n) l (lay n)) (levels-post ts (p .value) (h .1) (p .first) .0)
@@ -332,19 +333,19 @@ module _ (limit : ℕ) (lay : ℕ → Unfold) (bound : Bound lay) where
             let p = bind-ok (checkeds limit lay (resolve-checked limit lay m) (walks χ TApp ts)) _ R (within-ok limit (TTuple (walks χ TApp ts)) _ R e) in
             let l = levels-post ts (p .value) (h) (p .first) in
             ap₂ (λ (xs : List Node) (k : ℕ). xs ++ (node 9 k 0 ∷ [])) (ap joined (l .0) ∙ joined-post (walks π TApp (p .value))) (l .1 ∙ sym (lengths-walks π TApp (p .value)))
-            ∙ ap (λ (t : Cty). post (by-place ps t)) (ok-same (TTuple (p .value)) R (p .then))
+            ∙ ap (λ (t : Cty). post (renamed ρ t)) (ok-same (TTuple (p .value)) R (p .then))
         level-post (TBuf t) R h e =
             let p = bind-ok (checked limit lay (resolve-checked limit lay m) (walk χ TApp t)) _ R (within-ok limit (TBuf (walk χ TApp t)) _ R e) in
-            ap (λ (l : List Node). l ++ (node 10 1 0 ∷ [])) (level-post t (p .value) h (p .first)) ∙ ap (λ (y : Cty). post (by-place ps y)) (ok-same (TBuf (p .value)) R (p .then))
+            ap (λ (l : List Node). l ++ (node 10 1 0 ∷ [])) (level-post t (p .value) h (p .first)) ∙ ap (λ (y : Cty). post (renamed ρ y)) (ok-same (TBuf (p .value)) R (p .then))
         level-post (TRef k t) R h e =
             let p = bind-ok (checked limit lay (resolve-checked limit lay m) (walk χ TApp t)) _ R (within-ok limit (TRef k (walk χ TApp t)) _ R e) in
-            ap (λ (l : List Node). l ++ (node 11 1 k ∷ [])) (level-post t (p .value) h (p .first)) ∙ ap (λ (y : Cty). post (by-place ps y)) (ok-same (TRef k (p .value)) R (p .then))
+            ap (λ (l : List Node). l ++ (node 11 1 k ∷ [])) (level-post t (p .value) h (p .first)) ∙ ap (λ (y : Cty). post (renamed ρ y)) (ok-same (TRef k (p .value)) R (p .then))
         level-post (TInline t) R h e =
             let p = bind-ok (checked limit lay (resolve-checked limit lay m) (walk χ TApp t)) _ R (within-ok limit (TInline (walk χ TApp t)) _ R e) in
-            ap (λ (l : List Node). l ++ (node 12 1 0 ∷ [])) (level-post t (p .value) h (p .first)) ∙ ap (λ (y : Cty). post (by-place ps y)) (ok-same (TInline (p .value)) R (p .then))
+            ap (λ (l : List Node). l ++ (node 12 1 0 ∷ [])) (level-post t (p .value) h (p .first)) ∙ ap (λ (y : Cty). post (renamed ρ y)) (ok-same (TInline (p .value)) R (p .then))
 
         levels-post : (ts us : Ctys) → Alls (λ n. Formed (lay n) (form n)) ts → checkeds limit lay (resolve-checked limit lay m) (walks χ TApp ts) ≡ ok us
-            → (nodes-each lay form ps ts ≡ post-each (walks π TApp us)) × (lengths ts ≡ lengths us)
+            → (nodes-each lay form ps ρ ts ≡ post-each (walks π TApp us)) × (lengths ts ≡ lengths us)
         levels-post nil us h e = (ap (λ (vs : Ctys). post-each (walks π TApp vs)) (ok-same nil us e), ap lengths (ok-same nil us e))
         levels-post (cons t ts) us h e =
             let p = bind-ok (checked limit lay (resolve-checked limit lay m) (walk χ TApp t)) _ us e in
@@ -357,7 +358,18 @@ module _ (limit : ℕ) (lay : ℕ → Unfold) (bound : Bound lay) where
     -- The nodes put together from the normal forms of a type's names are those of what the type, closed
     -- first, resolves to.
     pub nodes-post : (form : ℕ → List Node) (m : ℕ) (c R : Cty) → All (λ n. Formed (lay n) (form n)) c → resolve-checked limit lay m (close ps c) ≡ ok R
-        → nodes lay form ps c ≡ post (by-place ps R)
+        → nodes lay form ps ρ c ≡ post (renamed ρ R)
     unfolding resolve-checked close
     nodes-post form zero c R h e = let z : _≡_ {A = ℕ} 0 1 = cc in absurd (omega arith)
     nodes-post form (suc m) c R h e = level-post form m c R h e
+
+  -- variables by name: the nodes of the type that is left
+  pub nodes-left : (ps : List ℕ) (form : ℕ → List Node) (m : ℕ) (c R : Cty) → All (λ n. Formed (lay n) (form n)) c → resolve-checked limit lay m (close ps c) ≡ ok R
+      → nodes lay form ps (λ v. v) c ≡ post R
+  unfolding renamed
+  nodes-left ps form m c R h e = nodes-post ps (λ v. v) form m c R h e ∙ ap post (walk-id R)
+
+  -- variables by place: the normal form, once those of the names in the body are there
+  pub nodes-form : (ps : List ℕ) (form : ℕ → List Node) (m : ℕ) (c R : Cty) → All (λ n. Formed (lay n) (form n)) c → resolve-checked limit lay m (close ps c) ≡ ok R
+      → Form ps (close ps c) (nodes lay form ps (place ps) c)
+  nodes-form ps form m c R h e = record { fuel = m; type = R; answers = e; are = nodes-post ps (place ps) form m c R h e }
