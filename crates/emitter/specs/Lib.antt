@@ -1,1 +1,2 @@
 pub mod Pens
+pub mod PensLaws

@@ -51,3 +51,15 @@ pub fn write_node(w: u64, stack: &mut [u32], out: &mut [u8], p: Pen) -> Pen
         waiting: at + 1,
     }
 }
+
+// The lines of nodes, children before their parent.
+pub fn write_nodes(nodes: &[u64], stack: &mut [u32], out: &mut [u8], p: Pen) -> Pen
+    requires { ⌜ Room (map node-of (now nodes)) p (now out) (now stack) ⌝ }
+    ensures { λ r. ⌜ sheet r (now (out .exit)) (now (stack .exit)) ≡ write-lines (map node-of (now (nodes .entry))) (sheet p (now (out .entry)) (now (stack .entry))) ⌝ }
+{
+    let mut q = p;
+    for i in 0..nodes.len() {
+        q = write_node(nodes[i], stack, out, q);
+    }
+    q
+}

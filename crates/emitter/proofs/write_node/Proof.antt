@@ -1,140 +1,70 @@
+-- `emitter::write_node` meets its contract: the children are the part of the stack that is lent, and the node's number takes their place. Assumes nothing.
+use mathlib.Core.Path.{_≡_, ap, _∙_}
+use mathlib.Core.List.{List}
+use Prim.Native.Nat.{ℕ, _-_, _≤_}
+use native.Mathlib.Omega.{arith}
+use lib.ListN.{length, take, drop}
+use Rattle.normal.specs.Nodes.{taken, args-of}
+use Rattle.nodes.specs.Words.{node-of}
+use Rattle.node_lines.specs.Lines.{listed}
+use Rattle.emitter.specs.PensLaws.{listed-few, part-few, write-law}
 use borrow.Author.Needs.{needs}
 use Rattle.emitter.proofs.write_node.Statement.{statement}
 use Rattle.emitter.proofs.write_node.Tie as tie
-use Rattle.emitter.proofs.write_node.Reads as reads
-use Rattle.emitter.proofs.write_node.Lts as lts
-use Rattle.emitter.proofs.less.Reads as less-reads
-use Rattle.node_lines.proofs.children.Reads as children-reads
-use Rattle.node_lines.proofs.put_list.Reads as put-list-reads
-use Rattle.node_lines.proofs.y_numbers.Reads as y-numbers-reads
-use Rattle.writer.proofs.row_at.Reads as row-at-reads
 
--- src/lib.rt:40:24
-children-requires : tie.Need-children-requires
-children-requires c κs = search needs
+few : (w : ℕ) (st : List ℕ) (at top : ℕ) → at ≡ top - taken (node-of w) → length (listed (node-of w) (take (top - at) (drop at st))) ≤ args-of (node-of w)
+few w st at top e = listed-few (node-of w) (take (top - at) (drop at st)) (part-few st at top (taken (node-of w)) e)
 
--- src/lib.rt:40:9
-less-requires : tie.Need-less-requires
-less-requires c κs = search needs
-
--- src/lib.rt:42:32
-mul-y-numbers : tie.Need-mul-y-numbers
-mul-y-numbers c = search needs
-
--- src/lib.rt:42:32
-sub-y-numbers : tie.Need-sub-y-numbers
-sub-y-numbers c = search needs
-
--- src/lib.rt:42:32
-part-y-numbers-start : tie.Need-part-y-numbers-start
-part-y-numbers-start c = search needs
-
--- src/lib.rt:42:32
-part-y-numbers-end : tie.Need-part-y-numbers-end
-part-y-numbers-end c = search needs
-
--- src/lib.rt:42:49
-cast-y-numbers : tie.Need-cast-y-numbers
-cast-y-numbers c = search needs
-
--- src/lib.rt:42:9
-y-numbers-requires : tie.Need-y-numbers-requires
-y-numbers-requires c κs = search needs
-
--- src/lib.rt:43:27
-add-put-list : tie.Need-add-put-list
-add-put-list c = search needs
-
--- src/lib.rt:43:46
-mul-put-list : tie.Need-mul-put-list
-mul-put-list c = search needs
-
--- src/lib.rt:43:46
-sub-put-list : tie.Need-sub-put-list
-sub-put-list c = search needs
-
--- src/lib.rt:43:46
-part-put-list-start : tie.Need-part-put-list-start
-part-put-list-start c = search needs
-
--- src/lib.rt:43:46
-part-put-list-end : tie.Need-part-put-list-end
-part-put-list-end c = search needs
-
--- src/lib.rt:43:9
 put-list-requires : tie.Need-put-list-requires
-put-list-requires c κs = ?
+put-list-requires c κs =
+    let a = c .before .before .before .before .before .before .before .before .before .before .before .args in
+    let at = c .before .before .before .before .before .before .before .less .result in
+    let e = c .before .before .before .before .before .before .before .less .ensures ∙ ap (λ (t : ℕ). a .p .waiting - t) (c .before .before .before .before .before .before .before .before .children .ensures) in
+    omega (arith, c .before .before .before .before .before .before .before .before .before .before .before .pre .args-room, few (a .w) (a .stack .now) at (a .p .waiting) e)
 
--- src/lib.rt:44:17
-add-row-at : tie.Need-add-row-at
-add-row-at c = search needs
-
--- src/lib.rt:44:5
-row-at-requires : tie.Need-row-at-requires
-row-at-requires c κs = search needs
-
--- src/lib.rt:45:17
-cast-stack : tie.Need-cast-stack
-cast-stack c = search needs
-
--- src/lib.rt:45:5
-mul-stack : tie.Need-mul-stack
-mul-stack c = search needs
-
--- src/lib.rt:45:5
-slice-write-stack : tie.Need-slice-write-stack
-slice-write-stack c = search needs
-
--- src/lib.rt:49:15
 add-t19 : tie.Need-add-t19
-add-t19 c = ?
+add-t19 c =
+    let a = c .before .before .before .before .before .before .before .before .before .before .before .before .before .before .before .before .before .before .before .before .args in
+    let at = c .before .before .before .before .before .before .before .before .before .before .before .before .before .before .before .before .less .result in
+    let e = c .before .before .before .before .before .before .before .before .before .before .before .before .before .before .before .before .less .ensures ∙ ap (λ (t : ℕ). a .p .waiting - t) (c .before .before .before .before .before .before .before .before .before .before .before .before .before .before .before .before .before .children .ensures) in
+    omega (arith, c .before .before .before .before .before .before .before .before .before .before .before .before .before .before .before .before .before .before .before .before .pre .args-few, c .before .before .before .before .before .before .before .before .put-list .ensures .0, few (a .w) (a .stack .now) at (a .p .waiting) e)
 
--- src/lib.rt:50:16
-add-t10 : tie.Need-add-t10
-add-t10 c = search needs
-
--- src/lib.rt:51:18
 add-t12 : tie.Need-add-t12
-add-t12 c = ?
+add-t12 c = omega (arith, c .before .before .before .before .before .before .before .before .before .before .before .before .before .before .before .before .before .less .ensures, c .before .before .before .before .before .before .before .before .before .before .before .before .before .before .before .before .before .before .before .before .before .pre .waits, c .before .before .before .before .before .before .before .before .before .before .before .before .before .before .before .before .before .before .before .before .before .good .1 .0 .0)
 
--- src/lib.rt:35:1
-same-length : tie.Need-same-length
-same-length c = search needs
-
--- src/lib.rt:35:1
-same-length-2 : tie.Need-same-length-2
-same-length-2 c = search needs
-
--- src/lib.rt:35:1
 returns : tie.Need-returns
-returns c = ?
+returns c =
+    let a = c .before .before .before .before .before .before .before .before .before .before .before .before .before .before .before .before .before .before .before .before .before .args in
+    let at = c .before .before .before .before .before .before .before .before .before .before .before .before .before .before .before .before .before .less .result in
+    let e = c .before .before .before .before .before .before .before .before .before .before .before .before .before .before .before .before .before .less .ensures ∙ ap (λ (t : ℕ). a .p .waiting - t) (c .before .before .before .before .before .before .before .before .before .before .before .before .before .before .before .before .before .before .children .ensures) in
+    write-law (node-of (a .w)) (a .p) (a .out .now) _ _ (a .stack .now) _ at _ e (c .before .before .before .before .before .before .before .before .before .before .before .before .before .before .before .before .before .before .before .before .before .pre .waits) (c .before .before .before .before .before .before .before .before .before .before .before .before .before .before .y-numbers .ensures) (c .before .before .before .before .before .before .before .before .before .put-list .ensures .0) (c .before .before .before .before .before .before .before .before .before .put-list .ensures .1) (c .before .before .before .before .row-at .ensures)
 
 pub write-node-spec : {M : Type 1} → statement M
 write-node-spec =
     tie.close
     (tie.spec
-    children-requires
-    less-requires
-    mul-y-numbers
-    sub-y-numbers
-    part-y-numbers-start
-    part-y-numbers-end
-    cast-y-numbers
-    y-numbers-requires
-    add-put-list
-    mul-put-list
-    sub-put-list
-    part-put-list-start
-    part-put-list-end
+    (λ c κs. search needs)
+    (λ c κs. search needs)
+    (λ c. search needs)
+    (λ c. search needs)
+    (λ c. search needs)
+    (λ c. search needs)
+    (λ c. search needs)
+    (λ c κs. search needs)
+    (λ c. search needs)
+    (λ c. search needs)
+    (λ c. search needs)
+    (λ c. search needs)
+    (λ c. search needs)
     put-list-requires
-    add-row-at
-    row-at-requires
-    cast-stack
-    mul-stack
-    slice-write-stack
+    (λ c. search needs)
+    (λ c κs. search needs)
+    (λ c. search needs)
+    (λ c. search needs)
+    (λ c. search needs)
     add-t19
-    add-t10
+    (λ c. search needs)
     add-t12
-    same-length
-    same-length-2
+    (λ c. search needs)
+    (λ c. search needs)
     returns)
