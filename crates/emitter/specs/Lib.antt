@@ -1,2 +1,3 @@
 pub mod Pens
 pub mod PensLaws
+pub mod LaidLaws
