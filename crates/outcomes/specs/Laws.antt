@@ -1,0 +1,7 @@
+pub mod Shape
+pub mod Ev
+pub mod Fuel
+pub mod Answer
+pub mod Scratch
+pub mod Nodes
+pub mod Call

@@ -1,0 +1,4 @@
+pub mod Outcome
+pub mod Answer
+pub mod Scratch
+pub mod Laws

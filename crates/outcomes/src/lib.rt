@@ -1,0 +1,1 @@
+// Outcomes of resolving types: the definitions and laws are in specs/.

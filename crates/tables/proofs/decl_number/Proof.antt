@@ -1,0 +1,21 @@
+-- `tables::decl_number` meets its contract: the cell is the D or I line's. Assumes nothing.
+use mathlib.Core.Path.{_∙_}
+use native.Mathlib.Omega.{arith}
+use Rattle.tables.specs.CellsLaws.{read-number}
+use Rattle.tables.proofs.decl_number.Statement.{statement}
+use Rattle.tables.proofs.decl_number.Tie as tie
+
+mul-cell : tie.Need-mul-cell
+mul-cell c = let a = c .before .before in omega (arith, read-number (a .args .s .now) (a .args .t .now) (a .pre .0) (a .args .d) (a .args .k) (a .pre .1 .0) (a .pre .1 .1) .within .in-section)
+
+add-cell : tie.Need-add-cell
+add-cell c = let a = c .before .before in omega (arith, read-number (a .args .s .now) (a .args .t .now) (a .pre .0) (a .args .d) (a .args .k) (a .pre .1 .0) (a .pre .1 .1) .within .in-section)
+
+cell-requires : tie.Need-cell-requires
+cell-requires c κs = let a = c .before .before in read-number (a .args .s .now) (a .args .t .now) (a .pre .0) (a .args .d) (a .args .k) (a .pre .1 .0) (a .pre .1 .1) .within
+
+returns : tie.Need-returns
+returns c = let a = c .before .before .before in c .cell .ensures ∙ read-number (a .args .s .now) (a .args .t .now) (a .pre .0) (a .args .d) (a .args .k) (a .pre .1 .0) (a .pre .1 .1) .value
+
+pub decl-number-spec : {M : Type 1} → statement M
+decl-number-spec = tie.close (tie.spec mul-cell add-cell cell-requires returns)

@@ -1,0 +1,61 @@
+// The nodes of an instance of a type, from the sizes of the arguments.
+ghost use mathlib.Core.Path.{_≡_};
+ghost use Prim.Native.Nat.{_+_, _≤_, _<_};
+ghost use lib.ListN.{length};
+ghost use Rattle.sheet.specs.Sheet as sheet;
+ghost use Rattle.custard.specs.Program as program;
+ghost use Rattle.custard.specs.Rows as rows;
+ghost use Rattle.tables.specs.Tables as tables;
+ghost use Rattle.outcomes.specs.Scratch as scratch;
+ghost use Rattle.kids.specs.Nodes as nodes;
+ghost use Rattle.weighing.specs.Weigh as weigh;
+
+// The nodes of Y line y's type, at the `count` outcomes from place `at` on for declaration d's
+// arguments, added to `from`.
+pub fn weigh(
+    s: &[u8],
+    t: &[u32],
+    y: usize,
+    d: usize,
+    out: &[u16],
+    at: usize,
+    count: usize,
+    from: usize,
+) -> usize
+    requires { ⌜ tables.Tabled (now s) (now t) × (y < rows.count-of program.type-line (sheet.lines 6 (now s))) ⌝ }
+    requires { ⌜ (d < tables.decls-of (sheet.lines 6 (now s))) × (at + count ≤ length (now out)) × (from ≤ 1025) ⌝ }
+    ensures { λ r. ⌜ r ≡ scratch.capped 1024 (from + weigh.weight-of (sheet.lines 6 (now (s .entry))) d (now (out .entry)) at count y) ⌝ }
+{
+    if tables::type_number(s, t, y, 0) == 3 {
+        let v = tables::type_number(s, t, y, 1) as usize;
+        return sums::more(from, arguments::argument(s, t, d, out, at, count, v) / 4);
+    }
+    weigh_kids(s, t, y, d, out, at, count, sums::more(from, 1))
+}
+
+// The nodes of its parts; it stops above the limit.
+fn weigh_kids(
+    s: &[u8],
+    t: &[u32],
+    y: usize,
+    d: usize,
+    out: &[u16],
+    at: usize,
+    count: usize,
+    from: usize,
+) -> usize
+    requires { ⌜ tables.Tabled (now s) (now t) × (y < rows.count-of program.type-line (sheet.lines 6 (now s))) ⌝ }
+    requires { ⌜ (d < tables.decls-of (sheet.lines 6 (now s))) × (at + count ≤ length (now out)) × (from ≤ 1025) ⌝ }
+    ensures { λ r. ⌜ r ≡ scratch.capped 1024 (from + weigh.weights-of (sheet.lines 6 (now (s .entry))) d (now (out .entry)) at count y (nodes.kids-of (sheet.lines 6 (now (s .entry))) y)) ⌝ }
+{
+    let n = kids::kids(s, t, y);
+    let mut w = from;
+    for i in 0..n {
+        if w > sums::LIMIT {
+            return w;
+        }
+        let kid = kids::kid(s, t, y, i);
+        w = weigh(s, t, kid, d, out, at, count, w);
+    }
+    w
+}
