@@ -1,0 +1,4 @@
+pub mod LineLaws
+pub mod TypeLaws
+pub mod DeclLaws
+pub mod BodyLaws
