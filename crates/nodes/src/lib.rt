@@ -3,12 +3,12 @@ ghost use mathlib.Core.Path.{_≡_};
 ghost use Rattle.normal.specs.Nodes.{Node, node};
 ghost use Rattle.nodes.specs.Words.{word, node-of};
 
-// The word of a node.
+// The word of a node, whose kind is cut to four bits and whose count to ten.
 pub fn pack(kind: u32, count: u32, own: u32) -> u64
     ensures { λ r. ⌜ r ≡ word (node kind count own) ⌝ }
 {
-    let k = kind as u64;
-    let n = count as u64;
+    let k = kind as u64 % 16;
+    let n = count as u64 % 1024;
     let x = own as u64;
     k + 16 * (n + 1024 * x)
 }
