@@ -50,7 +50,7 @@ use Rattle.outcomes.specs.Outcome.{
 use Rattle.outcomes.specs.Laws.Shape.{nodes-coded, head-coded, coded-parts, attached-none, attached-app}
 
 -- no more arguments than parameters: no surplus
-extra-none : (n : ℕ) (os : List ℕ) → length os ≤ n → drop n os ≡ []
+pub extra-none : (n : ℕ) (os : List ℕ) → length os ≤ n → drop n os ≡ []
 extra-none zero [] h = refl
 extra-none zero (o ∷ os) h = absurd (omega arith)
 extra-none (suc n) [] h = refl

@@ -1,6 +1,6 @@
 -- Laws of parts of a list, and of sums that stop above the limit. Assumes nothing.
 use mathlib.Core.Path.{_≡_, refl, ap, sym, _∙_}
-use mathlib.Core.List.{List, [], _∷_, _++_}
+use mathlib.Core.List.{List, [], _∷_, _++_, append-nil, append-assoc}
 use mathlib.Core.Bool.{Bool, true, false}
 use Prim.Native.Nat.{ℕ, zero, suc, _+_, _-_, _*_, _/_, _≤_, _<_}
 use native.Mathlib.Omega.{arith}
@@ -107,6 +107,12 @@ part-drop i n k xs h =
 pub same-refl : (k : ℕ) (xs : List ℕ) → Same k xs xs
 same-refl k xs = record { below = refl; long = refl }
 
+pub same-sym : (k : ℕ) (xs ys : List ℕ) → Same k xs ys → Same k ys xs
+same-sym k xs ys s = record { below = sym (s .below); long = sym (s .long) }
+
+pub same-get : (k i : ℕ) (xs ys : List ℕ) → i < k → Same k xs ys → getD xs i 0 ≡ getD ys i 0
+same-get k i xs ys h s = sym (getD-take k xs i 0 h) ∙ (ap (λ (zs : List ℕ). getD zs i 0) (s .below) ∙ getD-take k ys i 0 h)
+
 pub same-trans : (k : ℕ) (xs ys zs : List ℕ) → Same k xs ys → Same k ys zs → Same k xs zs
 same-trans k xs ys zs s t = record { below = s .below ∙ t .below; long = s .long ∙ t .long }
 
@@ -166,3 +172,13 @@ module _ (limit from : ℕ) (xs : List ℕ) (at : ℕ) where
     where
       add-assoc-of : (a b c : ℕ) → a + b + c ≡ a + (b + c)
       add-assoc-of a b c = omega arith
+
+-- two parts, one behind the other
+pub part-join : (i m n : ℕ) (xs : List ℕ) → i + (m + n) ≤ length xs → part i (m + n) xs ≡ part i m xs ++ part (i + m) n xs
+part-join i m zero xs h =
+    let e : m + 0 ≡ m = omega arith in
+    rw (e, part-none (i + m) xs) (sym (append-nil (part i m xs)))
+part-join i m (suc n) xs h =
+    let e : m + suc n ≡ suc (m + n) = omega arith in
+    let f : i + m + n ≡ i + (m + n) = omega arith in
+    rw (e, part-last i (m + n) xs (omega arith), part-join i m n xs (omega arith), part-last (i + m) n xs (omega arith), f) (append-assoc (part i m xs) (part (i + m) n xs) (getD xs (i + (m + n)) 0 ∷ []))

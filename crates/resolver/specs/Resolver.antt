@@ -1,0 +1,106 @@
+-- What becomes of each declaration, in two cells: how its name is replaced (0 by `TUnit`, 1 by its payload,
+-- 2 by the type that it abbreviates, else it is left), and the Y line of that payload or type. And what the
+-- functions of the resolution by outcomes answer. Assumes nothing.
+use mathlib.Core.Logic.{_⊎_}
+use mathlib.Core.Path.{_≡_}
+use mathlib.Core.List.{List}
+use Prim.Native.Nat.{ℕ, suc, _+_, _-_, _*_, _≤_, _<_}
+use lib.Dec.{eqb}
+use lib.ListN.{length, getD, drop}
+use Rattle.columns.specs.Column.{_⇒_∥_}
+use Rattle.sheet.specs.Line.{Line}
+use Rattle.sheet.specs.Sheet.{lines}
+use Rattle.custard.specs.Cty.{size, sizes}
+use Rattle.custard.specs.Decl.{position}
+use Rattle.custard.specs.Program.{name-line, type-line, program}
+use Rattle.custard.specs.Rows.{count-of}
+use Rattle.custard.specs.Resolve.{Unfold, gone, newtype, abbreviation, stays, Result, ok}
+use Rattle.tables.specs.Tables.{decls-of, Tabled}
+use Rattle.outcomes.specs.Outcome.{called, eval, evals, ev}
+use Rattle.outcomes.specs.Answer.{Told}
+use Rattle.outcomes.specs.Laws.Fuel.{Leads}
+use Rattle.outcomes.specs.Scratch.{part, Same, Nodes}
+use Rattle.kids.specs.Nodes.{kind-of, type-of}
+use Rattle.arguments.specs.Params.{params-of}
+use Rattle.weighing.specs.Weigh.{kid-types}
+use Rattle.memory.specs.Slots.{Slots}
+
+-- ---- what becomes of a name
+unfoldable pub unfold-at : List Line → List ℕ → ℕ → Unfold
+unfold-at ls u d =
+    eqb (getD u (2 * d) 3) 0 ⇒ gone ∥
+    eqb (getD u (2 * d) 3) 1 ⇒ newtype (params-of ls d) (type-of ls (getD u (2 * d + 1) 0)) ∥
+    eqb (getD u (2 * d) 3) 2 ⇒ abbreviation (params-of ls d) (type-of ls (getD u (2 * d + 1) 0)) ∥
+    stays
+
+abbrev pub lay-of : List Line → List ℕ → ℕ → Unfold
+lay-of ls u n = unfold-at ls u (position (program ls) n)
+
+-- two cells for each declaration, and a Y line where a name is unfolded
+pub record States (b u : List ℕ) : Type 0 where
+  pub long : length u ≡ 2 * decls-of (lines 6 b)
+  pub bodies : (d : ℕ) → d < decls-of (lines 6 b) → (getD u (2 * d) 3 ≡ 1) ⊎ (getD u (2 * d) 3 ≡ 2) → getD u (2 * d + 1) 0 < count-of type-line (lines 6 b)
+
+pub record Setup (b t u : List ℕ) : Type 0 where
+  pub tabled : Tabled b t
+  pub states : States b u
+
+-- ---- evaluations, by fuel
+module _ (ls : List Line) (u : List ℕ) where
+  abbrev pub call-of : ℕ → List ℕ → ℕ → Result ℕ
+  call-of n os j = called 1024 (ev 1024 (lay-of ls u) j) os (lay-of ls u n)
+
+  -- a declaration's call
+  abbrev pub enter-of : ℕ → List ℕ → ℕ → Result ℕ
+  enter-of d os j = called 1024 (ev 1024 (lay-of ls u) j) os (unfold-at ls u d)
+
+  -- Y line y's type in declaration d, at arguments with the outcomes os, with the surplus es
+  abbrev pub eval-of : ℕ → List ℕ → ℕ → List ℕ → ℕ → Result ℕ
+  eval-of d os y es j = eval 1024 (lay-of ls u) (ev 1024 (lay-of ls u) j) (params-of ls d) os (type-of ls y) es
+
+  -- the first n of its parts
+  abbrev pub evals-of : ℕ → List ℕ → ℕ → ℕ → ℕ → Result (List ℕ)
+  evals-of d os y n j = evals 1024 (lay-of ls u) (ev 1024 (lay-of ls u) j) (params-of ls d) os (kid-types ls y n)
+
+-- the last `over` of the `count` outcomes from place `at` on
+abbrev pub last-of : ℕ → ℕ → ℕ → List ℕ → List ℕ
+last-of at count over out = drop (count - over) (part at count out)
+
+-- ---- what is asked
+-- the `count` outcomes from place `at` on are arguments
+pub record Args (out : List ℕ) (at count top : ℕ) : Type 0 where
+  pub inside : at + count ≤ top
+  pub room : top ≤ length out
+  pub nodes : Nodes (part at count out)
+
+pub record Place (b t u : List ℕ) (y d : ℕ) : Type 0 where
+  pub setup : Setup b t u
+  pub type : y < count-of type-line (lines 6 b)
+  pub decl : d < decls-of (lines 6 b)
+
+-- ---- what is answered
+-- Short: how little room there is, with fuel k, for what has yet to wait above place `top`
+abbrev pub Short : List ℕ → ℕ → ℕ → Type 0
+Short out top k = length out < top + 1024 * k
+
+pub record Found (e : ℕ → Result ℕ) (k room top : ℕ) (out out′ : List ℕ) (call : ℕ → List ℕ → ℕ → Result ℕ) (slots′ : List ℕ) (r : ℕ) : Type 0 where
+  pub told : Told e k r (Short out room k) r
+  pub small : r < 65536
+  pub kept : Same top out′ out
+  pub slots : Slots call slots′
+
+-- a list's outcomes stand from place `top` on
+pub record FoundAll (e : ℕ → Result (List ℕ)) (k room top n : ℕ) (out out′ : List ℕ) (call : ℕ → List ℕ → ℕ → Result ℕ) (slots′ : List ℕ) (r : ℕ) : Type 0 where
+  pub told : Told e k (part top n out′) (Short out room k) r
+  pub kept : Same top out′ out
+  pub fit : 4 ≤ r → top + n ≤ length out
+  pub nodes : 4 ≤ r → Nodes (part top n out′)
+  pub slots : Slots call slots′
+
+-- the first i outcomes of a list stand there
+pub record Done (e : ℕ → ℕ → Result (List ℕ)) (top i : ℕ) (out₀ out : List ℕ) (call : ℕ → List ℕ → ℕ → Result ℕ) (slots′ : List ℕ) : Type 0 where
+  pub leads : (j : ℕ) → Leads (e i j) (ok (part top i out))
+  pub kept : Same top out out₀
+  pub fit : top + i ≤ length out₀
+  pub nodes : Nodes (part top i out)
+  pub slots : Slots call slots′
