@@ -7,7 +7,6 @@ use mathlib.Core.Bool.{Bool, true, false}
 use Prim.Native.Nat.{ℕ, zero, suc, _+_, _*_, _≤_, _<_}
 use lib.Dec.{eqb, ltb}
 use lib.ListN.{length, getD, take, drop}
-use Rattle.columns.specs.Column.{pick}
 use Rattle.sheet.specs.Line.{Line}
 use Rattle.sheet.specs.Sheet.{lines}
 use Rattle.custard.specs.Decl.{position}
@@ -17,7 +16,8 @@ use Rattle.tables.specs.Tables.{decls-of, Tabled}
 use Rattle.kids.specs.Nodes.{type-of, kid-of}
 use Rattle.arguments.specs.Params.{params-of}
 use Rattle.normal.specs.Nodes.{Node, node}
-use Rattle.normal.specs.Forms.{place, nodes}
+use Rattle.normal.specs.Forms.{nodes}
+use Rattle.node_words.specs.Own.{label}
 use Rattle.nodes.specs.Words.{word, node-of}
 use Rattle.forms.specs.States.{lay-of}
 
@@ -60,10 +60,6 @@ pub record Forms (b f : List ℕ) : Type 0 where
   pub inside : (d : ℕ) → d < decls-of (lines 6 b) → getD f (2 * d) 0 + getD f (2 * d + 1) 0 ≤ length f
 
 -- ---- the words of a Y line's type in declaration d
--- variables by place, or by name
-unfoldable pub label : Bool → List ℕ → ℕ → ℕ
-label places ps v = pick places (place ps v) v
-
 module _ (ls : List Line) (u f : List ℕ) (d : ℕ) (places : Bool) where
   unfoldable pub words : ℕ → List ℕ
   words y = map word (nodes (lay-of ls u) (form-of ls f) (params-of ls d) (label places (params-of ls d)) (type-of ls y))

@@ -43,14 +43,14 @@ use Rattle.kids.specs.Nodes.{y-line, kind-of, type-of, kids-of, kid-of}
 use Rattle.kids.specs.NodesLaws.{node-at, var-type, app-type, plain-type, parts-of}
 use Rattle.ranges.specs.Ranges.{types-of}
 use Rattle.declared.specs.TypeLaws.{type-tree}
-use Rattle.node_words.specs.Own.{y-count, y-own, y-node}
+use Rattle.node_words.specs.Own.{y-count, y-own, y-node, label}
 use Rattle.arguments.specs.Params.{params-of}
 use Rattle.normal.specs.Nodes.{Node, node, spread, attached}
 use Rattle.normal.specs.Forms.{joined, argument, placed, named, variable, nodes, nodes-each}
 use Rattle.nodes.specs.Words.{word, node-of}
 use Rattle.nodes.specs.WordsLaws.{node-cut, word-grown, node-small}
 use Rattle.forms.specs.States.{unfold-at, lay-of}
-use Rattle.forms.specs.Emit.{run, step, filled, grown, form-words, form-of, label, words, kid-words}
+use Rattle.forms.specs.Emit.{run, step, filled, grown, form-words, form-of, words, kid-words}
 
 -- ---- lists of lists
 joined-append : (xss yss : List (List Node)) → joined (xss ++ yss) ≡ joined xss ++ joined yss
@@ -156,6 +156,7 @@ grown-attached (x ∷ []) n ys h =
   where
     cut : x .kind % 16 ≡ x .kind
     cut = omega (arith, h .0)
+
     go : (b : Bool) → eqb (x .kind) 8 ≡ b
         → map word (elim b [ true ↦ ys ++ (node 8 (x .count + n) (x .own) ∷ []) | false ↦ x ∷ [] ])
         ≡ elim (eqb (node-of (word x) .kind) 8) [ true ↦ map word ys ++ (word (node 8 (node-of (word x) .count + n) (node-of (word x) .own)) ∷ []) | false ↦ word x ∷ [] ]
@@ -406,3 +407,17 @@ module _ (b : List ℕ) (passed : Passed b) (u f : List ℕ) (d : ℕ) (places :
         → words ls u f d places y ≡ grown (filled g (kids-of ls y) (form-words f (position (program ls) n))) (kids-of ls y - length qs) (run g (length qs) (kids-of ls y - length qs))
     unfolding named
     words-abbreviation qs c e = named-words (abbreviation qs c) e ∙ placed-words (length qs)
+
+    -- with no more arguments than parameters, nothing is attached
+    grown-none : (xs : List Node) → Smalls xs → grown (map word xs) 0 [] ≡ map word xs
+    unfolding grown
+    grown-none [] s = refl
+    grown-none (x ∷ []) s = go (eqb (node-of (word x) .kind) 8) refl
+      where
+        go : (b : Bool) → eqb (node-of (word x) .kind) 8 ≡ b → elim b [ true ↦ word (node 8 (node-of (word x) .count + 0) (node-of (word x) .own)) ∷ [] | false ↦ word x ∷ [] ] ≡ word x ∷ []
+        go true e =
+            let k : x .kind ≡ 8 = ap (λ (m : ℕ). m) (omega (arith, s .0, eqb-true (node-of (word x) .kind) 8 e, ap (λ (z : Node). z .kind) (node-cut x))) in
+            let z : x .count + 0 ≡ x .count = omega arith in
+            ap (λ (w : ℕ). w ∷ []) (ap (λ (z : Node). word (node 8 (z .count + 0) (z .own))) (node-cut x) ∙ (word-grown 8 (x .count) 0 (x .own) ∙ rw (z, ← k)))
+        go false e = refl
+    grown-none (x ∷ z ∷ xs) s = ap (λ (l : List ℕ). word x ∷ l) (grown-none (z ∷ xs) (s .1))

@@ -1,11 +1,13 @@
--- The node that a Y line itself is, by its numbers. Assumes nothing.
+-- The node that a Y line itself is, by its numbers, and how a variable is told. Assumes nothing.
 use mathlib.Core.List.{List}
 use Prim.Native.Nat.{ℕ}
 use lib.Dec.{eqb}
-use Rattle.columns.specs.Column.{_⇒_∥_}
+use mathlib.Core.Bool.{Bool}
+use Rattle.columns.specs.Column.{pick, _⇒_∥_}
 use Rattle.sheet.specs.Line.{Line, number}
 use Rattle.kids.specs.Nodes.{y-line, kind-of}
 use Rattle.normal.specs.Nodes.{Node, node}
+use Rattle.normal.specs.Forms.{place}
 
 unfoldable pub y-count : List Line → ℕ → ℕ
 y-count ls y =
@@ -28,3 +30,7 @@ y-own ls y =
 
 unfoldable pub y-node : List Line → ℕ → Node
 y-node ls y = node (kind-of ls y) (y-count ls y) (y-own ls y)
+
+-- a variable by its place, or by its name
+unfoldable pub label : Bool → List ℕ → ℕ → ℕ
+label places ps v = pick places (place ps v) v

@@ -1,15 +1,16 @@
 // The words of nodes: of a Y line's own node, of a variable, and into an array where there is room.
 ghost use mathlib.Core.Path.{_≡_};
 ghost use mathlib.Core.List.{_∷_, []};
-ghost use Prim.Native.Nat.{_+_, _≤_, _<_};
-ghost use lib.ListN.{length};
+ghost use Prim.Native.Nat.{_+_, _*_, _≤_, _<_};
+ghost use lib.ListN.{length, getD};
 ghost use Rattle.sheet.specs.Sheet as sheet;
 ghost use Rattle.custard.specs.Program as program;
 ghost use Rattle.custard.specs.Rows as rows;
 ghost use Rattle.tables.specs.Tables as tables;
 ghost use Rattle.arguments.specs.Params as params;
 ghost use Rattle.normal.specs.Nodes.{node};
-ghost use Rattle.normal.specs.Forms.{place};
+ghost use Rattle.custard.specs.Decl.{member};
+ghost use Rattle.normal.specs.Forms.{place, variable};
 ghost use Rattle.nodes.specs.Words.{word, node-of};
 ghost use Rattle.node_words.specs.Put.{Put};
 ghost use Rattle.node_words.specs.Own as specs;
@@ -64,4 +65,30 @@ pub fn place_of(s: &[u8], t: &[u32], d: usize, v: usize) -> usize
         i += 1;
     }
     i
+}
+
+// What becomes of declaration d's name: 0 erased, 1 and 2 unfolded, else it is left, as a foreign name is.
+pub fn state(u: &[u16], d: usize) -> usize
+    requires { ⌜ d ≤ 96 ⌝ }
+    ensures { λ r. ⌜ r ≡ getD (now (u .entry)) (2 * d) 3 ⌝ }
+{
+    if 2 * d >= u.len() {
+        return 3;
+    }
+    u[2 * d] as usize
+}
+
+// The node of variable v in declaration d, told by its place or by its name; `TAny` where d does not bind it.
+pub fn variable_word(s: &[u8], t: &[u32], d: usize, places: bool, v: u32) -> u64
+    requires { ⌜ tables.Tabled (now s) (now t) × (d < tables.decls-of (sheet.lines 6 (now s))) ⌝ }
+    ensures { λ r. ⌜ r ≡ word (variable (member v (params.params-of (sheet.lines 6 (now (s .entry))) d)) (specs.label places (params.params-of (sheet.lines 6 (now (s .entry))) d) v)) ⌝ }
+{
+    let i = place_of(s, t, d, v as usize);
+    if i >= calls::params(s, t, d) {
+        return pack(1, 0, 0);
+    }
+    if places {
+        return pack(3, 0, i as u32);
+    }
+    pack(3, 0, v)
 }
