@@ -1,0 +1,3 @@
+pub mod Pens
+pub mod PensLaws
+pub mod LaidLaws

@@ -1,0 +1,94 @@
+// The words of nodes: of a Y line's own node, of a variable, and into an array where there is room.
+ghost use mathlib.Core.Path.{_≡_};
+ghost use mathlib.Core.List.{_∷_, []};
+ghost use Prim.Native.Nat.{_+_, _*_, _≤_, _<_};
+ghost use lib.ListN.{length, getD};
+ghost use Rattle.sheet.specs.Sheet as sheet;
+ghost use Rattle.custard.specs.Program as program;
+ghost use Rattle.custard.specs.Rows as rows;
+ghost use Rattle.tables.specs.Tables as tables;
+ghost use Rattle.arguments.specs.Params as params;
+ghost use Rattle.normal.specs.Nodes.{node};
+ghost use Rattle.custard.specs.Decl.{member};
+ghost use Rattle.normal.specs.Forms.{place, variable};
+ghost use Rattle.nodes.specs.Words.{word, node-of};
+ghost use Rattle.node_words.specs.Put.{Put};
+ghost use Rattle.node_words.specs.Own as specs;
+use nodes::pack;
+
+// A word at a place of the array, and the place after it; a place past the end where there is no room.
+pub fn put(out: &mut [u64], at: usize, w: u64) -> usize
+    requires { ⌜ at ≤ length (now out) ⌝ }
+    ensures { λ r. ⌜ Put (w ∷ []) (now (out .entry)) at r (now (out .exit)) ⌝ }
+{
+    if at < out.len() {
+        out[at] = w;
+        return at + 1;
+    }
+    at + 1
+}
+
+// The node of Y line y's type itself, where that is neither a variable nor a name.
+pub fn own_word(s: &[u8], t: &[u32], y: usize) -> u64
+    requires { ⌜ tables.Tabled (now s) (now t) ⌝ }
+    requires { ⌜ y < rows.count-of program.type-line (sheet.lines 6 (now s)) ⌝ }
+    ensures { λ r. ⌜ r ≡ word (specs.y-node (sheet.lines 6 (now (s .entry))) y) ⌝ }
+{
+    let k = tables::type_number(s, t, y, 0);
+    let a = tables::type_number(s, t, y, 1);
+    let b = tables::type_number(s, t, y, 2);
+    match k {
+        4 => pack(k, a, b),
+        5 => pack(k, 0, a),
+        6 => pack(k, 0, a),
+        7 => pack(k, 2, b),
+        9 => pack(k, b, 0),
+        10 => pack(k, 1, 0),
+        11 => pack(k, 1, a),
+        12 => pack(k, 1, 0),
+        _ => pack(k, 0, 0),
+    }
+}
+
+// The place of v among the parameters of declaration d, and their number where it is none of them.
+pub fn place_of(s: &[u8], t: &[u32], d: usize, v: usize) -> usize
+    requires { ⌜ tables.Tabled (now s) (now t) × (d < tables.decls-of (sheet.lines 6 (now s))) ⌝ }
+    ensures { λ r. ⌜ r ≡ place (params.params-of (sheet.lines 6 (now (s .entry))) d) v ⌝ }
+{
+    let first = tables::first_param(s, t, d);
+    let end = tables::first_param(s, t, d + 1);
+    let mut i = 0;
+    while first + i < end {
+        if tables::param(s, t, first + i) == v {
+            return i;
+        }
+        i += 1;
+    }
+    i
+}
+
+// What becomes of declaration d's name: 0 erased, 1 and 2 unfolded, else it is left, as a foreign name is.
+pub fn state(u: &[u16], d: usize) -> usize
+    requires { ⌜ d ≤ 96 ⌝ }
+    ensures { λ r. ⌜ r ≡ getD (now (u .entry)) (2 * d) 3 ⌝ }
+{
+    if 2 * d >= u.len() {
+        return 3;
+    }
+    u[2 * d] as usize
+}
+
+// The node of variable v in declaration d, told by its place or by its name; `TAny` where d does not bind it.
+pub fn variable_word(s: &[u8], t: &[u32], d: usize, places: bool, v: u32) -> u64
+    requires { ⌜ tables.Tabled (now s) (now t) × (d < tables.decls-of (sheet.lines 6 (now s))) ⌝ }
+    ensures { λ r. ⌜ r ≡ word (variable (member v (params.params-of (sheet.lines 6 (now (s .entry))) d)) (specs.label places (params.params-of (sheet.lines 6 (now (s .entry))) d) v)) ⌝ }
+{
+    let i = place_of(s, t, d, v as usize);
+    if i >= calls::params(s, t, d) {
+        return pack(1, 0, 0);
+    }
+    if places {
+        return pack(3, 0, i as u32);
+    }
+    pack(3, 0, v)
+}

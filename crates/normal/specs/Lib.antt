@@ -1,0 +1,6 @@
+pub mod SubstLaws
+pub mod FormLaws
+pub mod Nodes
+pub mod NodesLaws
+pub mod Forms
+pub mod FormsLaws

@@ -1,0 +1,1 @@
+// Normal forms of types and their nodes: the laws are in specs.
