@@ -2,7 +2,7 @@
 use mathlib.Core.List.{List, [], _∷_}
 use Prim.Native.Nat.{ℕ, zero, suc, _+_, _-_}
 use Rattle.sheet.specs.Line.{Line, number}
-use Rattle.custard.specs.Program.{param-line}
+use Rattle.meaning.specs.Program.{param-line}
 use Rattle.tables.specs.Tables.{nth, first-of}
 
 -- the names of n P lines from line p on

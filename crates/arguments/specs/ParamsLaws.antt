@@ -13,10 +13,10 @@ use Rattle.columns.specs.Column.{pick}
 use Rattle.sheet.specs.Format.{base}
 use Rattle.sheet.specs.Line.{Line, number}
 use Rattle.sheet.specs.Sheet.{lines}
-use Rattle.custard.specs.Program.{param-line, is, select}
-use Rattle.custard.specs.Rows.{count-of, count-before}
-use Rattle.custard.specs.Laws.Program.{select-append}
-use Rattle.custard.specs.Laws.Left.{lines-limit}
+use Rattle.meaning.specs.Program.{param-line, is, select}
+use Rattle.meaning.specs.Rows.{count-of, count-before}
+use Rattle.meaning.specs.Laws.Program.{select-append}
+use Rattle.answer.specs.Laws.Left.{lines-limit}
 use Rattle.limits.specs.Limits.{counts-of}
 use Rattle.refusals.specs.Rows.{Passed}
 use Rattle.refusals.specs.RowsLaws.{passed-kept}

@@ -5,10 +5,10 @@ use mathlib.Core.Bool.{Bool, true, false}
 use Prim.Native.Nat.{ℕ, suc, _≤_, _<_}
 use lib.ListN.{length, getD}
 use Rattle.sheet.specs.Line.{Line, number}
-use Rattle.custard.specs.Decl.{close-body}
-use Rattle.custard.specs.Erasure.{marked, body-erased, rule}
-use Rattle.custard.specs.Program.{type-line, param-line, field-line, select, trees, body-of, program}
-use Rattle.custard.specs.Rows.{count-of}
+use Rattle.model.specs.Decl.{close-body}
+use Rattle.model.specs.Erasure.{marked, body-erased, rule}
+use Rattle.meaning.specs.Program.{type-line, param-line, field-line, select, trees, body-of, program}
+use Rattle.meaning.specs.Rows.{count-of}
 use Rattle.tables.specs.Tables.{nth, group, head-line, decls-of, first-of}
 use Rattle.marks.specs.Marks.{marks-of, type-erased, Marks}
 use Rattle.bodies.specs.declared.Ruled.{Ruled}

@@ -14,13 +14,13 @@ use Rattle.sheet.specs.Line.{Line, bad, letter, number}
 use Rattle.sheet.specs.Sheet.{lines}
 use Rattle.sheet.specs.SheetLaws.{length-lines}
 use Rattle.sheet.specs.ListLaws.{both}
-use Rattle.custard.specs.Cty.{Cty, TUnit}
-use Rattle.custard.specs.Decl.{Body, TAbstract, TAbbrev, TRecord, TVariant, Dtype, has-flag, close-body, close-fields}
-use Rattle.custard.specs.Erasure.{marked, cty-erased, fields-erased, body-erased, dtype-erased, rule-of, rule}
-use Rattle.custard.specs.Program.{name-line, type-line, import-line, param-line, ctor-line, field-line, is, select, before, Group, groups, trees, type-at, ctor-of, body-of, dtype-of, program}
-use Rattle.custard.specs.Rows.{line-at, count-of, count-before, zeros-from, good-head, good-numbers}
-use Rattle.custard.specs.Laws.Program.{select-append, head-cases}
-use Rattle.custard.specs.Laws.Rounds.{cases-eq}
+use Rattle.model.specs.Cty.{Cty, TUnit}
+use Rattle.model.specs.Decl.{Body, TAbstract, TAbbrev, TRecord, TVariant, Dtype, has-flag, close-body, close-fields}
+use Rattle.model.specs.Erasure.{marked, cty-erased, fields-erased, body-erased, dtype-erased, rule-of, rule}
+use Rattle.meaning.specs.Program.{name-line, type-line, import-line, param-line, ctor-line, field-line, is, select, before, Group, groups, trees, type-at, ctor-of, body-of, dtype-of, program}
+use Rattle.meaning.specs.Rows.{line-at, count-of, count-before, zeros-from, good-head, good-numbers}
+use Rattle.meaning.specs.Laws.Program.{select-append, head-cases}
+use Rattle.model.specs.Laws.Rounds.{cases-eq}
 use Rattle.limits.specs.Limits.{start, counts-of}
 use Rattle.limits.specs.LimitsLaws.{short-bytes}
 use Rattle.ranges.specs.OrderLaws.{count-of-le}

@@ -10,9 +10,9 @@ use lib.ListN.{length, getD, set}
 use borrow.Author.Tests.{eqb-true, eqb-false, eq-eqb, ne-eqb, lt-ltb, ltb-true}
 use Rattle.sheet.specs.Line.{Line, number}
 use Rattle.sheet.specs.Sheet.{lines}
-use Rattle.custard.specs.Cty.{Cty, TVar, TApp}
-use Rattle.custard.specs.Program.{param-line, type-line}
-use Rattle.custard.specs.Rows.{count-of}
+use Rattle.model.specs.Cty.{Cty, TVar, TApp}
+use Rattle.meaning.specs.Program.{param-line, type-line}
+use Rattle.meaning.specs.Rows.{count-of}
 use Rattle.refusals.specs.Rows.{Passed}
 use Rattle.tables.specs.Tables.{first-of}
 use Rattle.outcomes.specs.Outcome.{other, app, head, argument, instance-head, counted, fits}

@@ -9,12 +9,12 @@ use lib.ListN.{length, getD}
 use borrow.Author.Tests.{eqb-true}
 use Rattle.columns.specs.Column.{pick}
 use Rattle.sheet.specs.Line.{Line, bad, letter, number}
-use Rattle.custard.specs.Cty.{Cty, Ctys, TUnit, TAny, TExn, TVar, TInt, TFloat, TConst, TArrow, TApp, TTuple, TBuf, TRef, TInline, nil, cons, walk, walks}
-use Rattle.custard.specs.Decl.{Field, member, close, close-field}
-use Rattle.custard.specs.Erasure.{is-pure, cty-erased, ctys-erased, fields-erased}
-use Rattle.custard.specs.Program.{ctor-line, field-line, is, select, before, Group, groups, type-at, field-of}
-use Rattle.custard.specs.Rows.{count-of}
-use Rattle.custard.specs.Laws.Program.{select-append, select-no, flat, before-flat, Grouped, AllGrouped, grouped}
+use Rattle.model.specs.Cty.{Cty, Ctys, TUnit, TAny, TExn, TVar, TInt, TFloat, TConst, TArrow, TApp, TTuple, TBuf, TRef, TInline, nil, cons, walk, walks}
+use Rattle.model.specs.Decl.{Field, member, close, close-field}
+use Rattle.model.specs.Erasure.{is-pure, cty-erased, ctys-erased, fields-erased}
+use Rattle.meaning.specs.Program.{ctor-line, field-line, is, select, before, Group, groups, type-at, field-of}
+use Rattle.meaning.specs.Rows.{count-of}
+use Rattle.meaning.specs.Laws.Program.{select-append, select-no, flat, before-flat, Grouped, AllGrouped, grouped}
 
 -- ---- closing
 module _ (er : ℕ → Bool) (ps : List ℕ) where

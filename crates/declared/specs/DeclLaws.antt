@@ -16,11 +16,11 @@ use Rattle.sheet.specs.Sheet.{first, count, lines, line, row2}
 use Rattle.sheet.specs.SheetLaws.{length-lines}
 use Rattle.sheet.specs.FirstLaws.{none-first}
 use Rattle.sheet.specs.ListLaws.{Every, every-at, false-true, neither}
-use Rattle.custard.specs.declared.Due.{Due}
-use Rattle.custard.specs.declared.Due.the-variants.{Header, Within, Broken}
-use Rattle.custard.specs.Cty.{Cty}
-use Rattle.custard.specs.Decl.{Dtype, Origin, here, imported, Decl, no-decl, dtype-at, origin-at, close-fields}
-use Rattle.custard.specs.Program.{
+use Rattle.meaning.specs.declared.Due.{Due}
+use Rattle.meaning.specs.declared.Due.the-variants.{Header, Within, Broken}
+use Rattle.model.specs.Cty.{Cty}
+use Rattle.model.specs.Decl.{Dtype, Origin, here, imported, Decl, no-decl, dtype-at, origin-at, close-fields}
+use Rattle.meaning.specs.Program.{
   name-line,
   arg-line,
   type-line,
@@ -41,9 +41,9 @@ use Rattle.custard.specs.Program.{
   decl-of,
   program,
 }
-use Rattle.custard.specs.Rows.{line-at, count-of, count-before, heads-before, raws, due, due-header, due-after, is-broken, row3}
-use Rattle.custard.specs.Laws.Lists.{getD-map}
-use Rattle.custard.specs.Laws.Program.{
+use Rattle.meaning.specs.Rows.{line-at, count-of, count-before, heads-before, raws, due, due-header, due-after, is-broken, row3}
+use Rattle.model.specs.Laws.Lists.{getD-map}
+use Rattle.meaning.specs.Laws.Program.{
   None,
   Starts,
   select-append,
@@ -67,7 +67,7 @@ use Rattle.custard.specs.Laws.Program.{
   Whole,
   AllWhole,
 }
-use Rattle.custard.specs.Laws.Rows.{Ends, is-header, is-header-line, row3-ends, row3-raws, ends-prefix, ends-whole}
+use Rattle.meaning.specs.Laws.Rows.{Ends, is-header, is-header-line, row3-ends, row3-raws, ends-prefix, ends-whole}
 use Rattle.order.specs.StepLaws.{count-before-step, heads-before-step}
 use Rattle.limits.specs.Limits.{start}
 use Rattle.limits.specs.LimitsLaws.{start-at, start-past, start-within, start-head, start-counts}

@@ -11,8 +11,8 @@ use Rattle.sheet.specs.Line.{Line, bad}
 use Rattle.sheet.specs.Sheet.{first, count, lines}
 use Rattle.sheet.specs.SheetLaws.{length-lines}
 use Rattle.sheet.specs.FirstLaws.{none-first}
-use Rattle.custard.specs.Program.{is, select}
-use Rattle.custard.specs.Rows.{line-at, count-of, count-before, good-numbers, row5}
+use Rattle.meaning.specs.Program.{is, select}
+use Rattle.meaning.specs.Rows.{line-at, count-of, count-before, good-numbers, row5}
 use Rattle.refusals.specs.Rows.{Passed}
 use Rattle.tables.specs.Tables.{nth}
 

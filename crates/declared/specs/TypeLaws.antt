@@ -13,9 +13,9 @@ use Rattle.sheet.specs.Line.{Line, bad, letter, number}
 use Rattle.sheet.specs.Sheet.{first, lines}
 use Rattle.sheet.specs.FirstLaws.{first-before}
 use Rattle.sheet.specs.ListLaws.{both, contrary}
-use Rattle.custard.specs.Cty.{Cty, Ctys, TUnit, TAny, TExn, TVar, TInt, TFloat, TConst, TArrow, TApp, TTuple, TBuf, TRef, TInline, nil, cons}
-use Rattle.custard.specs.Program.{name-line, arg-line, type-line, is, select, list-of, tree, trees-after, trees}
-use Rattle.custard.specs.Rows.{some-below, line-at, count-of, zeros-from, is-list, good-type, good-numbers}
+use Rattle.model.specs.Cty.{Cty, Ctys, TUnit, TAny, TExn, TVar, TInt, TFloat, TConst, TArrow, TApp, TTuple, TBuf, TRef, TInline, nil, cons}
+use Rattle.meaning.specs.Program.{name-line, arg-line, type-line, is, select, list-of, tree, trees-after, trees}
+use Rattle.meaning.specs.Rows.{some-below, line-at, count-of, zeros-from, is-list, good-type, good-numbers}
 use Rattle.ranges.specs.Ranges.{types-of}
 use Rattle.ranges.specs.RangesLaws.{type-over}
 use Rattle.refusals.specs.Rows.{Passed}

@@ -12,10 +12,10 @@ use borrow.Author.Tests.{lt-ltb, le-ltb, ltb-true}
 use Rattle.columns.specs.Column.{pick}
 use Rattle.sheet.specs.ListLaws.{false-true}
 use Rattle.sheet.specs.Line.{Line}
-use Rattle.custard.specs.Cty.{TUnit}
-use Rattle.custard.specs.Layout.{names-in}
-use Rattle.custard.specs.Program.{type-line, trees, program}
-use Rattle.custard.specs.Rows.{count-of}
+use Rattle.model.specs.Cty.{TUnit}
+use Rattle.model.specs.Layout.{names-in}
+use Rattle.meaning.specs.Program.{type-line, trees, program}
+use Rattle.meaning.specs.Rows.{count-of}
 use Rattle.bits.specs.Bits.{has, cleared, united}
 use Rattle.bits.specs.BitsLaws.{row-before, has-words, length-cleared, cleared-far, cleared-none, length-united, united-far, united-has}
 use Rattle.namesets.specs.Mentions.{mentions, Mentioned}

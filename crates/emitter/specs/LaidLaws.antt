@@ -16,9 +16,9 @@ use Rattle.sheet.specs.Output.{putAt, puts}
 use Rattle.sheet.specs.OutputLaws.{Whole, length-put}
 use Rattle.sheet.specs.LineLaws.{row-length}
 use Rattle.sheet.specs.ListLaws.{Every, every-append}
-use Rattle.custard.specs.Cty.{Cty}
-use Rattle.custard.specs.Program.{type-line}
-use Rattle.custard.specs.Output.{Written, put, last, emit}
+use Rattle.model.specs.Cty.{Cty}
+use Rattle.meaning.specs.Program.{type-line}
+use Rattle.meaning.specs.Output.{Written, put, last, emit}
 use Rattle.normal.specs.Nodes.{Node, post, Writing, taken, put-args, y-first, y-second, y-third, put-node, write-node, write-nodes, args-of, count-args}
 use Rattle.normal.specs.NodesLaws.{writing, write-post}
 use Rattle.node_lines.specs.Lines.{y-row, arg-row, has-list, listed}

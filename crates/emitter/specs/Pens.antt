@@ -4,7 +4,7 @@ use Prim.Native.Nat.{ℕ, suc, _+_, _*_, _-_, _≤_, _<_}
 use lib.ListN.{length, take, drop}
 use Rattle.sheet.specs.Line.{row, encode}
 use Rattle.sheet.specs.Output.{putAt, puts}
-use Rattle.custard.specs.Program.{type-line}
+use Rattle.meaning.specs.Program.{type-line}
 use Rattle.normal.specs.Nodes.{Node, taken, count-args}
 use Rattle.node_lines.specs.Lines.{y-row, arg-row, listed}
 use Rattle.emitter.specs.declared.Pen.{Pen}

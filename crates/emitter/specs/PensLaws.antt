@@ -12,7 +12,7 @@ use borrow.Author.Tests.{eqb-true, lt-leb}
 use Rattle.columns.specs.Column.{pick}
 use Rattle.sheet.specs.Line.{row, encode}
 use Rattle.sheet.specs.Output.{putAt, puts}
-use Rattle.custard.specs.Program.{type-line}
+use Rattle.meaning.specs.Program.{type-line}
 use Rattle.normal.specs.Nodes.{Node, taken, args-of, count-args}
 use Rattle.nodes.specs.Words.{node-of}
 use Rattle.node_lines.specs.Lines.{y-row, arg-row, has-list, listed}

@@ -9,9 +9,9 @@ use lib.Dec.{eqb, ltb}
 use lib.ListN.{length, getD, take, drop}
 use Rattle.sheet.specs.Line.{Line}
 use Rattle.sheet.specs.Sheet.{lines}
-use Rattle.custard.specs.Decl.{position}
-use Rattle.custard.specs.Program.{program, type-line}
-use Rattle.custard.specs.Rows.{count-of}
+use Rattle.model.specs.Decl.{position}
+use Rattle.meaning.specs.Program.{program, type-line}
+use Rattle.meaning.specs.Rows.{count-of}
 use Rattle.tables.specs.Tables.{decls-of, Tabled}
 use Rattle.kids.specs.Nodes.{type-of, kid-of}
 use Rattle.arguments.specs.Params.{params-of}

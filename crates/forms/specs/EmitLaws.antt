@@ -12,7 +12,7 @@ use Rattle.columns.specs.Column.{pick, _⇒_∥_}
 use Rattle.sheet.specs.Line.{Line, number}
 use Rattle.sheet.specs.Sheet.{lines}
 use Rattle.sheet.specs.ListLaws.{Every, every-append}
-use Rattle.custard.specs.Cty.{
+use Rattle.model.specs.Cty.{
   Cty,
   Ctys,
   TUnit,
@@ -33,10 +33,10 @@ use Rattle.custard.specs.Cty.{
   append,
   lengths,
 }
-use Rattle.custard.specs.Decl.{member, position}
-use Rattle.custard.specs.Program.{type-line, program, tree, trees, list-of}
-use Rattle.custard.specs.Rows.{count-of}
-use Rattle.custard.specs.Resolve.{Unfold, gone, newtype, abbreviation, stays}
+use Rattle.model.specs.Decl.{member, position}
+use Rattle.meaning.specs.Program.{type-line, program, tree, trees, list-of}
+use Rattle.meaning.specs.Rows.{count-of}
+use Rattle.model.specs.Resolve.{Unfold, gone, newtype, abbreviation, stays}
 use Rattle.refusals.specs.Rows.{Passed}
 use Rattle.outcomes.specs.Answer.{parts, plain, listed}
 use Rattle.kids.specs.Nodes.{y-line, kind-of, type-of, kids-of, kid-of}

@@ -6,9 +6,9 @@ use lib.Dec.{eqb}
 use lib.ListN.{getD}
 use Rattle.columns.specs.Column.{_⇒_∥_}
 use Rattle.sheet.specs.Line.{Line}
-use Rattle.custard.specs.Decl.{position}
-use Rattle.custard.specs.Program.{program}
-use Rattle.custard.specs.Resolve.{Unfold, gone, newtype, abbreviation, stays}
+use Rattle.model.specs.Decl.{position}
+use Rattle.meaning.specs.Program.{program}
+use Rattle.model.specs.Resolve.{Unfold, gone, newtype, abbreviation, stays}
 use Rattle.kids.specs.Nodes.{type-of}
 use Rattle.arguments.specs.Params.{params-of}
 

@@ -6,9 +6,9 @@ use lib.Dec.{eqb, leb}
 use lib.ListN.{getD}
 use Rattle.columns.specs.Column.{pick, _⇒_∥_}
 use Rattle.sheet.specs.Line.{Line, number}
-use Rattle.custard.specs.Cty.{Cty, TUnit}
-use Rattle.custard.specs.Program.{name-line, arg-line, type-line, trees}
-use Rattle.custard.specs.Rows.{count-of}
+use Rattle.model.specs.Cty.{Cty, TUnit}
+use Rattle.meaning.specs.Program.{name-line, arg-line, type-line, trees}
+use Rattle.meaning.specs.Rows.{count-of}
 use Rattle.tables.specs.Tables.{nth}
 
 abbrev pub y-line : List Line → ℕ → Line

@@ -15,11 +15,11 @@ use Rattle.sheet.specs.Line.{Line, bad, letter, number}
 use Rattle.sheet.specs.Sheet.{first, lines, count}
 use Rattle.sheet.specs.FirstLaws.{first-before}
 use Rattle.sheet.specs.SheetLaws.{length-lines}
-use Rattle.custard.specs.Cty.{Cty, Ctys, TUnit, TAny, TExn, TVar, TInt, TFloat, TConst, TArrow, TApp, TTuple, TBuf, TRef, TInline, nil, cons, append}
-use Rattle.custard.specs.Program.{name-line, arg-line, type-line, is, select, list-of, tree, trees-after, trees}
-use Rattle.custard.specs.Rows.{count-of, count-before, line-at, some-below, zeros-from, is-list, good-type, good-numbers, row5}
-use Rattle.custard.specs.Laws.Lists.{getD-map}
-use Rattle.custard.specs.Laws.Written.{trees-after-later}
+use Rattle.model.specs.Cty.{Cty, Ctys, TUnit, TAny, TExn, TVar, TInt, TFloat, TConst, TArrow, TApp, TTuple, TBuf, TRef, TInline, nil, cons, append}
+use Rattle.meaning.specs.Program.{name-line, arg-line, type-line, is, select, list-of, tree, trees-after, trees}
+use Rattle.meaning.specs.Rows.{count-of, count-before, line-at, some-below, zeros-from, is-list, good-type, good-numbers, row5}
+use Rattle.model.specs.Laws.Lists.{getD-map}
+use Rattle.meaning.specs.Laws.Written.{trees-after-later}
 use Rattle.limits.specs.Limits.{counts-of}
 use Rattle.refusals.specs.Rows.{Passed}
 use Rattle.refusals.specs.RowsLaws.{passed-kept}

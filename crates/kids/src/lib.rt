@@ -5,8 +5,8 @@ ghost use lib.Dec.{eqb};
 ghost use Rattle.columns.specs.Column.{pick};
 ghost use Rattle.sheet.specs.Line as line;
 ghost use Rattle.sheet.specs.Sheet as sheet;
-ghost use Rattle.custard.specs.Program as program;
-ghost use Rattle.custard.specs.Rows as rows;
+ghost use Rattle.meaning.specs.Program as program;
+ghost use Rattle.meaning.specs.Rows as rows;
 ghost use Rattle.tables.specs.Tables as tables;
 ghost use Rattle.kids.specs.Nodes as nodes;
 

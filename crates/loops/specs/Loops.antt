@@ -4,9 +4,9 @@ use mathlib.Core.List.{List}
 use Prim.Native.Nat.{ℕ, _<_}
 use lib.ListN.{length, getD}
 use Rattle.sheet.specs.Sheet.{first}
-use Rattle.custard.specs.Output.{bit}
-use Rattle.custard.specs.Reach.{cyclic}
-use Rattle.custard.specs.Laws.Reach.{rank}
+use Rattle.meaning.specs.Output.{bit}
+use Rattle.model.specs.Reach.{cyclic}
+use Rattle.model.specs.Laws.Reach.{rank}
 use Rattle.search.specs.declared.Found.{Found}
 use Rattle.search.specs.declared.Found.the-variants.{Start, Reached}
 

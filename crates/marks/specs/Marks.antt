@@ -6,11 +6,11 @@ use Prim.Native.Nat.{ℕ, _+_, _≤_, _<_}
 use lib.Dec.{eqb}
 use lib.ListN.{length, getD}
 use Rattle.sheet.specs.Line.{Line, number}
-use Rattle.custard.specs.Cty.{TUnit}
-use Rattle.custard.specs.Erasure.{cty-erased, marked}
-use Rattle.custard.specs.Program.{arg-line, type-line, trees, program}
-use Rattle.custard.specs.Rows.{count-of}
-use Rattle.custard.specs.Output.{bit}
+use Rattle.model.specs.Cty.{TUnit}
+use Rattle.model.specs.Erasure.{cty-erased, marked}
+use Rattle.meaning.specs.Program.{arg-line, type-line, trees, program}
+use Rattle.meaning.specs.Rows.{count-of}
+use Rattle.meaning.specs.Output.{bit}
 use Rattle.tables.specs.Tables.{nth}
 
 -- number k of Y line y, and the type of A line i

@@ -12,13 +12,13 @@ use Rattle.columns.specs.Column.{pick}
 use Rattle.sheet.specs.Line.{Line, bad, number}
 use Rattle.sheet.specs.Sheet.{lines}
 use Rattle.sheet.specs.ListLaws.{contrary}
-use Rattle.custard.specs.Cty.{Cty, Ctys, TUnit, nil, cons}
-use Rattle.custard.specs.Decl.{position}
-use Rattle.custard.specs.Erasure.{is-pure, cty-erased, ctys-erased, marked}
-use Rattle.custard.specs.Program.{name-line, arg-line, type-line, select, list-of, tree, trees, program}
-use Rattle.custard.specs.Rows.{count-of}
-use Rattle.custard.specs.Output.{bit}
-use Rattle.custard.specs.Laws.Rounds.{cases-eq}
+use Rattle.model.specs.Cty.{Cty, Ctys, TUnit, nil, cons}
+use Rattle.model.specs.Decl.{position}
+use Rattle.model.specs.Erasure.{is-pure, cty-erased, ctys-erased, marked}
+use Rattle.meaning.specs.Program.{name-line, arg-line, type-line, select, list-of, tree, trees, program}
+use Rattle.meaning.specs.Rows.{count-of}
+use Rattle.meaning.specs.Output.{bit}
+use Rattle.model.specs.Laws.Rounds.{cases-eq}
 use Rattle.limits.specs.Limits.{counts-of}
 use Rattle.ranges.specs.Ranges.{types-of}
 use Rattle.ranges.specs.RangesLaws.{past}

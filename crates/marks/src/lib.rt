@@ -6,10 +6,10 @@ ghost use Prim.Native.Nat.{_+_, _≤_, _<_};
 ghost use lib.Dec.{eqb};
 ghost use lib.ListN.{length, getD};
 ghost use Rattle.sheet.specs.Sheet as sheet;
-ghost use Rattle.custard.specs.Erasure as model;
-ghost use Rattle.custard.specs.Program as program;
-ghost use Rattle.custard.specs.Rows as rows;
-ghost use Rattle.custard.specs.Output as output;
+ghost use Rattle.model.specs.Erasure as model;
+ghost use Rattle.meaning.specs.Program as program;
+ghost use Rattle.meaning.specs.Rows as rows;
+ghost use Rattle.meaning.specs.Output as output;
 ghost use Rattle.tables.specs.Tables as tables;
 ghost use Rattle.marks.specs.Marks as marks;
 

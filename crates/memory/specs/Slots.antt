@@ -6,7 +6,7 @@ use mathlib.Core.List.{List}
 use Prim.Native.Nat.{ℕ, suc, _+_, _*_, _≤_, _<_}
 use native.Mathlib.Omega.{arith}
 use lib.ListN.{length, getD, replicate}
-use Rattle.custard.specs.Resolve.{Result}
+use Rattle.model.specs.Resolve.{Result}
 use Rattle.outcomes.specs.Answer.{nine, answer}
 use Rattle.outcomes.specs.Scratch.{part}
 use Rattle.outcomes.specs.Laws.Fuel.{Leads}

@@ -14,12 +14,12 @@ use lib.Seq.{getD-set-same, getD-set-other}
 use borrow.Author.Tests.{eq-eqb, ne-eqb, lt-ltb, le-ltb}
 use Rattle.columns.specs.Column.{pick}
 use Rattle.sheet.specs.Line.{Line}
-use Rattle.custard.specs.Decl.{member, position}
-use Rattle.custard.specs.Layout.{positions}
+use Rattle.model.specs.Decl.{member, position}
+use Rattle.model.specs.Layout.{positions}
 use Rattle.sheet.specs.Sheet.{lines}
-use Rattle.custard.specs.Program.{arg-line, type-line, program}
-use Rattle.custard.specs.Rows.{count-of}
-use Rattle.custard.specs.Laws.Program.{length-program}
+use Rattle.meaning.specs.Program.{arg-line, type-line, program}
+use Rattle.meaning.specs.Rows.{count-of}
+use Rattle.meaning.specs.Laws.Program.{length-program}
 use Rattle.limits.specs.Limits.{counts-of}
 use Rattle.refusals.specs.Rows.{Passed}
 use Rattle.refusals.specs.RowsLaws.{passed-kept}

@@ -6,11 +6,11 @@ use Prim.Native.Nat.{ℕ, zero, suc, _+_, _*_, _≤_, _<_}
 use lib.Bits.{bitOr}
 use lib.ListN.{length, getD}
 use Rattle.sheet.specs.Line.{Line, number}
-use Rattle.custard.specs.Cty.{TUnit}
-use Rattle.custard.specs.Decl.{member}
-use Rattle.custard.specs.Layout.{positions, names-in}
-use Rattle.custard.specs.Program.{arg-line, type-line, trees, program}
-use Rattle.custard.specs.Rows.{count-of}
+use Rattle.model.specs.Cty.{TUnit}
+use Rattle.model.specs.Decl.{member}
+use Rattle.model.specs.Layout.{positions, names-in}
+use Rattle.meaning.specs.Program.{arg-line, type-line, trees, program}
+use Rattle.meaning.specs.Rows.{count-of}
 use Rattle.tables.specs.Tables.{nth, decls-of}
 use Rattle.bits.specs.Bits.{has}
 

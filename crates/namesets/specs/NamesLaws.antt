@@ -12,11 +12,11 @@ use Rattle.columns.specs.Column.{pick}
 use Rattle.sheet.specs.Line.{Line, bad, number}
 use Rattle.sheet.specs.ListLaws.{false-true}
 use Rattle.sheet.specs.Sheet.{lines}
-use Rattle.custard.specs.Cty.{Cty, Ctys, TUnit, TArrow, TApp, gather, gathers, names-of-cty}
-use Rattle.custard.specs.Decl.{Decl, member, position}
-use Rattle.custard.specs.Layout.{positions, names-in}
-use Rattle.custard.specs.Program.{name-line, arg-line, type-line, select, list-of, tree, trees, program}
-use Rattle.custard.specs.Rows.{count-of, good-type}
+use Rattle.model.specs.Cty.{Cty, Ctys, TUnit, TArrow, TApp, gather, gathers, names-of-cty}
+use Rattle.model.specs.Decl.{Decl, member, position}
+use Rattle.model.specs.Layout.{positions, names-in}
+use Rattle.meaning.specs.Program.{name-line, arg-line, type-line, select, list-of, tree, trees, program}
+use Rattle.meaning.specs.Rows.{count-of, good-type}
 use Rattle.ranges.specs.Ranges.{types-of}
 use Rattle.ranges.specs.RangesLaws.{past}
 use Rattle.refusals.specs.Rows.{Passed}

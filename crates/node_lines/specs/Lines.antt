@@ -5,7 +5,7 @@ use Prim.Native.Nat.{ℕ}
 use lib.Dec.{eqb}
 use Rattle.columns.specs.Column.{pick}
 use Rattle.sheet.specs.Line.{Line, row}
-use Rattle.custard.specs.Program.{arg-line}
+use Rattle.meaning.specs.Program.{arg-line}
 use Rattle.normal.specs.Nodes.{Node, y-first, y-second, y-third}
 
 -- the numbers of a Y line

@@ -13,7 +13,7 @@ use Rattle.sheet.specs.Line.{Line, row, encode}
 use Rattle.sheet.specs.LineLaws.{row-length}
 use Rattle.sheet.specs.Output.{putAt, puts}
 use Rattle.sheet.specs.OutputLaws.{Whole, length-put}
-use Rattle.custard.specs.Program.{arg-line}
+use Rattle.meaning.specs.Program.{arg-line}
 use Rattle.normal.specs.Nodes.{Node}
 use Rattle.node_lines.specs.Lines.{arg-row, has-list, listed}
 

@@ -11,10 +11,10 @@ use borrow.Author.Tests.{eq-eqb, ne-eqb, lt-ltb, le-ltb, ltb-true}
 use Rattle.sheet.specs.ListLaws.{same-test}
 use Rattle.columns.specs.Column.{pick}
 use Rattle.sheet.specs.Line.{Line, number}
-use Rattle.custard.specs.Program.{param-line}
+use Rattle.meaning.specs.Program.{param-line}
 use Rattle.tables.specs.Tables.{nth, first-of}
 use Rattle.arguments.specs.Params.{params-from, params-of}
-use Rattle.custard.specs.Decl.{member}
+use Rattle.model.specs.Decl.{member}
 use Rattle.normal.specs.Nodes.{node}
 use Rattle.normal.specs.Forms.{place, variable}
 

@@ -12,7 +12,7 @@ use lib.ListN.{length}
 use borrow.Author.Tests.{eqb-true, ltb-false}
 use Rattle.columns.specs.Column.{pick}
 use Rattle.sheet.specs.ListLaws.{false-true}
-use Rattle.custard.specs.Cty.{
+use Rattle.model.specs.Cty.{
   Cty,
   Ctys,
   TUnit,
@@ -40,8 +40,8 @@ use Rattle.custard.specs.Cty.{
   zip,
   look,
 }
-use Rattle.custard.specs.Decl.{member}
-use Rattle.custard.specs.Resolve.{
+use Rattle.model.specs.Decl.{member}
+use Rattle.model.specs.Resolve.{
   Unfold,
   gone,
   newtype,
@@ -65,7 +65,7 @@ use Rattle.custard.specs.Resolve.{
   checkeds,
   resolve-checked,
 }
-use Rattle.custard.specs.Laws.Cty.{
+use Rattle.model.specs.Laws.Cty.{
   Each,
   Eachs,
   Any,
@@ -76,7 +76,7 @@ use Rattle.custard.specs.Laws.Cty.{
   lengths-append,
   lengths-firsts,
 }
-use Rattle.custard.specs.Laws.Resolve.{Stays, Normal, checked-resolves, resolve-stays}
+use Rattle.model.specs.Laws.Resolve.{Stays, Normal, checked-resolves, resolve-stays}
 use Rattle.normal.specs.SubstLaws.{
   append-assoc,
   firsts-append,

@@ -7,7 +7,7 @@ use Prim.Native.Nat.{ℕ, zero, suc}
 use lib.Dec.{eqb}
 use lib.ListN.{length, getD, drop}
 use Rattle.columns.specs.Column.{pick}
-use Rattle.custard.specs.Cty.{
+use Rattle.model.specs.Cty.{
   Cty,
   Ctys,
   TUnit,
@@ -28,8 +28,8 @@ use Rattle.custard.specs.Cty.{
   lengths,
   walk,
 }
-use Rattle.custard.specs.Decl.{member}
-use Rattle.custard.specs.Resolve.{Unfold, gone, newtype, abbreviation, stays}
+use Rattle.model.specs.Decl.{member}
+use Rattle.model.specs.Resolve.{Unfold, gone, newtype, abbreviation, stays}
 use Rattle.normal.specs.Nodes.{Node, node, spread, attached}
 
 -- the place of a parameter, the number of parameters where there is none of that name

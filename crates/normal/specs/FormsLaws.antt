@@ -8,7 +8,7 @@ use lib.Dec.{T, eqb}
 use lib.ListN.{length, getD, drop}
 use borrow.Author.Tests.{eqb-true}
 use Rattle.columns.specs.Column.{pick}
-use Rattle.custard.specs.Cty.{
+use Rattle.model.specs.Cty.{
   Cty,
   Ctys,
   TUnit,
@@ -35,8 +35,8 @@ use Rattle.custard.specs.Cty.{
   zip,
   look,
 }
-use Rattle.custard.specs.Decl.{member, close}
-use Rattle.custard.specs.Resolve.{
+use Rattle.model.specs.Decl.{member, close}
+use Rattle.model.specs.Resolve.{
   Unfold,
   gone,
   newtype,
@@ -54,7 +54,7 @@ use Rattle.custard.specs.Resolve.{
   checkeds,
   resolve-checked,
 }
-use Rattle.custard.specs.Laws.Cty.{
+use Rattle.model.specs.Laws.Cty.{
   Each,
   Any,
   All,
@@ -73,7 +73,7 @@ use Rattle.custard.specs.Laws.Cty.{
   lengths-firsts,
   attach-nil,
 }
-use Rattle.custard.specs.Laws.Resolve.{Stays, Normal, checked-normal}
+use Rattle.model.specs.Laws.Resolve.{Stays, Normal, checked-normal}
 use Rattle.normal.specs.SubstLaws.{firsts-walks, others-walks, lengths-walks, walk-subst, walks-append, look-walks, instance-zip}
 use Rattle.normal.specs.FormLaws.{BodyBound, Bound, bind-ok, within-ok, ok-same, newtype-ok, abbreviation-ok, surplus-ok, resolve-put}
 use Rattle.normal.specs.Nodes.{Node, node, post, posts, spread, attached}

@@ -6,7 +6,7 @@ use Prim.Native.Nat.{ℕ, zero, suc, _+_, _-_}
 use lib.Dec.{eqb, leb}
 use lib.ListN.{length, getD, take, drop}
 use Rattle.columns.specs.Column.{pick, _⇒_∥_}
-use Rattle.custard.specs.Cty.{
+use Rattle.model.specs.Cty.{
   Cty,
   Ctys,
   TUnit,
@@ -26,7 +26,7 @@ use Rattle.custard.specs.Cty.{
   cons,
   lengths,
 }
-use Rattle.custard.specs.Output.{Written, put, last}
+use Rattle.meaning.specs.Output.{Written, put, last}
 
 -- The number of a Y line's kind, how many children the node has, and its own number: a name, a
 -- width, an effect. A `TInt`, which has no children, has its sign in the count's place.

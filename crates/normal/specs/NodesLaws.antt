@@ -9,7 +9,7 @@ use lib.Dec.{eqb}
 use lib.ListN.{length, take, drop, length-append}
 use lib.Seq.{take-at, drop-at}
 use Rattle.columns.specs.Column.{pick}
-use Rattle.custard.specs.Cty.{
+use Rattle.model.specs.Cty.{
   Cty,
   Ctys,
   TUnit,
@@ -34,10 +34,10 @@ use Rattle.custard.specs.Cty.{
   size,
   sizes,
 }
-use Rattle.custard.specs.Resolve.{attach}
-use Rattle.custard.specs.Output.{Written, put, last, Members, listed, first-arg, emit, emits}
-use Rattle.custard.specs.Laws.Cty.{lengths-append}
-use Rattle.custard.specs.Laws.Output.{emit-adds, emits-adds}
+use Rattle.model.specs.Resolve.{attach}
+use Rattle.meaning.specs.Output.{Written, put, last, Members, listed, first-arg, emit, emits}
+use Rattle.model.specs.Laws.Cty.{lengths-append}
+use Rattle.meaning.specs.Laws.Output.{emit-adds, emits-adds}
 use Rattle.normal.specs.SubstLaws.{lengths-walks}
 use Rattle.normal.specs.Nodes.{
   Node,

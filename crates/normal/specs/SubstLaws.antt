@@ -9,7 +9,7 @@ use lib.Dec.{T, eqb}
 use lib.ListN.{length}
 use borrow.Author.Tests.{eq-eqb}
 use Rattle.columns.specs.Column.{pick}
-use Rattle.custard.specs.Cty.{
+use Rattle.model.specs.Cty.{
   Cty,
   Ctys,
   TUnit,
@@ -37,9 +37,9 @@ use Rattle.custard.specs.Cty.{
   look,
   subst-cty,
 }
-use Rattle.custard.specs.Decl.{member}
-use Rattle.custard.specs.Resolve.{attach, instance, is-app}
-use Rattle.custard.specs.Laws.Cty.{Each, Any, each-map, walk-cong}
+use Rattle.model.specs.Decl.{member}
+use Rattle.model.specs.Resolve.{attach, instance, is-app}
+use Rattle.model.specs.Laws.Cty.{Each, Any, each-map, walk-cong}
 
 -- ---- lists
 pub append-assoc : (ts us vs : Ctys) → append (append ts us) vs ≡ append ts (append us vs)

@@ -6,7 +6,7 @@ use mathlib.Core.Bool.{Bool, true, false}
 use Prim.Native.Nat.{ℕ, zero, suc, _≤_}
 use lib.Dec.{eqb}
 use Rattle.columns.specs.Column.{_⇒_∥_}
-use Rattle.custard.specs.Cty.{
+use Rattle.model.specs.Cty.{
   Cty,
   Ctys,
   TUnit,
@@ -26,7 +26,7 @@ use Rattle.custard.specs.Cty.{
   cons,
   append,
 }
-use Rattle.custard.specs.Resolve.{Result, ok, fault, spent}
+use Rattle.model.specs.Resolve.{Result, ok, fault, spent}
 use Rattle.outcomes.specs.Laws.Fuel.{Leads}
 
 -- ---- parts

@@ -7,7 +7,7 @@ use Prim.Native.Nat.{ℕ, zero, suc, _+_, _*_, _/_, _%_}
 use lib.Dec.{eqb, leb, ltb}
 use lib.ListN.{length, drop}
 use Rattle.columns.specs.Column.{pick}
-use Rattle.custard.specs.Cty.{
+use Rattle.model.specs.Cty.{
   Cty,
   Ctys,
   TUnit,
@@ -27,7 +27,7 @@ use Rattle.custard.specs.Cty.{
   cons,
   size,
 }
-use Rattle.custard.specs.Resolve.{
+use Rattle.model.specs.Resolve.{
   Unfold,
   gone,
   newtype,

@@ -6,7 +6,7 @@ use mathlib.Core.Bool.{true, false}
 use Prim.Native.Nat.{ℕ, suc, _+_, _≤_, _<_}
 use lib.Dec.{leb}
 use lib.ListN.{length, getD, take, drop}
-use Rattle.custard.specs.Resolve.{Result}
+use Rattle.model.specs.Resolve.{Result}
 use Rattle.outcomes.specs.Answer.{nine, answer}
 
 -- n numbers from place i on

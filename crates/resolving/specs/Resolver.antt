@@ -10,11 +10,11 @@ use lib.ListN.{length, getD, drop}
 use Rattle.columns.specs.Column.{_⇒_∥_}
 use Rattle.sheet.specs.Line.{Line}
 use Rattle.sheet.specs.Sheet.{lines}
-use Rattle.custard.specs.Cty.{size, sizes}
-use Rattle.custard.specs.Decl.{position}
-use Rattle.custard.specs.Program.{name-line, type-line, program}
-use Rattle.custard.specs.Rows.{count-of}
-use Rattle.custard.specs.Resolve.{Unfold, gone, newtype, abbreviation, stays, Result, ok}
+use Rattle.model.specs.Cty.{size, sizes}
+use Rattle.model.specs.Decl.{position}
+use Rattle.meaning.specs.Program.{name-line, type-line, program}
+use Rattle.meaning.specs.Rows.{count-of}
+use Rattle.model.specs.Resolve.{Unfold, gone, newtype, abbreviation, stays, Result, ok}
 use Rattle.tables.specs.Tables.{decls-of, Tabled}
 use Rattle.outcomes.specs.Outcome.{called, eval, evals, ev}
 use Rattle.outcomes.specs.Answer.{Told}

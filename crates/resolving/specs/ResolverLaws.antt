@@ -11,14 +11,14 @@ use lib.ListN.{length, getD, set, drop}
 use borrow.Author.Tests.{eqb-true, eqb-false, ne-eqb, leb-true, leb-false}
 use Rattle.sheet.specs.Line.{Line, number}
 use Rattle.sheet.specs.Sheet.{lines}
-use Rattle.custard.specs.Cty.{Cty, Ctys, TVar, TApp, nil, cons, append, size, sizes}
-use Rattle.custard.specs.Decl.{position}
-use Rattle.custard.specs.Program.{name-line, type-line, program}
-use Rattle.custard.specs.Rows.{count-of}
-use Rattle.custard.specs.Resolve.{Unfold, gone, newtype, abbreviation, stays, Result, ok, fault, spent, bind}
-use Rattle.custard.specs.Laws.Cty.{size-positive}
-use Rattle.custard.specs.Laws.Names.{position-le}
-use Rattle.custard.specs.Laws.Program.{length-program}
+use Rattle.model.specs.Cty.{Cty, Ctys, TVar, TApp, nil, cons, append, size, sizes}
+use Rattle.model.specs.Decl.{position}
+use Rattle.meaning.specs.Program.{name-line, type-line, program}
+use Rattle.meaning.specs.Rows.{count-of}
+use Rattle.model.specs.Resolve.{Unfold, gone, newtype, abbreviation, stays, Result, ok, fault, spent, bind}
+use Rattle.model.specs.Laws.Cty.{size-positive}
+use Rattle.model.specs.Laws.Names.{position-le}
+use Rattle.meaning.specs.Laws.Program.{length-program}
 use Rattle.limits.specs.Limits.{counts-of}
 use Rattle.refusals.specs.Rows.{Passed}
 use Rattle.refusals.specs.RowsLaws.{passed-kept}

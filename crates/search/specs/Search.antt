@@ -6,9 +6,9 @@ use mathlib.Core.Bool.{Bool, true, false}
 use Prim.Native.Nat.{ℕ, zero, suc, _*_, _≤_, _<_}
 use lib.ListN.{length}
 use Rattle.columns.specs.Column.{pick}
-use Rattle.custard.specs.Decl.{table}
-use Rattle.custard.specs.Reach.{cyclic}
-use Rattle.custard.specs.Laws.Reach.{reached, rank}
+use Rattle.model.specs.Decl.{table}
+use Rattle.model.specs.Reach.{cyclic}
+use Rattle.model.specs.Laws.Reach.{reached, rank}
 use Rattle.bits.specs.Bits.{has}
 use Rattle.search.specs.declared.Found.{Found}
 use Rattle.search.specs.declared.Found.the-variants.{Start, Reached}

@@ -12,10 +12,10 @@ use lib.Seq.{getD-set-same, getD-set-other, ext-getD}
 use Rattle.sheet.specs.ListLaws.{both, contrary}
 use Rattle.sheet.specs.Sheet.{first}
 use Rattle.sheet.specs.FirstLaws.{first-holds, first-before}
-use Rattle.custard.specs.Reach.{Reach, cyclic}
-use Rattle.custard.specs.Laws.Lists.{trues, length-table, getD-table, true-of}
-use Rattle.custard.specs.Laws.Rounds.{At, At-lt, cases-eq}
-use Rattle.custard.specs.Laws.Reach.{cyclic-sound, cyclic-complete}
+use Rattle.model.specs.Reach.{Reach, cyclic}
+use Rattle.model.specs.Laws.Lists.{trues, length-table, getD-table, true-of}
+use Rattle.model.specs.Laws.Rounds.{At, At-lt, cases-eq}
+use Rattle.model.specs.Laws.Reach.{cyclic-sound, cyclic-complete}
 use Rattle.bits.specs.Bits.{has, inserted, cleared}
 use Rattle.bits.specs.BitsLaws.{row-room, length-inserted, inserted-same, inserted-other, length-cleared, cleared-none}
 use Rattle.search.specs.declared.Found.the-variants.{Start, Reached}

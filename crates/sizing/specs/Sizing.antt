@@ -6,8 +6,8 @@ use Prim.Native.Nat.{ℕ, _+_, _<_}
 use lib.Dec.{eqb}
 use Rattle.columns.specs.Column.{pick}
 use Rattle.sheet.specs.Line.{Line}
-use Rattle.custard.specs.Program.{name-line, arg-line, type-line, local-line, import-line, param-line, ctor-line, field-line, verdict-line}
-use Rattle.custard.specs.Rows.{count-of, count-before, heads-before}
+use Rattle.meaning.specs.Program.{name-line, arg-line, type-line, local-line, import-line, param-line, ctor-line, field-line, verdict-line}
+use Rattle.meaning.specs.Rows.{count-of, count-before, heads-before}
 use Rattle.tables.specs.Tables.{decls-of}
 use Rattle.sizing.specs.declared.Seen.{Seen}
 

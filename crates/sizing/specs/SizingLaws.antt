@@ -15,10 +15,10 @@ use Rattle.sheet.specs.Line.{Line, bad, letter}
 use Rattle.sheet.specs.Sheet.{count, line, lines}
 use Rattle.sheet.specs.SheetLaws.{length-lines, getD-lines}
 use Rattle.sheet.specs.ListLaws.{Every}
-use Rattle.custard.specs.Program.{name-line, arg-line, type-line, local-line, import-line, param-line, ctor-line, field-line, verdict-line, is, is-head, select, before, groups}
-use Rattle.custard.specs.Rows.{line-at, count-of, count-before, heads-before}
-use Rattle.custard.specs.Laws.Program.{None, select-append, none-before, flat, before-flat, grouped, starts-flat, heads, heads-none}
-use Rattle.custard.specs.Laws.Rows.{Ends, is-header-line, NoHeader, no-header}
+use Rattle.meaning.specs.Program.{name-line, arg-line, type-line, local-line, import-line, param-line, ctor-line, field-line, verdict-line, is, is-head, select, before, groups}
+use Rattle.meaning.specs.Rows.{line-at, count-of, count-before, heads-before}
+use Rattle.meaning.specs.Laws.Program.{None, select-append, none-before, flat, before-flat, grouped, starts-flat, heads, heads-none}
+use Rattle.meaning.specs.Laws.Rows.{Ends, is-header-line, NoHeader, no-header}
 use Rattle.order.specs.StepLaws.{count-before-step, heads-before-step, count-before-le, heads-before-le}
 use Rattle.limits.specs.Limits.{counts-of}
 use Rattle.limits.specs.LimitsLaws.{short-bytes}

@@ -11,10 +11,10 @@ use lib.Seq.{getD-append-add}
 use borrow.Author.Tests.{ltb-true, ltb-false}
 use Rattle.sheet.specs.Line.{Line, letter, number}
 use Rattle.sheet.specs.Sheet.{lines}
-use Rattle.custard.specs.Decl.{table, position}
-use Rattle.custard.specs.Program.{name-line, arg-line, type-line, param-line, ctor-line, field-line, verdict-line, program}
-use Rattle.custard.specs.Rows.{count-of}
-use Rattle.custard.specs.Laws.Lists.{length-table, getD-table}
+use Rattle.model.specs.Decl.{table, position}
+use Rattle.meaning.specs.Program.{name-line, arg-line, type-line, param-line, ctor-line, field-line, verdict-line, program}
+use Rattle.meaning.specs.Rows.{count-of}
+use Rattle.model.specs.Laws.Lists.{length-table, getD-table}
 use Rattle.limits.specs.Limits.{start}
 use Rattle.tables.specs.declared.Sizes.{Sizes}
 use Rattle.tables.specs.Tables.{

@@ -6,8 +6,8 @@ use Prim.Native.Nat.{ℕ, zero, suc, _+_, _*_, _<_}
 use lib.ListN.{length, getD}
 use Rattle.sheet.specs.Line.{Line, bad, letter, number}
 use Rattle.sheet.specs.Sheet.{lines}
-use Rattle.custard.specs.Decl.{table, position}
-use Rattle.custard.specs.Program.{
+use Rattle.model.specs.Decl.{table, position}
+use Rattle.meaning.specs.Program.{
   name-line,
   arg-line,
   type-line,
@@ -23,7 +23,7 @@ use Rattle.custard.specs.Program.{
   groups,
   program,
 }
-use Rattle.custard.specs.Rows.{count-of, count-before}
+use Rattle.meaning.specs.Rows.{count-of, count-before}
 use Rattle.limits.specs.Limits.{start}
 use Rattle.refusals.specs.Rows.{Passed}
 use Rattle.tables.specs.declared.Sizes.{Sizes}

@@ -4,9 +4,9 @@ ghost use mathlib.Core.Path.{_≡_};
 ghost use Prim.Native.Nat.{_+_, _≤_, _<_};
 ghost use Rattle.sheet.specs.Line as line;
 ghost use Rattle.sheet.specs.Sheet as sheet;
-ghost use Rattle.custard.specs.Decl as decl;
-ghost use Rattle.custard.specs.Program as program;
-ghost use Rattle.custard.specs.Rows as rows;
+ghost use Rattle.model.specs.Decl as decl;
+ghost use Rattle.meaning.specs.Program as program;
+ghost use Rattle.meaning.specs.Rows as rows;
 ghost use Rattle.limits.specs.Limits as limits;
 ghost use Rattle.tables.specs.Tables as tables;
 

@@ -2,7 +2,7 @@
 use mathlib.Core.List.{List}
 use Prim.Native.Nat.{ℕ}
 use Rattle.sheet.specs.Line.{Line}
-use Rattle.custard.specs.Cty.{Ctys}
+use Rattle.model.specs.Cty.{Ctys}
 use Rattle.outcomes.specs.Outcome.{weight, weights}
 use Rattle.outcomes.specs.Answer.{listed}
 use Rattle.outcomes.specs.Scratch.{part}

@@ -9,9 +9,9 @@ use lib.Dec.{eqb, leb}
 use borrow.Author.Tests.{eqb-true, eqb-false, leb-true, leb-false}
 use Rattle.sheet.specs.Line.{Line, number}
 use Rattle.sheet.specs.Sheet.{lines}
-use Rattle.custard.specs.Cty.{Cty, Ctys, TVar, TApp, nil}
-use Rattle.custard.specs.Program.{type-line}
-use Rattle.custard.specs.Rows.{count-of}
+use Rattle.model.specs.Cty.{Cty, Ctys, TVar, TApp, nil}
+use Rattle.meaning.specs.Program.{type-line}
+use Rattle.meaning.specs.Rows.{count-of}
 use Rattle.refusals.specs.Rows.{Passed}
 use Rattle.outcomes.specs.Outcome.{nodes, argument, weight, weights}
 use Rattle.outcomes.specs.Answer.{parts, listed}

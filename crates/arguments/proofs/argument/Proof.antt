@@ -4,7 +4,7 @@ use Prim.Native.Nat.{ℕ, _+_, _-_, _≤_}
 use native.Mathlib.Omega.{arith}
 use lib.ListN.{length}
 use Rattle.sheet.specs.Sheet.{lines}
-use Rattle.custard.specs.Program.{param-line}
+use Rattle.meaning.specs.Program.{param-line}
 use Rattle.limits.specs.Limits.{start}
 use Rattle.outcomes.specs.Outcome as outcome
 use Rattle.outcomes.specs.Scratch.{part}

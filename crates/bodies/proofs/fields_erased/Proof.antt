@@ -5,7 +5,7 @@ use native.Mathlib.Omega.{arith}
 use native.Mathlib.Numerals.{add-one}
 use borrow.Author.Needs.{needs}
 use Rattle.sheet.specs.Sheet.{lines}
-use Rattle.custard.specs.Program.{field-line}
+use Rattle.meaning.specs.Program.{field-line}
 use Rattle.tables.specs.Tables.{first-of}
 use Rattle.bodies.specs.BodiesLaws.{first-rises, below-of, field-types, first-le, fields-few, types-few, fields-kept, fields-gone}
 use Rattle.bodies.proofs.fields_erased.Statement.{statement}

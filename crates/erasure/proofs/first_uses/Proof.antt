@@ -5,8 +5,8 @@ use native.Mathlib.Omega.{arith}
 use lib.ListN.{length}
 use borrow.Author.Needs.{needs}
 use Rattle.sheet.specs.Sheet.{lines}
-use Rattle.custard.specs.Program.{type-line}
-use Rattle.custard.specs.Rows.{count-of}
+use Rattle.meaning.specs.Program.{type-line}
+use Rattle.meaning.specs.Rows.{count-of}
 use Rattle.erasure.specs.FixpointLaws.{types-few, UsedFrom, used-none, used-next, used-all}
 use Rattle.erasure.proofs.first_uses.Statement.{statement}
 use Rattle.erasure.proofs.first_uses.Tie as tie

@@ -2,7 +2,7 @@
 use mathlib.Core.Path.{_≡_, sym, _∙_}
 use native.Mathlib.Omega.{arith}
 use borrow.Author.Needs.{needs}
-use Rattle.custard.specs.Erasure.{marked}
+use Rattle.model.specs.Erasure.{marked}
 use Rattle.marks.specs.MarksLaws.{marks-at, marks-past}
 use Rattle.marks.proofs.name_erased.Statement.{statement}
 use Rattle.marks.proofs.name_erased.Tie as tie

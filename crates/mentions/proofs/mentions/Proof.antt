@@ -5,8 +5,8 @@ use Prim.Native.Nat.{_-_}
 use lib.ListN.{length}
 use borrow.Author.Needs.{needs}
 use Rattle.sheet.specs.Sheet.{lines}
-use Rattle.custard.specs.Program.{type-line}
-use Rattle.custard.specs.Rows.{count-of}
+use Rattle.meaning.specs.Program.{type-line}
+use Rattle.meaning.specs.Rows.{count-of}
 use Rattle.namesets.specs.Mentions.{Mentioned}
 use Rattle.mentions.proofs.mentions.Statement.{statement}
 use Rattle.mentions.proofs.mentions.Tie as tie

@@ -3,7 +3,7 @@ use mathlib.Core.Path.{_≡_, refl, sym, _∙_}
 use Prim.Native.Nat.{_+_, _-_, _≤_}
 use native.Mathlib.Omega.{arith}
 use Rattle.sheet.specs.Sheet.{lines}
-use Rattle.custard.specs.Program.{param-line}
+use Rattle.meaning.specs.Program.{param-line}
 use Rattle.limits.specs.Limits.{start}
 use Rattle.arguments.specs.Params.{params-from}
 use Rattle.arguments.specs.ParamsLaws.{count-before-le, params-few, decls-few}

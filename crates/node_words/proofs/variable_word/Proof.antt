@@ -4,8 +4,8 @@ use Prim.Native.Nat.{ℕ, _+_, _-_}
 use native.Mathlib.Omega.{arith}
 use lib.ListN.{length}
 use Rattle.sheet.specs.Sheet.{lines}
-use Rattle.custard.specs.Decl.{member}
-use Rattle.custard.specs.Program.{param-line}
+use Rattle.model.specs.Decl.{member}
+use Rattle.meaning.specs.Program.{param-line}
 use Rattle.limits.specs.Limits.{start}
 use Rattle.tables.specs.Tables.{first-of}
 use Rattle.arguments.specs.Params.{params-of}

@@ -8,7 +8,7 @@ use lib.Dec.{eqb, leb, ltb}
 use lib.ListN.{length}
 use borrow.Author.Tests.{ne-eqb, eqb-false}
 use Rattle.columns.specs.Column.{_⇒_∥_}
-use Rattle.custard.specs.Cty.{
+use Rattle.model.specs.Cty.{
   Cty,
   Ctys,
   TUnit,
@@ -30,7 +30,7 @@ use Rattle.custard.specs.Cty.{
   size,
   sizes,
 }
-use Rattle.custard.specs.Resolve.{Unfold, Result, ok, fault, spent, bind}
+use Rattle.model.specs.Resolve.{Unfold, Result, ok, fault, spent, bind}
 use Rattle.outcomes.specs.Outcome.{other, built, weight, weights, instance-head, Next, eval, evals}
 use Rattle.outcomes.specs.Answer.{parts, plain, listed, no-fuel, no-room, nine, ten, answer, Told}
 use Rattle.outcomes.specs.Laws.Ev.{bind-assoc}

@@ -7,7 +7,7 @@ use native.Mathlib.Omega.{arith}
 use lib.Dec.{eqb, leb, ltb}
 use lib.ListN.{length, drop, length-drop}
 use borrow.Author.Tests.{eqb-true, eqb-false, eq-eqb, ne-eqb, leb-true, leb-false, le-leb, ltb-true, ltb-false, lt-ltb}
-use Rattle.custard.specs.Cty.{
+use Rattle.model.specs.Cty.{
   Cty,
   TUnit,
   TAny,
@@ -23,7 +23,7 @@ use Rattle.custard.specs.Cty.{
   TRef,
   TInline,
 }
-use Rattle.custard.specs.Resolve.{Unfold, gone, newtype, abbreviation, stays, Result, ok, fault, spent}
+use Rattle.model.specs.Resolve.{Unfold, gone, newtype, abbreviation, stays, Result, ok, fault, spent}
 use Rattle.outcomes.specs.Outcome.{
   coded,
   nodes,

@@ -11,7 +11,7 @@ use lib.Dec.{eqb, leb, ltb}
 use lib.ListN.{length, drop}
 use borrow.Author.Tests.{eqb-true, eq-eqb, ltb-false, leb-true, leb-false, le-leb}
 use Rattle.columns.specs.Column.{pick}
-use Rattle.custard.specs.Cty.{
+use Rattle.model.specs.Cty.{
   Binding,
   Cty,
   Ctys,
@@ -42,7 +42,7 @@ use Rattle.custard.specs.Cty.{
   look,
   subst-cty,
 }
-use Rattle.custard.specs.Resolve.{
+use Rattle.model.specs.Resolve.{
   Unfold,
   gone,
   newtype,
@@ -64,7 +64,7 @@ use Rattle.custard.specs.Resolve.{
   checkeds,
   resolve-checked,
 }
-use Rattle.custard.specs.Laws.Cty.{
+use Rattle.model.specs.Laws.Cty.{
   Any,
   Alls,
   append-nil,
@@ -77,7 +77,7 @@ use Rattle.custard.specs.Laws.Cty.{
   size-positive,
   subst-none,
 }
-use Rattle.custard.specs.Laws.Resolve.{On, Row, on-map, bind-on, Stays, Normal, resolve-sound, checked-stays}
+use Rattle.model.specs.Laws.Resolve.{On, Row, on-map, bind-on, Stays, Normal, resolve-sound, checked-stays}
 use Rattle.outcomes.specs.Outcome.{
   coded,
   nodes,

@@ -8,7 +8,7 @@ use Prim.Native.Nat.{ℕ, zero, suc, _≤_}
 use native.Mathlib.Omega.{arith}
 use lib.Dec.{eqb, leb, ltb}
 use lib.ListN.{length}
-use Rattle.custard.specs.Cty.{
+use Rattle.model.specs.Cty.{
   Cty,
   Ctys,
   TUnit,
@@ -27,8 +27,8 @@ use Rattle.custard.specs.Cty.{
   nil,
   cons,
 }
-use Rattle.custard.specs.Resolve.{Unfold, gone, newtype, abbreviation, stays, Result, ok, fault, spent, bind, resolve-checked}
-use Rattle.custard.specs.Laws.Resolve.{Unspent}
+use Rattle.model.specs.Resolve.{Unfold, gone, newtype, abbreviation, stays, Result, ok, fault, spent, bind, resolve-checked}
+use Rattle.model.specs.Laws.Resolve.{Unspent}
 use Rattle.outcomes.specs.Outcome.{
   other,
   app,

@@ -9,7 +9,7 @@ use lib.Dec.{leb}
 use lib.ListN.{length, getD, set, take, drop, length-append, length-take, length-drop, length-set}
 use lib.Seq.{take-suc, drop-append-le, take-take, take-set-le, take-suc-set, drop-drop, getD-drop, getD-take}
 use borrow.Author.Tests.{leb-true, leb-false, le-leb}
-use Rattle.custard.specs.Resolve.{Result, ok, fault}
+use Rattle.model.specs.Resolve.{Result, ok, fault}
 use Rattle.outcomes.specs.Outcome.{coded, nodes, total, built}
 use Rattle.outcomes.specs.Answer.{ten, answer}
 use Rattle.outcomes.specs.Scratch.{part, Same, capped, Says}

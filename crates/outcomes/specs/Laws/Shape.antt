@@ -7,7 +7,7 @@ use native.Mathlib.Omega.{arith}
 use lib.Dec.{eqb, leb}
 use lib.ListN.{length, drop}
 use Rattle.columns.specs.Column.{pick}
-use Rattle.custard.specs.Cty.{
+use Rattle.model.specs.Cty.{
   Binding,
   Cty,
   Ctys,
@@ -38,8 +38,8 @@ use Rattle.custard.specs.Cty.{
   look,
   subst-cty,
 }
-use Rattle.custard.specs.Resolve.{attach, is-app}
-use Rattle.custard.specs.Laws.Cty.{size-positive}
+use Rattle.model.specs.Resolve.{attach, is-app}
+use Rattle.model.specs.Laws.Cty.{size-positive}
 use Rattle.outcomes.specs.Outcome.{
   coded,
   nodes,
