@@ -74,10 +74,6 @@ module _ (ds : List Decl) (clear : NoReturn ds) where
     fuel-unspent limit c =
         subst Unspent (checked-more (lay ds) rank-of ranked limit (length ds) k enough c (under-all c)) (checked-unspent (lay ds) rank-of ranked limit (length ds) c (under-all c))
 
-    pub fuel-normal : (c : Cty) → Normal (lay ds) (resolve (lay ds) (suc k) c)
-    fuel-normal c =
-        subst (Normal (lay ds)) (resolve-more (lay ds) rank-of ranked (length ds) k enough c (under-all c)) (resolve-done (lay ds) rank-of ranked (length ds) c (under-all c))
-
   -- any two fuels above the number of declarations give the same
   pub fuel-same : (a b : ℕ) → length ds < a → length ds < b → (c : Cty) → resolve (lay ds) a c ≡ resolve (lay ds) b c
   fuel-same zero b h k c = absurd (omega arith)

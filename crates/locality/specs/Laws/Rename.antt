@@ -569,11 +569,6 @@ module _ (ρ : ℕ → ℕ) (inj : Injective ρ) where
       ap TVariant
       (map-square _ (rename-ctor ρ) (rename-ctor ρ) _ (λ (c : Ctor). ap (λ (fs : List Field). record { ct-name = ρ (c .ct-name); ct-fields = fs }) (close-fields-map ps (c .ct-fields))) cs)
 
-  pub close-fields-rename : (d : Dtype) → close-fields (rename-dtype ρ d) ≡ rename-dtype ρ (close-fields d)
-  unfolding close-fields
-  close-fields-rename d =
-      ap (λ (b : Body). record { dt-name = ρ (d .dt-name); dt-flags = d .dt-flags; dt-params = map ρ (d .dt-params); dt-body = b }) (close-body-rename (d .dt-params) (d .dt-body))
-
 -- ---- constructor layouts
 module _ (ρ : ℕ → ℕ) where
   pub kept-rename : (bs : List Bool) (fs : List Field) → kept bs (map (rename-field ρ) fs) ≡ map (rename-field ρ) (kept bs fs)
@@ -1005,12 +1000,6 @@ module _ (ρ : ℕ → ℕ) where
   info-rename er er' h d (imported ti) e l x = refl
   info-rename er er' h d here e l x =
       ap₂ (λ (cls : List CtorLayout) (b : Bool). record { ti-erased = e; ti-layout = rename-layout ρ l; ti-ctors = cls; ti-record = b }) (ctor-layouts-rename ρ er er' h d) (record-of-rename x)
-
-  somes-rename : (xs : List (Option Dtype)) → somes (map (rename-left ρ) xs) ≡ map (rename-dtype ρ) (somes xs)
-  unfolding somes
-  somes-rename [] = refl
-  somes-rename (none ∷ xs) = somes-rename xs
-  somes-rename (some d ∷ xs) = ap (λ (ds : List Dtype). rename-dtype ρ d ∷ ds) (somes-rename xs)
 
   -- what is resolved for a layout
   field-types-rename : (cls : List CtorLayout) → field-types (map (rename-ctor-layout ρ) cls) ≡ map (rename-cty ρ) (field-types cls)

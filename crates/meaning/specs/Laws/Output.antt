@@ -125,10 +125,6 @@ mutual
       let r = adds-trans (emit-adds t w) (h .0) in
       (record { grows = r .grows; types-count = omega arith; args-count = omega arith }, ap suc (h .1))
 
--- the type that was written last has the last number, and there is one
-pub emit-last : (c : Cty) (w : Written) → suc (last (emit c w)) ≡ length (emit c w .types)
-emit-last c w = let h = emit-adds c w in omega (arith, h .types-count, size-positive c)
-
 -- ---- the types of a program, in the order in which they are written
 unfoldable pub types-of-fields : List Field → List Cty
 types-of-fields [] = []
@@ -679,13 +675,6 @@ module _ (P : ℕ → Type 0) where
   -- What holds of all names of the program's types holds of the name of each `TApp` line of its left sheet.
   pub left-names : (ls : List Line) (ds : List Dtype) → Every (NamesIn P) (types-of ds) → (l : Line) → List·Memᴰ l (left-lines ls ds) → letter l ≡ type-line → number l 0 ≡ 8 → P (number l 1)
   left-names ls ds h l m = every-mem AppLine (left-lines ls ds) (left-apps ls ds h) l m
-
--- each such name occurs in a type of the program
-pub left-names-occur : (ls : List Line) (ds : List Dtype) (l : Line) → List·Memᴰ l (left-lines ls ds) → letter l ≡ type-line → number l 0 ≡ 8 →
-    (c : Cty) × List·Memᴰ c (types-of ds) × List·Memᴰ (number l 1) (names-of-cty c)
-left-names-occur ls ds l m =
-    let P : ℕ → Type 0 = λ n. (c : Cty) × List·Memᴰ c (types-of ds) × List·Memᴰ n (names-of-cty c) in
-    left-names P ls ds (mem-every (NamesIn P) (types-of ds) (λ c j n k. (c, j, k))) l m
 
 -- ---- the verdict sheet
 -- where numbers of two digits fit, there are columns

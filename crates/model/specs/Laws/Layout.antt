@@ -70,10 +70,6 @@ abbrev pub layout-at : List Decl → List Bool → ℕ → Layout
 layout-at ds s i =
     layout-of (dtype-at ds i) (origin-at ds i) (getD s i false) (dropped ds (candidates-of ds s) i) (getD (candidates-of ds s) i none) (ctor-layouts (marked ds s) (dtype-at ds i))
 
-pub length-layouts : (ds : List Decl) (s : List Bool) → length (compute-layouts ds s) ≡ length ds
-unfolding compute-layouts
-length-layouts ds s = length-table (layout-at ds s) (length ds)
-
 pub getD-layouts : (ds : List Decl) (s : List Bool) (i : ℕ) (d : Layout) → i < length ds → getD (compute-layouts ds s) i d ≡ layout-at ds s i
 unfolding compute-layouts
 getD-layouts ds s i d h = getD-table (layout-at ds s) (length ds) i d h
@@ -267,17 +263,6 @@ collapsed ds s i h o nt =
     let q : getD (compute-layouts ds s) i L-opaque ≡ layout-of d here e (dropped ds (candidates-of ds s) i) (candidate d here e (ctor-layouts (marked ds s) d)) (ctor-layouts (marked ds s) d) =
     getD-layouts ds s i L-opaque h ∙ rw (o, getD-candidates ds (marked ds s) s i none h, o) in
     (λ z. let r = k .0 (sym q ∙ z) in (r .0, not-dropped ds (candidates-of ds s) i .0 (r .1)), λ z. q ∙ k .1 (z .0, not-dropped ds (candidates-of ds s) i .1 (z .1)))
-
--- A step of the guard from a local candidate leads to the places of the names in its payload.
-pub candidate-next : (ds : List Decl) (s : List Bool) (i : ℕ)
-    → i < length ds
-    → origin-at ds i ≡ here
-    → (nt : NewtypeLayout)
-    → Candidate (marked ds s) (dtype-at ds i) (getD s i false) nt
-    → guard-next ds (candidates-of ds s) i ≡ names-in ds (nt .nt-ty)
-unfolding guard-next steps payload type-names
-candidate-next ds s i h o nt c =
-    rw (getD-candidates ds (marked ds s) s i none h, o, candidate-iff (marked ds s) (dtype-at ds i) (getD s i false) nt .1 c)
 
 -- ---- names of a payload
 -- A candidate's payload names nothing that its declaration does not.

@@ -73,17 +73,6 @@ position-distinct ds u i h =
     let q : Declared ds (dtype-at ds i .dt-name) = position-declared ds i h in
     u (position ds (dtype-at ds i .dt-name)) i q h (position-name ds (dtype-at ds i .dt-name) q)
 
--- a name that no declaration has is foreign
-pub position-foreign : (ds : List Decl) (n : ℕ) → ((i : ℕ) → i < length ds → dtype-at ds i .dt-name ≢ n) → position ds n ≡ length ds
-unfolding position
-position-foreign [] n f = refl
-position-foreign (d ∷ ds) n f =
-    go (position-foreign ds n (λ i h. f (suc i) (omega arith))) (eqb (d .dtype .dt-name) n) refl
-  where
-    go : position ds n ≡ length ds → (b : Bool) → eqb (d .dtype .dt-name) n ≡ b → pick b 0 (suc (position ds n)) ≡ suc (length ds)
-    go ih true e = absurd (f 0 (omega arith) (eqb→eq (d .dtype .dt-name) n (rw e tt)))
-    go ih false e = ap suc ih
-
 -- in an append: where the first part declares it, else behind the first part
 pub position-append-left : (ds es : List Decl) (n : ℕ) → Declared ds n → position (ds ++ es) n ≡ position ds n
 unfolding position

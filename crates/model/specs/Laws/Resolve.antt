@@ -534,10 +534,6 @@ module _ (lay : ℕ → Unfold) where
     pub checked-small : (t : Cty) → resolve-checked limit lay k c ≡ ok t → size t ≤ limit
     checked-small t e = answer t e .1
 
-    pub checked-row : (e : ℕ) → resolve-checked limit lay k c ≡ fault e → Row e
-    checked-row e q =
-        subst (On (λ t. ((resolve lay k c ≡ t) × Normal t) × (size t ≤ limit)) Row (Unit {0})) q (resolve-sound limit k c)
-
   -- ---- a normal type
   -- is left as it is
   pub resolve-stays : (k : ℕ) (t : Cty) → Normal t → resolve lay k t ≡ t
