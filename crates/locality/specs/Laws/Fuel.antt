@@ -17,7 +17,7 @@ use Rattle.model.specs.Names.{Declared}
 use Rattle.model.specs.Laws.Reach.{cyclic-complete, rank, rank-less, rank-bound}
 use Rattle.model.specs.Laws.Layout.{names-in-iff, unfold-below}
 use Rattle.model.specs.Laws.Cty.{All, names-all}
-use Rattle.model.specs.Laws.Resolve.{Unspent, Unfolds, BodyAll, Normal, Under, Ranked, resolve-done, resolve-more, checked-unspent, checked-more}
+use Rattle.model.specs.Laws.Resolve.{Unspent, Unfolds, BodyAll, Under, Ranked, resolve-more, checked-unspent, checked-more}
 use Rattle.locality.specs.Laws.Locality.{lay-foreign}
 use Rattle.model.specs.Laws.Names.{declared-cases}
 

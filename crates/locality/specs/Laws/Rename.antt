@@ -48,47 +48,7 @@ use Rattle.model.specs.Cty.{
   look,
   subst-cty,
 }
-use Rattle.model.specs.Decl.{
-  Field,
-  Ctor,
-  Body,
-  TAbstract,
-  TAbbrev,
-  TRecord,
-  TVariant,
-  Dtype,
-  Erased,
-  Realized,
-  NoNewtype,
-  NoUnfold,
-  SourceRecord,
-  has-flag,
-  ctors-of,
-  ctors-of-tydef,
-  CtorLayout,
-  NewtypeLayout,
-  Layout,
-  L-erased,
-  L-newtype,
-  L-struct,
-  L-abbrev,
-  L-opaque,
-  TypeInfo,
-  Origin,
-  here,
-  imported,
-  Decl,
-  no-decl,
-  dtype-at,
-  origin-at,
-  table,
-  position,
-  member,
-  close,
-  close-field,
-  close-body,
-  close-fields,
-}
+use Rattle.model.specs.Decl.{Field, Ctor, Body, TAbstract, TAbbrev, TRecord, TVariant, Dtype, Erased, Realized, NoNewtype, NoUnfold, SourceRecord, has-flag, ctors-of, ctors-of-tydef, CtorLayout, NewtypeLayout, Layout, L-erased, L-newtype, L-struct, L-abbrev, L-opaque, TypeInfo, Origin, here, imported, Decl, no-decl, dtype-at, origin-at, table, position, member, close, close-field, close-body}
 use Rattle.model.specs.Erasure.{
   cty-erased,
   ctys-erased,
@@ -137,7 +97,7 @@ use Rattle.model.specs.Resolve.{
 }
 use Rattle.model.specs.Layout.{layouts-of-ctors, slots, kept, ctor-layout, ctor-layouts, first-kept, newtype-of-ctor, newtype-of, candidate, candidates, positions, names-in, type-names, steps, payload, guard-next, dropped, collapse, layout-of-body, layout-of, compute-layouts, candidates-of}
 use Rattle.model.specs.Reach.{cyclic}
-use Rattle.model.specs.Run.{with-body, all-in, collapsed-abbrev, resolved-field, resolved-ctor, struct-body, rw-decl, record-body, record-verdict, record-of, info, somes, layouts-of, Ran, run, unfold-next, returns, field-types, resolves, fault-code, decl-fault, lay, layout-of-decl, left-at, info-at}
+use Rattle.model.specs.Run.{with-body, all-in, collapsed-abbrev, resolved-field, resolved-ctor, struct-body, rw-decl, record-body, record-verdict, record-of, info, layouts-of, Ran, run, unfold-next, returns, field-types, resolves, fault-code, decl-fault, lay, layout-of-decl, left-at, info-at}
 use Rattle.model.specs.Names.{fields-names, ctors-names, body-names, dtype-names, Declared, Agree, Among, cls-names, layout-names, OwnImports}
 use Rattle.model.specs.Laws.Layout.{candidate-at, layout-at}
 use Rattle.locality.specs.Laws.Locality.{marks-local, layouts-local, left-local, fault-local, info-local, returns-local}

@@ -51,7 +51,7 @@ use Rattle.model.specs.Decl.{
   close-fields,
 }
 use Rattle.model.specs.Erasure.{cty-erased, marked, erasure-fixpoint}
-use Rattle.model.specs.Layout.{layouts-of-ctors, slots, ctor-layout, ctor-layouts, newtype-of-ctor, newtype-of, candidate, candidates, dropped, collapse, layout-of-body, layout-of}
+use Rattle.model.specs.Layout.{layouts-of-ctors, slots, ctor-layout, ctor-layouts, newtype-of, candidate, candidates, dropped, collapse, layout-of-body, layout-of}
 use Rattle.model.specs.Names.{pin, pins}
 use Rattle.model.specs.Run.{info, run}
 use Rattle.meaning.specs.Program.{

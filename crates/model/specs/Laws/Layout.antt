@@ -2,7 +2,7 @@
 -- a declaration becomes a newtype, and what the layouts depend on. Assumes nothing.
 use mathlib.Core.Logic.{_⊎_, inl, inr, ⊎-elim, _↔_}
 use mathlib.Core.Path.{_≡_, refl, ap, sym, _∙_}
-use mathlib.Core.List.{List, [], _∷_, map, List·Memᴰ, List·Memᴰ·head, List·Memᴰ·tail, List·Memᴰ·not-nil, List·Memᴰ·cases-cons, Memᴰ·append-left}
+use mathlib.Core.List.{List, [], _∷_, List·Memᴰ, List·Memᴰ·head, List·Memᴰ·tail, List·Memᴰ·not-nil, List·Memᴰ·cases-cons, Memᴰ·append-left}
 use mathlib.Core.Bool.{Bool, true, false, _||_}
 use mathlib.Core.Option.{Option, none, some}
 use Prim.Native.Nat.{ℕ, _≤_, _<_}
@@ -12,34 +12,10 @@ use lib.ListN.{length, getD}
 use borrow.Author.Tests.{ltb-false}
 use Rattle.columns.specs.Column.{pick}
 use Rattle.sheet.specs.ListLaws.{false-true, same-test}
-use Rattle.model.specs.Cty.{Cty, names-of-cty, uninline}
-use Rattle.model.specs.Decl.{table, Field, Ctor, Body, TAbstract, TAbbrev, TRecord, TVariant, Dtype, NoNewtype, has-flag, ctors-of, ctors-of-tydef, CtorLayout, NewtypeLayout, Layout, L-erased, L-newtype, L-struct, L-abbrev, L-opaque, Origin, here, imported, Decl, dtype-at, origin-at, position}
+use Rattle.model.specs.Cty.{Cty, names-of-cty}
+use Rattle.model.specs.Decl.{table, Field, Ctor, Body, TAbstract, TAbbrev, TRecord, TVariant, Dtype, NoNewtype, has-flag, ctors-of, ctors-of-tydef, CtorLayout, NewtypeLayout, Layout, L-newtype, L-opaque, Origin, here, imported, Decl, dtype-at, origin-at, position}
 use Rattle.model.specs.Erasure.{marked}
-use Rattle.model.specs.Layout.{
-  Candidate,
-  candidates-of,
-  layouts-of-ctors,
-  slots,
-  kept,
-  ctor-layout,
-  ctor-layouts,
-  first-kept,
-  newtype-of-ctor,
-  newtype-of,
-  candidate,
-  candidates,
-  positions,
-  names-in,
-  type-names,
-  steps,
-  payload,
-  guard-next,
-  dropped,
-  collapse,
-  layout-of-body,
-  layout-of,
-  compute-layouts,
-}
+use Rattle.model.specs.Layout.{Candidate, candidates-of, layouts-of-ctors, slots, kept, ctor-layout, ctor-layouts, newtype-of-ctor, newtype-of, candidate, candidates, positions, names-in, type-names, steps, payload, guard-next, dropped, collapse, layout-of-body, layout-of, compute-layouts}
 use Rattle.model.specs.Resolve.{Unfold, gone, newtype, abbreviation, stays, unfolded, unfolds}
 use Rattle.model.specs.Run.{unfold-next}
 use Rattle.model.specs.Laws.Erasure.{marked-same, ctor-layouts-local}
@@ -47,7 +23,7 @@ use Rattle.model.specs.Names.{fields-names, ctors-names, dtype-names, De
 use Rattle.model.specs.Laws.Names.{position-name, position-same, agree-sym, kept-names, declared-cases, agree-foreign, ctors-own}
 use Rattle.model.specs.Reach.{Reach, one, more}
 use Rattle.model.specs.Laws.Reach.{reach-loop, reach-stays, cyclic-iff}
-use Rattle.model.specs.Laws.Lists.{length-table, getD-table, getD-table-past, table-cong}
+use Rattle.model.specs.Laws.Lists.{getD-table, getD-table-past, table-cong}
 use Rattle.model.specs.Laws.Cty.{uninline-names}
 
 -- ---- tests
