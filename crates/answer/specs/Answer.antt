@@ -4,7 +4,7 @@
 use mathlib.Core.Path.{_≡_}
 use mathlib.Core.List.{List, [], _∷_, _++_}
 use mathlib.Core.Bool.{Bool, true, false, not}
-use Prim.Native.Nat.{_+_, _*_, _^_, _≤_, _<_, ℕ, suc}
+use Prim.Native.Nat.{_+_, _≤_, _<_, ℕ, suc}
 use lib.Dec.{eqb, ltb}
 use lib.ListN.{length, drop}
 use Rattle.sheet.specs.Format.{Format}

@@ -40,7 +40,7 @@ use Rattle.meaning.specs.Program.{type-line, trees, program}
 use Rattle.meaning.specs.Rows.{line-at, heads-before, head-of}
 use Rattle.meaning.specs.Output.{verdict-lines, verdict-line-of, left-lines}
 use Rattle.meaning.specs.Laws.Verdict.{verdict-line-at}
-use Rattle.answer.specs.Answer.{rows, Refuses, Answer, verdict-sheet, left-sheet, answered, answer, after, Passes}
+use Rattle.answer.specs.Answer.{rows, Refuses, Answer, verdict-sheet, left-sheet, answer, after, Passes}
 use Rattle.model.specs.Names.{Declared, Agree, OwnImports}
 use Rattle.answer.specs.Cut.{Faultless, Sheets, build, builds, join, Cut, Call, Over, InTurn, last-call, AllAccept, Wrote}
 use Rattle.model.specs.Laws.Erasure.{erasure-solves, erasure-least, erasure-made, erasure-rounds}

@@ -3,18 +3,15 @@ use mathlib.Core.Path.{_≡_, refl, ap, ap₂}
 use mathlib.Core.List.{List, [], _∷_, _++_, map}
 use mathlib.Core.Bool.{Bool, true, false, not}
 use mathlib.Core.Option.{some}
-use Prim.Native.Nat.{ℕ, zero, suc, _≤_, _<_}
-use native.Mathlib.Omega.{arith}
+use Prim.Native.Nat.{ℕ, _<_}
 use lib.Dec.{T}
-use lib.ListN.{getD}
 use Rattle.columns.specs.Column.{pick}
 use Rattle.sheet.specs.Format.{Format}
 use Rattle.sheet.specs.Sheet.{lines}
-use Rattle.model.specs.Cty.{Cty}
-use Rattle.model.specs.Decl.{table, Field, Ctor, CtorLayout, TypeInfo, Origin, here, imported, Decl, dtype-at, origin-at}
-use Rattle.model.specs.Erasure.{cty-erased, marked, erasure-fixpoint}
-use Rattle.model.specs.Layout.{layouts-of-ctors, slots, kept, ctor-layout, ctor-layouts}
-use Rattle.model.specs.Run.{info, run, info-at, left-at, layout-of-decl}
+use Rattle.model.specs.Decl.{table, Field, Ctor, CtorLayout}
+use Rattle.model.specs.Erasure.{cty-erased, erasure-fixpoint}
+use Rattle.model.specs.Layout.{layouts-of-ctors, slots, kept, ctor-layout}
+use Rattle.model.specs.Run.{run}
 use Rattle.meaning.specs.Program.{program}
 use Rattle.answer.specs.Answer.{Answer, verdict-sheet, left-sheet, answered, answer}
 use Rattle.answer.specs.Cut.{Sheets, build}

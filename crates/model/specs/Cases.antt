@@ -81,7 +81,7 @@ use Rattle.model.specs.Erasure.{round, cty-erased, fields-erased, body-e
 use Rattle.model.specs.Reach.{go, cyclic}
 use Rattle.model.specs.Layout.{slots, kept, ctor-layout, ctor-layouts, first-kept, newtype-of-ctor, newtype-of, candidate, candidates, positions, type-names, steps, payload, guard-next, dropped, collapse, layout-of-body, layout-of, compute-layouts}
 use Rattle.model.specs.Resolve.{Unfold, gone, newtype, abbreviation, stays, unfolded, unfold-body, unfold-dtype, unfold-of, unfolds, unfold-name, attach, instance, applied, resolve, Result, ok, fault, spent, bind, sized, within, surplus, checked-applied, checked, resolve-checked}
-use Rattle.model.specs.Run.{all-in, collapsed-abbrev, resolved-field, resolved-ctor, struct-body, rw-decl, record-body, record-verdict, record-of, info, somes, layouts-of, Ran, run, unfold-next, returns, field-types, resolves, fault-code, decl-fault}
+use Rattle.model.specs.Run.{all-in, collapsed-abbrev, resolved-field, resolved-ctor, struct-body, rw-decl, record-body, record-verdict, record-of, info, layouts-of, Ran, run, unfold-next, returns, field-types, resolves, fault-code, decl-fault}
 use Rattle.model.specs.Names.{fields-names, ctors-names, body-names, dtype-names, undeclared, pins}
 
 -- ---- how a case is written

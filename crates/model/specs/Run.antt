@@ -39,22 +39,7 @@ use Rattle.model.specs.Decl.{
 use Rattle.model.specs.Erasure.{Settled, marked, erasure-fixpoint}
 use Rattle.model.specs.Layout.{ctor-layouts, compute-layouts, steps}
 use Rattle.model.specs.Reach.{cyclic}
-use Rattle.model.specs.Resolve.{
-  Unfold,
-  gone,
-  newtype,
-  abbreviation,
-  stays,
-  unfolded,
-  unfolds,
-  unfold-name,
-  resolve,
-  Result,
-  ok,
-  fault,
-  spent,
-  resolve-checked,
-}
+use Rattle.model.specs.Resolve.{Unfold, stays, unfolded, unfolds, unfold-name, resolve, Result, ok, fault, spent, resolve-checked}
 
 -- ---- the left declaration
 abbrev pub with-body : Dtype → Body → Dtype

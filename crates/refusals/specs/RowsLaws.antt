@@ -12,7 +12,6 @@ use Rattle.sheet.specs.Line.{isBad}
 use Rattle.sheet.specs.Sheet.{first, count, line, lines, row1, row2}
 use Rattle.sheet.specs.SheetLaws.{length-lines}
 use Rattle.sheet.specs.FirstLaws.{first-le}
-use Rattle.answer.specs.declared.Refusal.{Refusal}
 use Rattle.answer.specs.declared.Refusal.the-variants.{Accepted, Refused}
 use Rattle.meaning.specs.Rows.{raws, row3, row4, row5, row6, row7}
 use Rattle.answer.specs.Answer.{Row, line-row, whole-row, refusal, sheet-rows}

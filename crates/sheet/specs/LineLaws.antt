@@ -437,16 +437,3 @@ unfolding cell
 cell-below w b k n e =
     let d = drop (1 + k * w) b in
     lt-of-lt-of-le (write-read (take w d) n e .1) (pow-le-pow-right (omega arith) (omega (arith, length-take w d)))
-
-pub number-below : (w : ℕ) (b : List ℕ) (k : ℕ) → number (decode w b) k < 10 ^ w
-number-below w b k = go k (decoded w b)
-  where
-    go : (k : ℕ) {l : Line} → Decoded w b l → number l k < 10 ^ w
-    go zero (as-named n z e p) = cell-below w b 0 n e
-    go (suc k) (as-named n z e p) = ten-pos w
-    go k (as-row ns z l g e) = each (ltb k 5) refl
-      where
-        each : (q : Bool) → ltb k 5 ≡ q → getD ns k 0 < 10 ^ w
-        each true h = cell-below w b k (getD ns k 0) (e k (ltb-true k 5 h))
-        each false h = rw (List·getD-eq-default ns 0 {n = k} (omega (arith, ltb-false k 5 h))) (ten-pos w)
-    go k as-bad = ten-pos w

@@ -80,10 +80,6 @@ put-more w n out p q d o h =
 abbrev pub Whole : ℕ → List Line → Type 0
 Whole w = Every (λ l. length (encode w l) ≡ lineBytes w)
 
-pub fit-whole : (w : ℕ) (ls : List Line) → AllFit w ls → Whole w ls
-fit-whole w [] h = tt
-fit-whole w (l ∷ ls) h = (encode-length w l (h .0), fit-whole w ls (h .1))
-
 -- What a run of lines leaves: what was written before, the lines, and then what was there.
 pub puts-more : (w n : ℕ) (ms : List Line) (out p d : List ℕ) → Whole w ms → length p ≡ lineBytes w * n → out ≡ p ++ drop (lineBytes w * n) d →
     puts w out n ms ≡ (p ++ encodes w ms) ++ drop (lineBytes w * (n + length ms)) d

@@ -47,10 +47,6 @@ lineAt-left w b c i h =
     let k : lineBytes w ≤ length (drop (lineBytes w * i) b) = rw length-drop (omega arith) in
     rw (drop-append-le (lineBytes w * i) b c l, take-append-le (lineBytes w) (drop (lineBytes w * i) b) c k)
 
-pub line-left : (w : ℕ) (b c : List ℕ) (i : ℕ) → lineBytes w * suc i ≤ length b → line w (b ++ c) i ≡ line w b i
-unfolding line
-line-left w b c i h = ap (decode w) (lineAt-left w b c i h)
-
 -- line i after k lines
 pub lineAt-right : (w : ℕ) (b c : List ℕ) (k i : ℕ) → length b ≡ lineBytes w * k → lineAt w (b ++ c) (k + i) ≡ lineAt w c i
 unfolding lineAt
@@ -101,9 +97,6 @@ unfolding lines linesFrom encodes
 lines-encodes w [] z h = rw (zero-div (lineBytes w))
 lines-encodes w (l ∷ ls) z h =
     lines-cons w (encode w l) (encodes w ls) (encode-length w l (h .0)) ∙ rw (decode-encode w l z (h .0), lines-encodes w ls z (h .1))
-
-pub lines-encodes-append : (w : ℕ) (ls ms : List Line) → 0 < w → AllFit w ls → AllFit w ms → lines w (encodes w ls ++ encodes w ms) ≡ ls ++ ms
-lines-encodes-append w ls ms z h k = rw (← encodes-append w ls ms) (lines-encodes w (ls ++ ms) z (every-append (Fits w) ls ms h k))
 
 -- ---- the lines of a sheet
 pub length-linesFrom : (w : ℕ) (b : List ℕ) (i n : ℕ) → length (linesFrom w b i n) ≡ n
@@ -189,10 +182,6 @@ encodes-whole w (suc n) b h g =
 pub encodes-lines : (w : ℕ) (b : List ℕ) → length b % lineBytes w ≡ 0 → ((i : ℕ) → i < count w b → isBad (line w b i) ≡ false) → encodes w (lines w b) ≡ b
 encodes-lines w b h = encodes-whole w (count w b) b (omega (arith, div-add-mod (length b) (lineBytes w)))
 
--- the same, by row 2's answer
-pub encodes-lines-row2 : (w : ℕ) (b : List ℕ) → length b % lineBytes w ≡ 0 → row2 w b ≡ count w b → encodes w (lines w b) ≡ b
-encodes-lines-row2 w b h e = encodes-lines w b h (line-good w b e)
-
 -- a line that is not bad is encoded as its bytes
 pub encode-line : (w : ℕ) (b : List ℕ) (i : ℕ) → i < count w b → isBad (line w b i) ≡ false → encode w (line w b i) ≡ lineAt w b i
 unfolding line
@@ -214,9 +203,6 @@ pub nameText-lines : (w : ℕ) (b : List ℕ) (n : ℕ) → nameText w b n ≡ t
 unfolding nameText
 nameText-lines w b n = ap (textOf n) (sym (getD-lines w b n))
 
-pub nameText-named : (w : ℕ) (b : List ℕ) (n : ℕ) (t : List ℕ) → getD (lines w b) n bad ≡ named n t → nameText w b n ≡ t
-nameText-named w b n t e = nameText-lines w b n ∙ rw (e, eq-eqb n n refl)
-
 -- and where there is a spelling, that line is the N line with it
 pub named-nameText : (w : ℕ) (b : List ℕ) (n : ℕ) → 0 < length (nameText w b n) → getD (lines w b) n bad ≡ named n (nameText w b n)
 named-nameText w b n h = rw (nameText-lines w b n) (go (getD (lines w b) n bad) (rw (nameText-lines w b n) at h))
@@ -229,10 +215,6 @@ named-nameText w b n h = rw (nameText-lines w b n) (go (getD (lines w b) n bad) 
     go (named m t) k = number (eqb m n) m t refl k
     go (row x ns) k = absurd (omega arith)
     go bad k = absurd (omega arith)
-
--- the spelling that a run of lines gives
-pub nameText-encodes : (w : ℕ) (ls : List Line) (n : ℕ) → 0 < w → AllFit w ls → nameText w (encodes w ls) n ≡ textOf n (getD ls n bad)
-nameText-encodes w ls n z h = nameText-lines w (encodes w ls) n ∙ rw (lines-encodes w ls z h)
 
 -- ---- the text of a line is a part of it
 spelling-part : (m : ℕ) (d : List ℕ) → spelling (take m d) ≡ take (length (spelling (take m d))) d

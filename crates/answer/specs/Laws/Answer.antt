@@ -4,7 +4,7 @@ use mathlib.Core.Path.{_≡_, refl, sym, _∙_, ap, subst}
 use mathlib.Core.List.{List, [], _∷_, _++_}
 use mathlib.Core.Bool.{Bool, true, false, not}
 use mathlib.Core.Option.{Option, none, some}
-use Prim.Native.Nat.{ℕ, suc, _+_, _-_, _≤_, _<_}
+use Prim.Native.Nat.{ℕ, _+_, _-_, _≤_, _<_}
 use native.Mathlib.Omega.{arith}
 use lib.Dec.{eqb, ltb}
 use lib.ListN.{length, getD, drop, length-append, length-drop}
@@ -12,8 +12,8 @@ use lib.Seq.{getD-append-add, getD-drop}
 use borrow.Author.Tests.{ltb-true, ltb-false, le-ltb, ne-eqb, eqb-false, not-true}
 use Rattle.columns.specs.Column.{pick}
 use Rattle.sheet.specs.Format.{Format}
-use Rattle.sheet.specs.Line.{Line, isBad}
-use Rattle.sheet.specs.Sheet.{first, count, line, lines, row1}
+use Rattle.sheet.specs.Line.{Line}
+use Rattle.sheet.specs.Sheet.{first, lines}
 use Rattle.sheet.specs.FirstLaws.{first-none, none-first, first-le, first-holds}
 use Rattle.sheet.specs.ListLaws.{Every}
 use Rattle.model.specs.Run.{layouts-of, decl-fault}
@@ -21,26 +21,8 @@ use Rattle.answer.specs.declared.Refusal.{Refusal}
 use Rattle.answer.specs.declared.Refusal.the-variants.{Accepted, Refused}
 use Rattle.model.specs.Decl.{Decl}
 use Rattle.meaning.specs.Program.{is-head, program}
-use Rattle.meaning.specs.Rows.{line-at, heads-before, raws, row3, row4, row5, row6, row7}
-use Rattle.answer.specs.Answer.{
-  Passes,
-  Clear,
-  Row,
-  row8,
-  row9-10,
-  fault-at,
-  verdict-sheet,
-  left-sheet,
-  sheet-rows,
-  program-rows,
-  output-rows,
-  rows,
-  refusal,
-  Answer,
-  answered,
-  answer,
-  after,
-}
+use Rattle.meaning.specs.Rows.{line-at, heads-before}
+use Rattle.answer.specs.Answer.{Passes, Clear, Row, row9-10, fault-at, verdict-sheet, left-sheet, sheet-rows, program-rows, output-rows, rows, refusal, Answer, answered, answer, after}
 use Rattle.answer.specs.Cut.{Sheets, sheets-of, build}
 
 -- ---- a list of rows

@@ -8,9 +8,8 @@ use native.Mathlib.Omega.{arith}
 use lib.ListN.{length, take, drop}
 use lib.Seq.{take-append-seam}
 use Rattle.sheet.specs.Format.{Format}
-use Rattle.sheet.specs.Sheet.{lines}
 use Rattle.answer.specs.declared.Refusal.the-variants.{Accepted}
-use Rattle.answer.specs.Answer.{Answer, answer, answered, after, Passes, Given, called, verdict-sheet}
+use Rattle.answer.specs.Answer.{Answer, answer, answered, after, Passes, Given, called}
 use Rattle.answer.specs.Cut.{Sheets, build, builds, Cut, Call, handed-on, Over, InTurn, last-call, AllAccept, Wrote}
 use Rattle.answer.specs.Laws.Answer.{sheets, passes-build, build-passes, accepted-passes, passes-accepted, passes-answer}
 use Rattle.answer.specs.Laws.Build.{verdict-sheet-length}

@@ -14,81 +14,28 @@ use lib.Seq.{take-suc, take-add, getD-drop}
 use borrow.Author.Tests.{eqb-true, ltb-true, ltb-false, leb-false, not-false}
 use Rattle.columns.specs.Column.{pick, _⇒_∥_}
 use Rattle.sheet.specs.Line.{Line, bad, letter, number}
-use Rattle.sheet.specs.Format.{Format, lineBytes, base, Ample}
+use Rattle.sheet.specs.Format.{Format, lineBytes, Ample}
 use Rattle.sheet.specs.Sheet.{count, lines, row1}
 use Rattle.sheet.specs.SheetLaws.{AllFit, length-lines, within-count, fit-lines}
-use Rattle.sheet.specs.ListLaws.{false-true, both, one-of, Every, mem-every, every-map}
+use Rattle.sheet.specs.ListLaws.{false-true, both, one-of, Every, every-map}
 use Rattle.model.specs.Cty.{Cty, size}
-use Rattle.model.specs.Decl.{
-  NewtypeLayout,
-  Field,
-  Body,
-  TAbstract,
-  TAbbrev,
-  TRecord,
-  TVariant,
-  Dtype,
-  ctors-of,
-  ctors-of-tydef,
-  CtorLayout,
-  Layout,
-  L-erased,
-  L-struct,
-  L-opaque,
-  TypeInfo,
-  Origin,
-  here,
-  imported,
-  Decl,
-  no-decl,
-  dtype-at,
-  origin-at,
-  close-fields,
-}
+use Rattle.model.specs.Decl.{NewtypeLayout, Field, Body, TAbstract, TAbbrev, TRecord, TVariant, Dtype, ctors-of, ctors-of-tydef, CtorLayout, L-erased, L-struct, L-opaque, TypeInfo, Origin, here, imported, Decl, no-decl, dtype-at, origin-at, close-fields}
 use Rattle.model.specs.Erasure.{marked, erasure-fixpoint}
 use Rattle.model.specs.Layout.{collapse, ctor-layouts, newtype-of-ctor, newtype-of, dropped, layout-of, candidates-of}
-use Rattle.model.specs.Resolve.{stays, resolve, resolve-checked}
+use Rattle.model.specs.Resolve.{stays, resolve}
 use Rattle.model.specs.Run.{left-program, layouts-of, run, returns, resolves, decl-fault, lay, layout-of-decl, left-at}
-use Rattle.meaning.specs.Program.{
-  name-line,
-  arg-line,
-  type-line,
-  local-line,
-  param-line,
-  ctor-line,
-  field-line,
-  verdict-line,
-  import-line,
-  is,
-  is-head,
-  select,
-  before,
-  Group,
-  groups,
-  keeps-of,
-  ctor-layouts-by,
-  abbreviated,
-  layout-by,
-  info-of,
-  verdict-of,
-  trees,
-  dtype-of,
-  decl-of,
-  program,
-}
+use Rattle.meaning.specs.Program.{name-line, arg-line, type-line, local-line, param-line, ctor-line, field-line, verdict-line, import-line, is, is-head, select, before, Group, keeps-of, ctor-layouts-by, abbreviated, layout-by, info-of, verdict-of, trees, dtype-of, decl-of, program}
 use Rattle.meaning.specs.Rows.{line-at, count-of, count-before, heads-before, params-after, row4, last-head, head-of, kept-after, one-ctor, good-verdict, good-verdicts, row7}
-use Rattle.meaning.specs.Output.{verdict-lines, left-lines}
-use Rattle.answer.specs.Answer.{row8, row9-10, verdict-sheet, left-sheet, Clear, Passes}
+use Rattle.meaning.specs.Output.{left-lines}
+use Rattle.answer.specs.Answer.{row8, row9-10, left-sheet, Clear, Passes}
 use Rattle.answer.specs.Laws.Pass.{clear-heads}
-use Rattle.locality.specs.Laws.Fuel.{NoReturn, fuel-unspent}
-use Rattle.meaning.specs.Laws.Output.{verdict-bytes, verdict-round, columns-positive}
+use Rattle.locality.specs.Laws.Fuel.{NoReturn}
 use Rattle.meaning.specs.Laws.Written.{left-program-read}
 use Rattle.meaning.specs.Laws.Numbers.{sheet-round, left-sheet-normal}
-use Rattle.meaning.specs.Laws.Program.{None, heads, head-cases, length-groups, length-program, program-at, HeadAt, head-at, body-number, body-of-number, close-number}
-use Rattle.model.specs.Laws.Resolve.{StructMatches, OpaqueMatches, Matches, layout-matches, Unspent, Normal, Resolved, decl-resolved, LeftTypes, left-types}
-use Rattle.model.specs.Laws.Layout.{getD-candidates, getD-layouts}
-use Rattle.model.specs.Laws.Run.{length-infos}
-use Rattle.answer.specs.Laws.Build.{row1-small, whole-length, pass-whole}
+use Rattle.meaning.specs.Laws.Program.{None, heads, head-cases, length-program, program-at, HeadAt, head-at, body-number, body-of-number, close-number}
+use Rattle.model.specs.Laws.Resolve.{StructMatches, OpaqueMatches, Matches, layout-matches, Normal, Resolved, decl-resolved, LeftTypes, left-types}
+use Rattle.model.specs.Laws.Layout.{getD-layouts}
+use Rattle.answer.specs.Laws.Build.{row1-small}
 use Rattle.meaning.specs.Laws.Rows.{last-head-append, last-head-none}
 
 -- ---- an import's layout goes with its body

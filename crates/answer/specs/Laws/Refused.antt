@@ -1,30 +1,30 @@
 -- Which row a refusal comes from, and which codes there are. Assumes nothing.
-use mathlib.Core.Logic.{_⊎_, inl, inr, ⊎-elim}
+use mathlib.Core.Logic.{_⊎_, ⊎-elim}
 use mathlib.Core.Path.{_≡_, refl, sym, _∙_, ap, subst}
-use mathlib.Core.List.{List, [], _∷_, _++_, append-assoc}
+use mathlib.Core.List.{List, [], _∷_, _++_}
 use mathlib.Core.Bool.{Bool, true, false, not}
 use Prim.Native.Nat.{ℕ, zero, suc, _≤_, _<_}
 use native.Mathlib.Omega.{arith}
 use lib.Dec.{eqb, ltb}
 use lib.ListN.{length}
-use borrow.Author.Tests.{ltb-true, ltb-false, eqb-false, not-true}
+use borrow.Author.Tests.{ltb-true, eqb-false, not-true}
 use Rattle.sheet.specs.Format.{Format, Ample}
 use Rattle.sheet.specs.Line.{Line}
 use Rattle.sheet.specs.Sheet.{first, count, lines}
 use Rattle.sheet.specs.SheetLaws.{length-lines}
 use Rattle.sheet.specs.FirstLaws.{first-holds, first-before}
-use Rattle.sheet.specs.ListLaws.{Every, mem-every, every-append}
+use Rattle.sheet.specs.ListLaws.{Every, mem-every}
 use Rattle.model.specs.Decl.{Decl}
 use Rattle.model.specs.Run.{lay, layouts-of, layout-of-decl, resolves, returns, decl-fault}
 use Rattle.model.specs.Resolve.{resolve-checked}
 use Rattle.model.specs.Laws.Resolve.{Unspent, fault-row}
 use Rattle.locality.specs.Laws.Fuel.{NoReturn, fuel-unspent}
 use Rattle.meaning.specs.Program.{is-head, program}
-use Rattle.meaning.specs.Laws.Program.{heads, length-program}
+use Rattle.meaning.specs.Laws.Program.{length-program}
 use Rattle.meaning.specs.Rows.{line-at, heads-before, row4}
 use Rattle.answer.specs.declared.Refusal.{Refusal}
 use Rattle.answer.specs.declared.Refusal.the-variants.{Accepted, Refused}
-use Rattle.answer.specs.Answer.{Row, Clear, Refuses, row8, fault-at, row9-10, sheet-rows, program-rows, output-rows, rows, refusal, Answer, answered, answer}
+use Rattle.answer.specs.Answer.{Row, Clear, Refuses, row8, fault-at, row9-10, sheet-rows, program-rows, output-rows, rows, refusal, answered, answer}
 use Rattle.answer.specs.Laws.Answer.{first-clear, AllClear, accepted-clear, or-later, refusal-append, head-test}
 use Rattle.answer.specs.Laws.Pass.{clear-heads}
 use Rattle.answer.specs.Laws.Left.{decls-limit}

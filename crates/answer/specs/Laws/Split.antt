@@ -29,7 +29,7 @@ use mathlib.Core.Option.{Option, none, some}
 use Rattle.answer.specs.Laws.Answer.{passes-build, build-passes, sheets}
 use Rattle.sheet.specs.Format.{Format, lineBytes}
 use Rattle.sheet.specs.Line.{Line, bad, isBad, letter, number}
-use Rattle.sheet.specs.Sheet.{first, count, line, linesFrom, lines, row2}
+use Rattle.sheet.specs.Sheet.{count, line, linesFrom, lines, row2}
 use Rattle.sheet.specs.FirstLaws.{first-none}
 use Rattle.sheet.specs.SheetLaws.{within-count, length-lines, getD-lines, lines-append}
 use Rattle.sheet.specs.ListLaws.{Every, at-every, every-left, every-right}
@@ -41,7 +41,7 @@ use Rattle.model.specs.Names.{dtype-names, Declared, undeclared, Distinct}
 use Rattle.model.specs.Laws.Names.{position-name, position-first, position-append-left, position-append-right, undeclared-of, declared-cases, not-declared}
 use Rattle.answer.specs.Cut.{Sheets, Faultless, build, builds, join, Whole, Declarations, program-names, Cut}
 use Rattle.meaning.specs.Laws.Program.{none-append, Starts, None, select-append, program-append, groups-append, groups-none, length-program, HeadAt, head-at, heads-before-program, none-left, none-right}
-use Rattle.meaning.specs.Laws.Rows.{Ends, raw-rawly, ends-prefix, NoHeader, no-header, row5-prefix}
+use Rattle.meaning.specs.Laws.Rows.{Ends, raw-rawly, ends-prefix, NoHeader, no-header}
 use Rattle.answer.specs.Answer.{verdict-sheet, Passes, Clear}
 use Rattle.answer.specs.Laws.Pass.{name-at, distinct-program}
 use Rattle.locality.specs.Laws.Pinning.{Apart, distinct-undeclared}

@@ -17,7 +17,7 @@ use Rattle.model.specs.Names.{Declared}
 use Rattle.model.specs.Laws.Reach.{cyclic-complete, rank, rank-less, rank-bound}
 use Rattle.model.specs.Laws.Layout.{names-in-iff, unfold-below}
 use Rattle.model.specs.Laws.Cty.{All, names-all}
-use Rattle.model.specs.Laws.Resolve.{Unspent, Unfolds, BodyAll, Normal, Under, Ranked, resolve-done, resolve-more, checked-unspent, checked-more}
+use Rattle.model.specs.Laws.Resolve.{Unspent, Unfolds, BodyAll, Under, Ranked, resolve-more, checked-unspent, checked-more}
 use Rattle.locality.specs.Laws.Locality.{lay-foreign}
 use Rattle.model.specs.Laws.Names.{declared-cases}
 
@@ -73,10 +73,6 @@ module _ (ds : List Decl) (clear : NoReturn ds) where
     pub fuel-unspent : (limit : ℕ) (c : Cty) → Unspent (resolve-checked limit (lay ds) (suc k) c)
     fuel-unspent limit c =
         subst Unspent (checked-more (lay ds) rank-of ranked limit (length ds) k enough c (under-all c)) (checked-unspent (lay ds) rank-of ranked limit (length ds) c (under-all c))
-
-    pub fuel-normal : (c : Cty) → Normal (lay ds) (resolve (lay ds) (suc k) c)
-    fuel-normal c =
-        subst (Normal (lay ds)) (resolve-more (lay ds) rank-of ranked (length ds) k enough c (under-all c)) (resolve-done (lay ds) rank-of ranked (length ds) c (under-all c))
 
   -- any two fuels above the number of declarations give the same
   pub fuel-same : (a b : ℕ) → length ds < a → length ds < b → (c : Cty) → resolve (lay ds) a c ≡ resolve (lay ds) b c

@@ -12,34 +12,7 @@ use lib.ListN.{length, getD}
 use Rattle.columns.specs.Column.{pick}
 use Rattle.sheet.specs.ListLaws.{Every}
 use Rattle.model.specs.Cty.{Cty, names-of-cty}
-use Rattle.model.specs.Decl.{
-  Field,
-  Body,
-  TAbstract,
-  TAbbrev,
-  TRecord,
-  TVariant,
-  Dtype,
-  Realized,
-  NoUnfold,
-  has-flag,
-  CtorLayout,
-  NewtypeLayout,
-  Layout,
-  L-erased,
-  L-newtype,
-  L-struct,
-  L-abbrev,
-  L-opaque,
-  TypeInfo,
-  Origin,
-  here,
-  imported,
-  Decl,
-  dtype-at,
-  origin-at,
-  position,
-}
+use Rattle.model.specs.Decl.{Field, Body, TAbstract, TAbbrev, TRecord, TVariant, Dtype, Realized, NoUnfold, has-flag, CtorLayout, NewtypeLayout, Layout, L-erased, L-newtype, L-struct, L-abbrev, L-opaque, Origin, here, imported, Decl, dtype-at, origin-at, position}
 use Rattle.model.specs.Erasure.{marked, erasure-fixpoint}
 use Rattle.model.specs.Layout.{steps, type-names, ctor-layouts, candidate, dropped, names-in, layout-of, candidates-of}
 use Rattle.model.specs.Resolve.{unfolded, Unfold, gone, newtype, abbreviation, stays, unfold-body, unfold-dtype, unfold-of, unfolds, unfold-name, resolve}

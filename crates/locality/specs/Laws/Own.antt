@@ -1,37 +1,13 @@
 -- The types of a declaration's layout name only what the declaration's own types name.
 -- Assumes nothing.
 use mathlib.Core.Path.{_≡_, refl, sym, subst}
-use mathlib.Core.List.{List, [], _∷_, _++_, map, List·Memᴰ, List·Memᴰ·not-nil, Memᴰ·append-left}
+use mathlib.Core.List.{List, [], _∷_, _++_, List·Memᴰ, List·Memᴰ·not-nil, Memᴰ·append-left}
 use mathlib.Core.Bool.{Bool, true, false, _||_}
 use mathlib.Core.Option.{Option, none, some}
 use Prim.Native.Nat.{ℕ}
 use Rattle.columns.specs.Column.{pick}
 use Rattle.model.specs.Cty.{names-of-cty}
-use Rattle.model.specs.Decl.{
-  table,
-  Field,
-  Ctor,
-  Body,
-  TAbstract,
-  TAbbrev,
-  TRecord,
-  TVariant,
-  Dtype,
-  ctors-of-tydef,
-  has-flag,
-  NoNewtype,
-  CtorLayout,
-  NewtypeLayout,
-  Layout,
-  L-erased,
-  L-newtype,
-  L-struct,
-  L-abbrev,
-  L-opaque,
-  Origin,
-  here,
-  imported,
-}
+use Rattle.model.specs.Decl.{table, Field, Ctor, Body, TAbstract, TAbbrev, TRecord, TVariant, Dtype, ctors-of-tydef, has-flag, NoNewtype, CtorLayout, NewtypeLayout, Origin, here, imported}
 use Rattle.model.specs.Layout.{slots, layouts-of-ctors, ctor-layout, ctor-layouts, newtype-of-ctor, newtype-of, candidate, collapse, layout-of-body, layout-of}
 use Rattle.model.specs.Names.{layout-names, cls-names, fields-names, ctors-names, body-names, dtype-names, Among}
 use Rattle.model.specs.Laws.Cty.{uninline-names}

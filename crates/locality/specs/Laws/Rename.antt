@@ -48,47 +48,7 @@ use Rattle.model.specs.Cty.{
   look,
   subst-cty,
 }
-use Rattle.model.specs.Decl.{
-  Field,
-  Ctor,
-  Body,
-  TAbstract,
-  TAbbrev,
-  TRecord,
-  TVariant,
-  Dtype,
-  Erased,
-  Realized,
-  NoNewtype,
-  NoUnfold,
-  SourceRecord,
-  has-flag,
-  ctors-of,
-  ctors-of-tydef,
-  CtorLayout,
-  NewtypeLayout,
-  Layout,
-  L-erased,
-  L-newtype,
-  L-struct,
-  L-abbrev,
-  L-opaque,
-  TypeInfo,
-  Origin,
-  here,
-  imported,
-  Decl,
-  no-decl,
-  dtype-at,
-  origin-at,
-  table,
-  position,
-  member,
-  close,
-  close-field,
-  close-body,
-  close-fields,
-}
+use Rattle.model.specs.Decl.{Field, Ctor, Body, TAbstract, TAbbrev, TRecord, TVariant, Dtype, Erased, Realized, NoNewtype, NoUnfold, SourceRecord, has-flag, ctors-of, ctors-of-tydef, CtorLayout, NewtypeLayout, Layout, L-erased, L-newtype, L-struct, L-abbrev, L-opaque, TypeInfo, Origin, here, imported, Decl, no-decl, dtype-at, origin-at, table, position, member, close, close-field, close-body}
 use Rattle.model.specs.Erasure.{
   cty-erased,
   ctys-erased,
@@ -137,7 +97,7 @@ use Rattle.model.specs.Resolve.{
 }
 use Rattle.model.specs.Layout.{layouts-of-ctors, slots, kept, ctor-layout, ctor-layouts, first-kept, newtype-of-ctor, newtype-of, candidate, candidates, positions, names-in, type-names, steps, payload, guard-next, dropped, collapse, layout-of-body, layout-of, compute-layouts, candidates-of}
 use Rattle.model.specs.Reach.{cyclic}
-use Rattle.model.specs.Run.{with-body, all-in, collapsed-abbrev, resolved-field, resolved-ctor, struct-body, rw-decl, record-body, record-verdict, record-of, info, somes, layouts-of, Ran, run, unfold-next, returns, field-types, resolves, fault-code, decl-fault, lay, layout-of-decl, left-at, info-at}
+use Rattle.model.specs.Run.{with-body, all-in, collapsed-abbrev, resolved-field, resolved-ctor, struct-body, rw-decl, record-body, record-verdict, record-of, info, layouts-of, Ran, run, unfold-next, returns, field-types, resolves, fault-code, decl-fault, lay, layout-of-decl, left-at, info-at}
 use Rattle.model.specs.Names.{fields-names, ctors-names, body-names, dtype-names, Declared, Agree, Among, cls-names, layout-names, OwnImports}
 use Rattle.model.specs.Laws.Layout.{candidate-at, layout-at}
 use Rattle.locality.specs.Laws.Locality.{marks-local, layouts-local, left-local, fault-local, info-local, returns-local}
@@ -568,11 +528,6 @@ module _ (ρ : ℕ → ℕ) (inj : Injective ρ) where
   close-body-rename ps (TVariant cs) =
       ap TVariant
       (map-square _ (rename-ctor ρ) (rename-ctor ρ) _ (λ (c : Ctor). ap (λ (fs : List Field). record { ct-name = ρ (c .ct-name); ct-fields = fs }) (close-fields-map ps (c .ct-fields))) cs)
-
-  pub close-fields-rename : (d : Dtype) → close-fields (rename-dtype ρ d) ≡ rename-dtype ρ (close-fields d)
-  unfolding close-fields
-  close-fields-rename d =
-      ap (λ (b : Body). record { dt-name = ρ (d .dt-name); dt-flags = d .dt-flags; dt-params = map ρ (d .dt-params); dt-body = b }) (close-body-rename (d .dt-params) (d .dt-body))
 
 -- ---- constructor layouts
 module _ (ρ : ℕ → ℕ) where
@@ -1005,12 +960,6 @@ module _ (ρ : ℕ → ℕ) where
   info-rename er er' h d (imported ti) e l x = refl
   info-rename er er' h d here e l x =
       ap₂ (λ (cls : List CtorLayout) (b : Bool). record { ti-erased = e; ti-layout = rename-layout ρ l; ti-ctors = cls; ti-record = b }) (ctor-layouts-rename ρ er er' h d) (record-of-rename x)
-
-  somes-rename : (xs : List (Option Dtype)) → somes (map (rename-left ρ) xs) ≡ map (rename-dtype ρ) (somes xs)
-  unfolding somes
-  somes-rename [] = refl
-  somes-rename (none ∷ xs) = somes-rename xs
-  somes-rename (some d ∷ xs) = ap (λ (ds : List Dtype). rename-dtype ρ d ∷ ds) (somes-rename xs)
 
   -- what is resolved for a layout
   field-types-rename : (cls : List CtorLayout) → field-types (map (rename-ctor-layout ρ) cls) ≡ map (rename-cty ρ) (field-types cls)

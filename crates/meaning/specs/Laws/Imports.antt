@@ -5,7 +5,7 @@ use Prim.Native.Nat.{ℕ}
 use lib.Dec.{eqb}
 use Rattle.columns.specs.Column.{pick, _⇒_∥_}
 use Rattle.sheet.specs.Line.{Line}
-use Rattle.model.specs.Decl.{Ctor, Body, TAbstract, TAbbrev, TRecord, TVariant, Dtype, ctors-of-tydef, CtorLayout, Layout, L-erased, L-struct, L-opaque}
+use Rattle.model.specs.Decl.{Ctor, Body, TAbstract, TAbbrev, TRecord, TVariant, Dtype, ctors-of-tydef, CtorLayout, L-erased, L-struct, L-opaque}
 use Rattle.model.specs.Layout.{ctor-layout, newtype-of, collapse}
 use Rattle.model.specs.Names.{ctors-names, body-names, dtype-names, Among, cls-names, layout-names}
 use Rattle.model.specs.Laws.Names.{among-append, kept-names, ctors-own}

@@ -19,7 +19,6 @@ use Rattle.sheet.specs.SheetLaws.{AllFit, length-encodes, lines-encodes}
 use Rattle.sheet.specs.ListLaws.{Every, every-mem, mem-every, every-map, every-over, every-append, every-left, every-right}
 use Rattle.meaning.specs.Program.{name-line, arg-line, type-line, local-line, param-line, ctor-line, field-line, verdict-line, import-line, is, is-head, select, before, Group, groups}
 use Rattle.model.specs.Cty.{Cty, Ctys, TUnit, TAny, TExn, TVar, TInt, TFloat, TConst, TArrow, TApp, TTuple, TBuf, TRef, TInline, nil, cons, gather, gathers, names-of-cty, lengths, size, sizes}
-use Rattle.model.specs.Laws.Cty.{size-positive}
 use Rattle.model.specs.Decl.{bit, Field, Ctor, Body, TAbstract, TAbbrev, TRecord, TVariant, Dtype, Layout, L-erased, L-newtype, L-struct, L-abbrev, L-opaque, layout-number, TypeInfo}
 use Rattle.meaning.specs.Output.{fill-keeps, fill-verdict, all-slots, fill, fill-all, verdict-lines, Written, put, last, Members, listed, first-arg, emit, emits, Lines, field-lines, ctor-lines, decl-frame, decl-lines, program-lines, left-lines}
 use Rattle.meaning.specs.Laws.Program.{flat, before-flat, length-verdict-lines}
@@ -124,10 +123,6 @@ mutual
       let h = emits-adds ts (emit t w) in
       let r = adds-trans (emit-adds t w) (h .0) in
       (record { grows = r .grows; types-count = omega arith; args-count = omega arith }, ap suc (h .1))
-
--- the type that was written last has the last number, and there is one
-pub emit-last : (c : Cty) (w : Written) → suc (last (emit c w)) ≡ length (emit c w .types)
-emit-last c w = let h = emit-adds c w in omega (arith, h .types-count, size-positive c)
 
 -- ---- the types of a program, in the order in which they are written
 unfoldable pub types-of-fields : List Field → List Cty
@@ -679,13 +674,6 @@ module _ (P : ℕ → Type 0) where
   -- What holds of all names of the program's types holds of the name of each `TApp` line of its left sheet.
   pub left-names : (ls : List Line) (ds : List Dtype) → Every (NamesIn P) (types-of ds) → (l : Line) → List·Memᴰ l (left-lines ls ds) → letter l ≡ type-line → number l 0 ≡ 8 → P (number l 1)
   left-names ls ds h l m = every-mem AppLine (left-lines ls ds) (left-apps ls ds h) l m
-
--- each such name occurs in a type of the program
-pub left-names-occur : (ls : List Line) (ds : List Dtype) (l : Line) → List·Memᴰ l (left-lines ls ds) → letter l ≡ type-line → number l 0 ≡ 8 →
-    (c : Cty) × List·Memᴰ c (types-of ds) × List·Memᴰ (number l 1) (names-of-cty c)
-left-names-occur ls ds l m =
-    let P : ℕ → Type 0 = λ n. (c : Cty) × List·Memᴰ c (types-of ds) × List·Memᴰ n (names-of-cty c) in
-    left-names P ls ds (mem-every (NamesIn P) (types-of ds) (λ c j n k. (c, j, k))) l m
 
 -- ---- the verdict sheet
 -- where numbers of two digits fit, there are columns

@@ -51,7 +51,7 @@ use Rattle.model.specs.Decl.{
   close-fields,
 }
 use Rattle.model.specs.Erasure.{cty-erased, marked, erasure-fixpoint}
-use Rattle.model.specs.Layout.{layouts-of-ctors, slots, ctor-layout, ctor-layouts, newtype-of-ctor, newtype-of, candidate, candidates, dropped, collapse, layout-of-body, layout-of}
+use Rattle.model.specs.Layout.{layouts-of-ctors, slots, ctor-layout, ctor-layouts, newtype-of, candidate, candidates, dropped, collapse, layout-of-body, layout-of}
 use Rattle.model.specs.Names.{pin, pins}
 use Rattle.model.specs.Run.{info, run}
 use Rattle.meaning.specs.Program.{
@@ -1283,11 +1283,6 @@ unfolding run
 run-told fuel ds =
     let s : List Bool = erasure-fixpoint ds .marks in
     told-table ds _ (λ i h. rw (getD-layouts ds s i L-opaque h, getD-candidates ds (marked ds s) s i none h) (info-tells (marked ds s) (dtype-at ds i) (origin-at ds i) (getD s i false) (dropped ds (candidates ds (marked ds s) s) i) _))
-
--- The program of the verdict sheet that a run gives.
-pub program-verdict-run : (fuel : ℕ) (ls : List Line) → AllWhole (groups is-head ls) → AllEnded ls
-    → program (verdict-lines ls (run fuel (program ls) .infos)) ≡ pins (program ls) (run fuel (program ls) .infos)
-program-verdict-run fuel ls w h = program-verdict ls (run fuel (program ls) .infos) (run-told fuel (program ls)) w h
 
 -- ---- a verdict sheet filled again
 pub fill-all-append : (gs hs : List Group) (tis us : List TypeInfo) → length tis ≡ length gs → fill-all (gs ++ hs) (tis ++ us) ≡ fill-all gs tis ++ fill-all hs us

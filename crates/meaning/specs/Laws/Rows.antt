@@ -339,9 +339,6 @@ pub ends-prefix : (a qs : List Line) → Starts is-head qs → Ends (a ++ qs) �
 ends-prefix a [] s h = rw append-nil at h
 ends-prefix a (l ∷ qs) s h = head-after (due-after (Header 0) a) l qs s (rw (due-after-append (Header 0) a (l ∷ qs)) at h)
 
-pub row3-prefix : (a qs : List Line) → Starts is-head qs → ((i : ℕ) → i ≤ length (a ++ qs) → row3 (a ++ qs) i ≡ false) → (i : ℕ) → row3 a i ≡ false
-row3-prefix a qs s h = ends-row3 a (ends-prefix a qs s (row3-ends (a ++ qs) h))
-
 -- ---- after the header
 -- an N, A or Y line
 abbrev pub is-header-line : Line → Bool

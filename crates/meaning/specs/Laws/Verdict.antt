@@ -2,7 +2,7 @@
 use mathlib.Core.Logic.{⊎-elim}
 use mathlib.Core.Path.{_≡_, refl, sym, _∙_, ap, ap₂}
 use mathlib.Core.List.{List, [], _∷_, _++_, map, append-nil, map-append, map-map}
-use mathlib.Core.Bool.{_||_, Bool, true, false, not}
+use mathlib.Core.Bool.{Bool, true, false, not}
 use Prim.Native.Nat.{_≤_, ℕ, zero, suc, _+_, _-_, _<_}
 use native.Mathlib.Omega.{arith}
 use lib.Dec.{eqb}
@@ -11,18 +11,18 @@ use borrow.Author.Tests.{eqb-false, eqb-true}
 use Rattle.columns.specs.Column.{pick, _⇒_∥_}
 use Rattle.sheet.specs.Line.{Line, row, bad, number, letter}
 use Rattle.sheet.specs.ListLaws.{length-nil, contrary, one-of}
-use Rattle.model.specs.Cty.{Cty, TUnit}
-use Rattle.model.specs.Decl.{here, origin-at, no-decl, Field, Ctor, Body, TAbstract, TAbbrev, TRecord, TVariant, Dtype, ctors-of, ctors-of-tydef, bit, layout-number, TypeInfo, close-body, close-field, close-fields, Decl}
+use Rattle.model.specs.Cty.{Cty}
+use Rattle.model.specs.Decl.{here, origin-at, no-decl, TAbstract, TAbbrev, TRecord, TVariant, ctors-of, ctors-of-tydef, bit, layout-number, TypeInfo, close-body, close-field, close-fields, Decl}
 use Rattle.model.specs.Erasure.{cty-erased, marked, erasure-fixpoint}
 use Rattle.model.specs.Run.{run, info-at}
 use Rattle.model.specs.Laws.Run.{getD-infos, length-infos, local-info}
-use Rattle.model.specs.Layout.{slots, ctor-layouts, layouts-of-ctors}
+use Rattle.model.specs.Layout.{slots, ctor-layouts}
 use Rattle.model.specs.Laws.Erasure.{close-erased}
 use Rattle.model.specs.Laws.Lists.{getD-map}
 use Rattle.meaning.specs.Program.{local-line, import-line, field-line, ctor-line, verdict-line, is, is-head, select, before, Group, groups, type-at, field-of, ctor-of, body-of, dtype-of, decl-of, trees, program}
 use Rattle.meaning.specs.Rows.{line-at, heads-before, last-head, head-of}
 use Rattle.meaning.specs.Output.{fill-keeps, fill-verdict, all-slots, verdict-lines, verdict-line-of}
-use Rattle.meaning.specs.Laws.Program.{None, flat, AllGrouped, Grouped, grouped, before-flat, none-before, Whole, AllWhole, concat, slots-of, all-slots-concat, close-ctor, fill-rest, filled, fills, filled-local, kept-line, tell, fill-verdict-map, fill-keeps-field, fill-keeps-other, verdict-lines-flat, select-append, select-yes, select-no, heads, heads-head, heads-other, heads-none, length-groups, length-program}
+use Rattle.meaning.specs.Laws.Program.{None, flat, AllGrouped, Grouped, grouped, before-flat, none-before, Whole, AllWhole, concat, slots-of, all-slots-concat, close-ctor, fill-rest, filled, fills, kept-line, tell, fill-verdict-map, fill-keeps-field, fill-keeps-other, verdict-lines-flat, select-append, select-yes, select-no, heads, heads-head, heads-other, heads-none, length-groups, length-program}
 
 local-not-import : (l : Line) → is local-line l ≡ true → is import-line l ≡ false
 local-not-import l e = rw (eqb-true (letter l) 68 e)

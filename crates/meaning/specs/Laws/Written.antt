@@ -513,10 +513,6 @@ module _ (ls : List Line) (ds : List Dtype) where
   covered : Covers (final .args) final
   covered = record { rest = []; are = sym (append-nil (final .args)) }
 
-  -- Reading the left sheet gives back the declarations that it was written from.
-  pub left-read : map (dtype-of (trees (left-lines ls ds))) (groups is-head (left-lines ls ds)) ≡ ds
-  left-read = rw (left-trees, left-groups) (program-read (final .args) final covered ds nothing (grows-refl final))
-
   pub left-program-read : program (left-lines ls ds) ≡ map (λ d. record { dtype = close-fields d; origin = here }) ds
   unfolding program
   left-program-read = rw (left-trees, left-groups) (decls-read (final .args) final covered ds nothing (grows-refl final))

@@ -221,13 +221,6 @@ module _ (P : ℕ → Type 0) where
       each-map (λ v. (x : ℕ) → List·Memᴰ x [] → P x) Any (λ n. (x : ℕ) → List·Memᴰ x (n ∷ []) → P x) P (λ v h. tt) (λ n h. h n (List·Memᴰ·head refl)) c
       (gather-each P (λ v. []) (λ n. n ∷ []) c f)
 
-  -- the same of the variables
-  pub each-vars : (c : Cty) → Each P Any c → (x : ℕ) → List·Memᴰ x (cty-vars c) → P x
-  unfolding cty-vars
-  each-vars c h =
-      each-gather P (λ v. v ∷ []) (λ n. []) c
-      (each-map P (λ v. (x : ℕ) → List·Memᴰ x (v ∷ []) → P x) Any (λ n. (x : ℕ) → List·Memᴰ x [] → P x) only (λ v u x m. absurd (List·Memᴰ·not-nil m)) c h)
-
   pub vars-each : (c : Cty) → ((x : ℕ) → List·Memᴰ x (cty-vars c) → P x) → Each P Any c
   unfolding cty-vars
   vars-each c f =
@@ -467,12 +460,6 @@ module _ (X P : ℕ → Type 0) where
   unfolding subst-cty
   subst-each ps ts c h k = walk-each X P X P (look (zip ps ts)) TApp (λ v u. look-each ps ts v h u) (λ n us p q. (p, q)) c k
 
-  -- the variables of a body whose variables are all bound are those of the arguments
-  pub subst-bound : (ps : List ℕ) (ts : Ctys) (c : Cty) → length ps ≡ lengths ts → Eachs X P ts → Each (λ v. T (member v ps)) P c → Each X P (subst-cty (zip ps ts) c)
-  unfolding subst-cty
-  subst-bound ps ts c e h k =
-      walk-each (λ v. T (member v ps)) P X P (look (zip ps ts)) TApp (λ v u. look-bound ps ts v e h u) (λ n us p q. (p, q)) c k
-
   pub instance-each : (ps : List ℕ) (us : Ctys) (c : Cty) → Eachs X P us → Each X P c → Each X P (instance ps us c)
   unfolding instance zip
   instance-each ps us c h k = go (eqb (length ps) (lengths us))
@@ -533,12 +520,6 @@ unfolding firsts lengths
 lengths-firsts zero ts h = refl
 lengths-firsts (suc n) nil h = absurd (omega arith)
 lengths-firsts (suc n) (cons t ts) h = omega (arith, lengths-firsts n ts (omega arith))
-
-pub append-parts : (n : ℕ) (ts : Ctys) → append (firsts n ts) (others n ts) ≡ ts
-unfolding append firsts others
-append-parts zero ts = refl
-append-parts (suc n) nil = refl
-append-parts (suc n) (cons t ts) = ap (cons t) (append-parts n ts)
 
 -- no surplus
 pub attach-nil : (c : Cty) → attach c nil ≡ c

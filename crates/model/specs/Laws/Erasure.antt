@@ -8,15 +8,15 @@ use mathlib.Core.Bool.{Bool, true, false, _&&_, not}
 use Prim.Native.Nat.{ℕ, suc, _+_, _≤_, _<_}
 use native.Mathlib.Omega.{arith}
 use lib.Dec.{T, eqb, eqb→eq, eqb-refl}
-use lib.ListN.{length, getD, length-map, List·getD-map, List·getD-eq-default}
+use lib.ListN.{length, getD, length-map, List·getD-map}
 use Rattle.columns.specs.Column.{pick}
 use Rattle.sheet.specs.ListLaws.{getD-within}
 use Rattle.model.specs.Cty.{walks, walk, Cty, Ctys, TUnit, TAny, TExn, TVar, TInt, TFloat, TConst, TArrow, TApp, TTuple, TBuf, TRef, TInline, nil, cons, gather, gathers, names-of-cty}
 use Rattle.model.specs.Decl.{member, close, Field, Ctor, Body, TAbstract, TAbbrev, TRecord, TVariant, Dtype, Erased, Realized, has-flag, ctors-of, CtorLayout, bit, TypeInfo, Origin, here, imported, Decl, no-decl, dtype-at, origin-at, table, position}
 use Rattle.model.specs.Erasure.{local, locals, is-pure, cty-erased, ctys-erased, fields-erased, body-erased, dtype-erased, marked, rule-of, rule, start-of, start, erasure-fixpoint, Made}
 use Rattle.model.specs.Layout.{layouts-of-ctors, slots, ctor-layout, ctor-layouts}
-use Rattle.model.specs.Names.{fields-names, ctors-names, body-names, dtype-names, Declared, Distinct, Agree, Pin, Pinned}
-use Rattle.model.specs.Laws.Names.{position-name, position-declared, position-distinct, position-same, agree-sym, ctors-own}
+use Rattle.model.specs.Names.{fields-names, ctors-names, body-names, dtype-names, Declared, Agree, Pin, Pinned}
+use Rattle.model.specs.Laws.Names.{position-name, position-declared, position-same, agree-sym, ctors-own}
 use Rattle.model.specs.Laws.Rounds.{At, Le, At-lt, Le-antisym, Monotone, Sound, Closed, settle-length, settle-sound, settle-least, settle-closed, settle-made, settle-rounds}
 use Rattle.model.specs.Laws.Lists.{true-of, T-ext, trues, length-table, getD-table}
 
@@ -134,12 +134,6 @@ module _ (er er' : ℕ → Bool) where
       T-ext (cty-erased er c) (cty-erased er' c)
       (cty-erased-mono er er' c (alike-covers er er' (names-of-cty c) h))
       (cty-erased-mono er' er c (alike-covered er er' (names-of-cty c) h))
-
-  pub dtype-erased-local : (d : Dtype) → Alike er er' (dtype-names d) → dtype-erased er d ≡ dtype-erased er' d
-  dtype-erased-local d h =
-      T-ext (dtype-erased er d) (dtype-erased er' d)
-      (dtype-erased-mono er er' d (alike-covers er er' (dtype-names d) h))
-      (dtype-erased-mono er' er d (alike-covered er er' (dtype-names d) h))
 
   pub rule-of-local : (d : Dtype) (o : Origin) → Alike er er' (dtype-names d) → rule-of er d o ≡ rule-of er' d o
   rule-of-local d o h =
@@ -307,29 +301,6 @@ module _ (ds : List Decl) where
   pub erasure-least : (t : List Bool) → length t ≡ length ds → Closed (rule ds) t → Le (erasure-fixpoint ds .marks) t
   unfolding erasure-fixpoint
   erasure-least t e c = settle-least (rule ds) rule-mono (suc (length ds)) (start ds) t (length-start ∙ sym e) (start-below t e c) c
-
-  -- closed marks that are below all closed marks are those of the rounds
-  pub erasure-unique-below : (u : List Bool) → length u ≡ length ds → Closed (rule ds) u
-      → ((t : List Bool) → length t ≡ length ds → Closed (rule ds) t → Le u t) → u ≡ erasure-fixpoint ds .marks
-  erasure-unique-below u e c f =
-      Le-antisym u (erasure-fixpoint ds .marks) (e ∙ sym erasure-length)
-      (f (erasure-fixpoint ds .marks) erasure-length erasure-closed)
-      (erasure-least u e c)
-
-  -- a foreign name is not erased
-  pub marked-foreign : (s : List Bool) (n : ℕ) → length s ≡ length ds → length ds ≤ position ds n → marked ds s n ≡ false
-  unfolding marked
-  marked-foreign s n e h = List·getD-eq-default s false (rw e h)
-
-  -- a mark belongs to a declared name
-  pub marked-declared : (s : List Bool) (n : ℕ) → length s ≡ length ds → T (marked ds s n) → Declared ds n
-  unfolding marked
-  marked-declared s n e t = rw e at (At-lt s (position ds n) t)
-
-  -- where no name is declared twice, the name of place i has mark i
-  pub marked-at : Distinct ds → (s : List Bool) (i : ℕ) → i < length ds → marked ds s (dtype-at ds i .dt-name) ≡ getD s i false
-  unfolding marked
-  marked-at u s i h = ap (λ (j : ℕ). getD s j false) (position-distinct ds u i h)
 
   -- ---- the count of rounds
   -- the number reported is the number of rounds made, the last one, which changes nothing, included

@@ -2,7 +2,7 @@
 -- a declaration becomes a newtype, and what the layouts depend on. Assumes nothing.
 use mathlib.Core.Logic.{_⊎_, inl, inr, ⊎-elim, _↔_}
 use mathlib.Core.Path.{_≡_, refl, ap, sym, _∙_}
-use mathlib.Core.List.{List, [], _∷_, map, List·Memᴰ, List·Memᴰ·head, List·Memᴰ·tail, List·Memᴰ·not-nil, List·Memᴰ·cases-cons, Memᴰ·append-left}
+use mathlib.Core.List.{List, [], _∷_, List·Memᴰ, List·Memᴰ·head, List·Memᴰ·tail, List·Memᴰ·not-nil, List·Memᴰ·cases-cons, Memᴰ·append-left}
 use mathlib.Core.Bool.{Bool, true, false, _||_}
 use mathlib.Core.Option.{Option, none, some}
 use Prim.Native.Nat.{ℕ, _≤_, _<_}
@@ -12,34 +12,10 @@ use lib.ListN.{length, getD}
 use borrow.Author.Tests.{ltb-false}
 use Rattle.columns.specs.Column.{pick}
 use Rattle.sheet.specs.ListLaws.{false-true, same-test}
-use Rattle.model.specs.Cty.{Cty, names-of-cty, uninline}
-use Rattle.model.specs.Decl.{table, Field, Ctor, Body, TAbstract, TAbbrev, TRecord, TVariant, Dtype, NoNewtype, has-flag, ctors-of, ctors-of-tydef, CtorLayout, NewtypeLayout, Layout, L-erased, L-newtype, L-struct, L-abbrev, L-opaque, Origin, here, imported, Decl, dtype-at, origin-at, position}
+use Rattle.model.specs.Cty.{Cty, names-of-cty}
+use Rattle.model.specs.Decl.{table, Field, Ctor, Body, TAbstract, TAbbrev, TRecord, TVariant, Dtype, NoNewtype, has-flag, ctors-of, ctors-of-tydef, CtorLayout, NewtypeLayout, Layout, L-newtype, L-opaque, Origin, here, imported, Decl, dtype-at, origin-at, position}
 use Rattle.model.specs.Erasure.{marked}
-use Rattle.model.specs.Layout.{
-  Candidate,
-  candidates-of,
-  layouts-of-ctors,
-  slots,
-  kept,
-  ctor-layout,
-  ctor-layouts,
-  first-kept,
-  newtype-of-ctor,
-  newtype-of,
-  candidate,
-  candidates,
-  positions,
-  names-in,
-  type-names,
-  steps,
-  payload,
-  guard-next,
-  dropped,
-  collapse,
-  layout-of-body,
-  layout-of,
-  compute-layouts,
-}
+use Rattle.model.specs.Layout.{Candidate, candidates-of, layouts-of-ctors, slots, kept, ctor-layout, ctor-layouts, newtype-of-ctor, newtype-of, candidate, candidates, positions, names-in, type-names, steps, payload, guard-next, dropped, collapse, layout-of-body, layout-of, compute-layouts}
 use Rattle.model.specs.Resolve.{Unfold, gone, newtype, abbreviation, stays, unfolded, unfolds}
 use Rattle.model.specs.Run.{unfold-next}
 use Rattle.model.specs.Laws.Erasure.{marked-same, ctor-layouts-local}
@@ -47,7 +23,7 @@ use Rattle.model.specs.Names.{fields-names, ctors-names, dtype-names, De
 use Rattle.model.specs.Laws.Names.{position-name, position-same, agree-sym, kept-names, declared-cases, agree-foreign, ctors-own}
 use Rattle.model.specs.Reach.{Reach, one, more}
 use Rattle.model.specs.Laws.Reach.{reach-loop, reach-stays, cyclic-iff}
-use Rattle.model.specs.Laws.Lists.{length-table, getD-table, getD-table-past, table-cong}
+use Rattle.model.specs.Laws.Lists.{getD-table, getD-table-past, table-cong}
 use Rattle.model.specs.Laws.Cty.{uninline-names}
 
 -- ---- tests
@@ -69,10 +45,6 @@ getD-candidates-past ds er s i d h = getD-table-past (candidate-at ds er s) (len
 abbrev pub layout-at : List Decl → List Bool → ℕ → Layout
 layout-at ds s i =
     layout-of (dtype-at ds i) (origin-at ds i) (getD s i false) (dropped ds (candidates-of ds s) i) (getD (candidates-of ds s) i none) (ctor-layouts (marked ds s) (dtype-at ds i))
-
-pub length-layouts : (ds : List Decl) (s : List Bool) → length (compute-layouts ds s) ≡ length ds
-unfolding compute-layouts
-length-layouts ds s = length-table (layout-at ds s) (length ds)
 
 pub getD-layouts : (ds : List Decl) (s : List Bool) (i : ℕ) (d : Layout) → i < length ds → getD (compute-layouts ds s) i d ≡ layout-at ds s i
 unfolding compute-layouts
@@ -267,17 +239,6 @@ collapsed ds s i h o nt =
     let q : getD (compute-layouts ds s) i L-opaque ≡ layout-of d here e (dropped ds (candidates-of ds s) i) (candidate d here e (ctor-layouts (marked ds s) d)) (ctor-layouts (marked ds s) d) =
     getD-layouts ds s i L-opaque h ∙ rw (o, getD-candidates ds (marked ds s) s i none h, o) in
     (λ z. let r = k .0 (sym q ∙ z) in (r .0, not-dropped ds (candidates-of ds s) i .0 (r .1)), λ z. q ∙ k .1 (z .0, not-dropped ds (candidates-of ds s) i .1 (z .1)))
-
--- A step of the guard from a local candidate leads to the places of the names in its payload.
-pub candidate-next : (ds : List Decl) (s : List Bool) (i : ℕ)
-    → i < length ds
-    → origin-at ds i ≡ here
-    → (nt : NewtypeLayout)
-    → Candidate (marked ds s) (dtype-at ds i) (getD s i false) nt
-    → guard-next ds (candidates-of ds s) i ≡ names-in ds (nt .nt-ty)
-unfolding guard-next steps payload type-names
-candidate-next ds s i h o nt c =
-    rw (getD-candidates ds (marked ds s) s i none h, o, candidate-iff (marked ds s) (dtype-at ds i) (getD s i false) nt .1 c)
 
 -- ---- names of a payload
 -- A candidate's payload names nothing that its declaration does not.

@@ -1,5 +1,5 @@
 -- Laws of a name's position, of programs that agree on a set of names, and of the names of a declaration's parts. Assumes nothing.
-use mathlib.Core.Logic.{_≢_, _⊎_, inl, inr, ⊎-elim}
+use mathlib.Core.Logic.{_⊎_, inl, inr, ⊎-elim}
 use mathlib.Core.Path.{_≡_, refl, ap, sym}
 use mathlib.Core.List.{List, [], _∷_, _++_, List·Memᴰ, List·Memᴰ·not-nil, List·Memᴰ·append-cases, Memᴰ·append-left, Memᴰ·append-right}
 use mathlib.Core.Bool.{Bool, true, false}
@@ -72,17 +72,6 @@ pub position-distinct : (ds : List Decl) → Distinct ds → (i : ℕ) → i < l
 position-distinct ds u i h =
     let q : Declared ds (dtype-at ds i .dt-name) = position-declared ds i h in
     u (position ds (dtype-at ds i .dt-name)) i q h (position-name ds (dtype-at ds i .dt-name) q)
-
--- a name that no declaration has is foreign
-pub position-foreign : (ds : List Decl) (n : ℕ) → ((i : ℕ) → i < length ds → dtype-at ds i .dt-name ≢ n) → position ds n ≡ length ds
-unfolding position
-position-foreign [] n f = refl
-position-foreign (d ∷ ds) n f =
-    go (position-foreign ds n (λ i h. f (suc i) (omega arith))) (eqb (d .dtype .dt-name) n) refl
-  where
-    go : position ds n ≡ length ds → (b : Bool) → eqb (d .dtype .dt-name) n ≡ b → pick b 0 (suc (position ds n)) ≡ suc (length ds)
-    go ih true e = absurd (f 0 (omega arith) (eqb→eq (d .dtype .dt-name) n (rw e tt)))
-    go ih false e = ap suc ih
 
 -- in an append: where the first part declares it, else behind the first part
 pub position-append-left : (ds es : List Decl) (n : ℕ) → Declared ds n → position (ds ++ es) n ≡ position ds n

@@ -5,7 +5,7 @@
 use mathlib.Core.Logic.{_⊎_, inl, inr, ⊎-elim}
 use mathlib.Core.Path.{_≡_, refl, ap, ap₂, sym, _∙_, subst}
 use mathlib.Core.List.{List, [], _∷_, map}
-use mathlib.Core.Bool.{Bool, true, false, _&&_, _||_, not}
+use mathlib.Core.Bool.{Bool, true, false, _&&_, not}
 use mathlib.Core.Option.{Option, none, some}
 use Prim.Native.Nat.{ℕ, zero, suc, _≤_, _<_}
 use native.Mathlib.Omega.{arith}
@@ -82,45 +82,8 @@ use Rattle.model.specs.Resolve.{
   checkeds,
   resolve-checked,
 }
-use Rattle.model.specs.Decl.{
-  table,
-  Field,
-  Ctor,
-  Body,
-  TAbstract,
-  TAbbrev,
-  TRecord,
-  TVariant,
-  Dtype,
-  NoNewtype,
-  has-flag,
-  ctors-of,
-  CtorLayout,
-  NewtypeLayout,
-  Layout,
-  L-erased,
-  L-newtype,
-  L-struct,
-  L-abbrev,
-  L-opaque,
-  Origin,
-  here,
-  imported,
-  Decl,
-  member,
-}
-use Rattle.model.specs.Layout.{
-  layouts-of-ctors,
-  slots,
-  ctor-layout,
-  ctor-layouts,
-  newtype-of-ctor,
-  newtype-of,
-  candidate,
-  collapse,
-  layout-of-body,
-  layout-of,
-}
+use Rattle.model.specs.Decl.{table, Field, Ctor, Body, TAbstract, TAbbrev, TRecord, TVariant, Dtype, ctors-of, CtorLayout, NewtypeLayout, Layout, L-erased, L-newtype, L-struct, L-abbrev, L-opaque, here, Decl, member}
+use Rattle.model.specs.Layout.{layouts-of-ctors, ctor-layouts, collapse, layout-of-body, layout-of}
 use Rattle.model.specs.Run.{
   spent-code,
   with-body,
@@ -533,10 +496,6 @@ module _ (lay : ℕ → Unfold) where
 
     pub checked-small : (t : Cty) → resolve-checked limit lay k c ≡ ok t → size t ≤ limit
     checked-small t e = answer t e .1
-
-    pub checked-row : (e : ℕ) → resolve-checked limit lay k c ≡ fault e → Row e
-    checked-row e q =
-        subst (On (λ t. ((resolve lay k c ≡ t) × Normal t) × (size t ≤ limit)) Row (Unit {0})) q (resolve-sound limit k c)
 
   -- ---- a normal type
   -- is left as it is

@@ -147,17 +147,6 @@ module _ (r : List Bool → ℕ → Bool) where
   pub settle-length : (k : ℕ) (s : List Bool) → length (settle r k s .marks) ≡ length s
   settle-length k s = settle-keeps (λ (u : List Bool). length u ≡ length s) (λ u e. length-round u ∙ e) k s refl
 
-  -- no more rounds than the fuel
-  pub settle-fuel : (k : ℕ) (s : List Bool) → settle r k s .rounds ≤ k
-  unfolding settle round
-  settle-fuel zero s = omega arith
-  settle-fuel (suc k) s = go (settle-fuel k (round r s)) (same (round r s) s)
-    where
-      go : settle r k (round r s) .rounds ≤ k → (b : Bool)
-          → ended b s (settle r k (round r s)) .rounds ≤ suc k
-      go ih true = omega arith
-      go ih false = omega arith
-
 -- ---- what holds of a monotone rule
 module _ (r : List Bool → ℕ → Bool) (mono : Monotone r) where
   update-up : (s : List Bool) (i : ℕ) → Sound r s → Le s (update r s i)
@@ -229,11 +218,6 @@ module _ (r : List Bool → ℕ → Bool) (mono : Monotone r) where
   -- the settled marks are given by the rule
   pub settle-sound : (k : ℕ) (s : List Bool) → Sound r s → Sound r (settle r k s .marks)
   settle-sound k s h = settle-keeps r (Sound r) round-sound k s h
-
-  -- no mark is taken back
-  pub settle-up : (k : ℕ) (s : List Bool) → Sound r s → Le s (settle r k s .marks)
-  settle-up k s h =
-      (settle-keeps r (λ (u : List Bool). Sound r u × Le s u) (λ u p. (round-sound u (p .0), λ i a. round-up u (p .0) i (p .1 i a))) k s (h, λ i a. a)) .1
 
   -- the settled marks are below all closed marks above the start
   pub settle-least : (k : ℕ) (s t : List Bool) → length s ≡ length t → Le s t → Closed r t → Le (settle r k s .marks) t
