@@ -2,6 +2,7 @@
 use mathlib.Core.Path.{_∙_}
 use native.Mathlib.Omega.{arith}
 use Rattle.sheet.specs.Sheet.{lines}
+use Rattle.namesets.specs.Mentions.{part, mentions}
 use Rattle.namesets.specs.NamesLaws.{arrow-low}
 use Rattle.namesets.specs.AddsLaws.{kept, adds-arrow}
 use Rattle.childsets.proofs.add_arrow.Statement.{statement}
@@ -15,9 +16,10 @@ add-child-requires c κs =
 add-child-requires-2 : tie.Need-add-child-requires-2
 add-child-requires-2 c κs =
     let a = c .before .before .before .before .before .before .before .before .args in
+    let ls = lines 6 (a .s .now) in
     let p = c .before .before .before .before .before .before .before .before .pre in
     let low = arrow-low _ (p .0 .passed) _ (p .1 .1 .0) (p .1 .1 .1) in
-    (p .0, (kept (lines 6 (a .s .now)) (a .words) (a .sets .now) _ (a .y) _ (p .1 .0) (c .before .before .before .add-child .ensures), ((p .1 .1 .0, omega arith), omega (arith, low .0, low .1))))
+    (p .0, (kept ls (a .words) (a .sets .now) _ (a .y) (mentions ls (part ls (a .y) 1)) (p .1 .0) (c .before .before .before .add-child .ensures), ((p .1 .1 .0, omega arith), omega (arith, low .0, low .1))))
 
 returns : tie.Need-returns
 returns c =
