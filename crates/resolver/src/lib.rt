@@ -231,3 +231,24 @@ fn enter(
         at + count,
     )
 }
+
+// The outcome of Y line y's type as it stands in declaration d. With 97 * 1,024 places there is
+// room for it.
+pub fn resolved(
+    s: &[u8],
+    t: &[u32],
+    u: &[u16],
+    out: &mut [u16],
+    slots: &mut [u16],
+    d: usize,
+    y: usize,
+) -> usize
+    requires { ⌜ resolver.Place (now s) (now t) (now u) y d ⌝ }
+    requires { ⌜ Slots (resolver.call-of (sheet.lines 6 (now s)) (now u)) (now slots) ⌝ }
+    ensures { λ r. ⌜ resolver.Found (resolver.type-of-decl (sheet.lines 6 (now (s .entry))) (now (u .entry)) d y) 97 0 0 (now (out .entry)) (now (out .exit)) (resolver.call-of (sheet.lines 6 (now (s .entry))) (now (u .entry))) (now (slots .exit)) r ⌝ }
+{
+    if weighing::weigh(s, t, y, d, out, 0, 0, 0) > sums::LIMIT {
+        return TEN;
+    }
+    node(s, t, u, out, slots, 96, y, d, 0, 0, 0, 0)
+}

@@ -3,7 +3,7 @@
 -- functions of the resolution by outcomes answer. Assumes nothing.
 use mathlib.Core.Logic.{_⊎_}
 use mathlib.Core.Path.{_≡_}
-use mathlib.Core.List.{List}
+use mathlib.Core.List.{List, []}
 use Prim.Native.Nat.{ℕ, suc, _+_, _-_, _*_, _≤_, _<_}
 use lib.Dec.{eqb}
 use lib.ListN.{length, getD, drop}
@@ -61,6 +61,10 @@ module _ (ls : List Line) (u : List ℕ) where
   -- the first n of its parts
   abbrev pub evals-of : ℕ → List ℕ → ℕ → ℕ → ℕ → Result (List ℕ)
   evals-of d os y n j = evals 1024 (lay-of ls u) (ev 1024 (lay-of ls u) j) (params-of ls d) os (kid-types ls y n)
+
+  -- Y line y's type as it stands in declaration d
+  abbrev pub type-of-decl : ℕ → ℕ → ℕ → Result ℕ
+  type-of-decl d y j = ev 1024 (lay-of ls u) j (params-of ls d) [] (type-of ls y)
 
 -- the last `over` of the `count` outcomes from place `at` on
 abbrev pub last-of : ℕ → ℕ → ℕ → List ℕ → List ℕ

@@ -8,7 +8,7 @@ use native.Mathlib.Omega.{arith}
 use native.Mathlib.Numerals.{add-one}
 use lib.Dec.{eqb, leb}
 use lib.ListN.{length, getD, set, drop}
-use borrow.Author.Tests.{eqb-true, eqb-false, ne-eqb, leb-true, leb-false}
+use borrow.Author.Tests.{eqb-true, eqb-false, ne-eqb, leb-true, leb-false, le-leb}
 use Rattle.sheet.specs.Line.{Line, number}
 use Rattle.sheet.specs.Sheet.{lines}
 use Rattle.model.specs.Cty.{Cty, Ctys, TVar, TApp, nil, cons, append, size, sizes}
@@ -23,7 +23,7 @@ use Rattle.limits.specs.Limits.{counts-of}
 use Rattle.refusals.specs.Rows.{Passed}
 use Rattle.refusals.specs.RowsLaws.{passed-kept}
 use Rattle.tables.specs.Tables.{decls-of}
-use Rattle.outcomes.specs.Outcome.{other, app, one, total, attached, built, argument, weight, instance-head, extra, called, eval, evals, ev, fits}
+use Rattle.outcomes.specs.Outcome.{other, app, one, total, attached, built, argument, weight, instance-head, instance-shape, nodes, extra, called, eval, evals, entered, ev, fits}
 use Rattle.outcomes.specs.Answer.{parts, listed, nine, answer, Told}
 use Rattle.outcomes.specs.Scratch.{part, Same, capped, Says, Nodes}
 use Rattle.outcomes.specs.Laws.Shape.{attached-none, sizes-append}
@@ -31,7 +31,7 @@ use Rattle.outcomes.specs.Laws.Fuel.{Leads, leads-same}
 use Rattle.outcomes.specs.Laws.Answer.{eval-plain, evals-last, size-parts, answer-value, told-stop, told-go, told-known, told-same, told-next}
 use Rattle.outcomes.specs.Laws.Scratch.{part-none, part-length, part-drop, part-same, part-join, part-set, same-refl, same-sym, same-trans, same-less, same-set, capped-add, capped-most, capped-over, capped-under}
 use Rattle.outcomes.specs.Laws.Nodes.{argument-nodes, nodes-none, nodes-append, nodes-one, nodes-drop, total-nodes, size-weight}
-use Rattle.outcomes.specs.Laws.Call.{extra-none, unfolded, fits-enough, fits-app, call-small, call-large, call-spent, call-nine, var-surplus}
+use Rattle.outcomes.specs.Laws.Call.{extra-none, shape-parts, unfolded, fits-enough, fits-app, call-small, call-large, call-spent, call-nine, var-surplus}
 use Rattle.kids.specs.Nodes.{y-line, kind-of, type-of, kids-of, kid-of}
 use Rattle.kids.specs.NodesLaws.{node-at, var-type, app-type, plain-type}
 use Rattle.arguments.specs.Params.{params-of}
@@ -39,7 +39,7 @@ use Rattle.arguments.specs.ParamsLaws.{decls-few}
 use Rattle.weighing.specs.Weigh.{kid-types, weight-of}
 use Rattle.calls.specs.CallsLaws.{Copied}
 use Rattle.memory.specs.Slots.{Slots, Written, Recalled, slots-written}
-use Rattle.resolving.specs.Resolver.{unfold-at, lay-of, States, Setup, call-of, enter-of, eval-of, evals-of, last-of, Args, Place, Short, Found, FoundAll, Done}
+use Rattle.resolving.specs.Resolver.{unfold-at, lay-of, States, Setup, call-of, enter-of, eval-of, evals-of, type-of-decl, last-of, Args, Place, Short, Found, FoundAll, Done}
 
 -- a cell past the end
 pub getD-past : (xs : List ℕ) (i v : ℕ) → length xs ≤ i → getD xs i v ≡ v
@@ -569,6 +569,80 @@ module _ (b t u : List ℕ) where
           kept = f .kept;
           slots = f .slots;
         }
+
+  -- ---- a type as it stands
+  module _ (y d : ℕ) (place : Place b t u y d) (out : List ℕ) where
+    abbrev qs : List ℕ
+    qs = params-of ls d
+
+    abbrev T : ℕ → Result ℕ
+    T = type-of-decl ls u d y
+
+    none-is : part 0 0 out ≡ []
+    none-is = part-none 0 out
+
+    bare : attached (instance-shape qs [] (type-of ls y)) (extra qs []) ≡ instance-shape qs [] (type-of ls y)
+    bare = ap (attached (instance-shape qs [] (type-of ls y))) (extra-none (length qs) [] (omega arith)) ∙ attached-none (instance-shape qs [] (type-of ls y))
+
+    weight-is : nodes (attached (instance-shape qs [] (type-of ls y)) (extra qs [])) ≡ weight qs [] (type-of ls y)
+    weight-is = ap nodes bare ∙ shape-parts qs [] (type-of ls y) .0
+
+    spent-is : T 0 ≡ spent
+    unfolding ev
+    spent-is = refl
+
+    module _ (w : ℕ) (ew : w ≡ capped 1024 (0 + weight-of ls d out 0 0 y)) where
+      weight-of-is : capped 1024 (0 + weight-of ls d out 0 0 y) ≡ capped 1024 (weight qs [] (type-of ls y))
+      weight-of-is = ap (capped 1024) (zero-of (weight-of ls d out 0 0 y)) ∙ ap (λ (os : List ℕ). capped 1024 (weight qs os (type-of ls y))) none-is
+        where
+          zero-of : (a : ℕ) → 0 + a ≡ a
+          zero-of a = omega arith
+
+      pub type-ten : (k : ℕ) (slots : List ℕ) → Slots call slots → 1024 < w → Found T k 0 0 out out call slots 3
+      unfolding answer ev entered
+      type-ten k slots held q =
+          record {
+            told = told-known T k 3 (Short out 0 k) 3 (omega arith) large;
+            small = omega arith;
+            kept = same-refl 0 out;
+            slots = held;
+          }
+        where
+          big : 1024 < weight qs [] (type-of ls y)
+          big = capped-over 1024 (weight qs [] (type-of ls y)) (omega (arith, weight-of-is))
+
+          over : (n : ℕ) → 1024 < n → leb n 1024 ≡ false
+          over n l = go (leb n 1024) refl
+            where
+              go : (x : Bool) → leb n 1024 ≡ x → x ≡ false
+              go true e = absurd (omega (arith, leb-true n 1024 e))
+              go false e = refl
+
+          large : (j : ℕ) → Leads (T j) (fault 10)
+          large zero = tt
+          large (suc j) =
+              subst (λ (x : Bool). Leads {A = ℕ} (elim x [ true ↦ eval 1024 lay (ev 1024 lay j) qs [] (type-of ls y) (extra qs []) | false ↦ fault 10 ]) (fault 10)) (sym (ap (λ (n : ℕ). leb n 1024) weight-is ∙ over (weight qs [] (type-of ls y)) big)) refl
+
+      pub type-node : (k r : ℕ) (out′ slots′ : List ℕ) → w ≤ 1024 → Found (eval-of ls u d (part 0 0 out) y (last-of 0 0 0 out)) k (0 + size (type-of ls y) + 0) 0 out out′ call slots′ r → Found T (suc k) 0 0 out out′ call slots′ r
+      unfolding ev entered
+      type-node k r out′ slots′ q found =
+          record {
+            told = told-next (eval-of ls u d (part 0 0 out) y (last-of 0 0 0 out)) T k r (Short out (0 + size (type-of ls y) + 0) k) (Short out 0 (suc k)) r spent-is same short (found .told);
+            small = found .small;
+            kept = found .kept;
+            slots = found .slots;
+          }
+        where
+          fine : weight qs [] (type-of ls y) ≤ 1024
+          fine = capped-under 1024 (weight qs [] (type-of ls y)) (omega (arith, weight-of-is)) .0
+
+          same : (j : ℕ) → T (suc j) ≡ eval-of ls u d (part 0 0 out) y (last-of 0 0 0 out) j
+          same j =
+              ap (λ (x : Bool). elim x [ true ↦ eval 1024 lay (ev 1024 lay j) qs [] (type-of ls y) (extra qs []) | false ↦ fault 10 ]) (ap (λ (n : ℕ). leb n 1024) weight-is ∙ le-leb (weight qs [] (type-of ls y)) 1024 fine)
+              ∙ ap₂ (λ (os es : List ℕ). eval 1024 lay (ev 1024 lay j) qs os (type-of ls y) es) (sym none-is) (extra-none (length qs) [] (omega arith) ∙ sym (extra-none 0 (part 0 0 out) (omega (arith, ap length none-is))))
+
+          short : Short out (0 + size (type-of ls y) + 0) k → Short out 0 (suc k)
+          short x = omega (arith, size-weight qs [] nodes-none (type-of ls y), fine)
 
   -- ---- remembered calls
   module _ (n at count : ℕ) (out : List ℕ) (k : ℕ) where

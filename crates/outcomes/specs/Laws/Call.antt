@@ -134,7 +134,7 @@ head-small ps os (TInline t) = omega arith
 
 -- with the surplus
 module _ (ps os : List ℕ) (c : Cty) where
-  shape-parts : (nodes (instance-shape ps os c) ≡ weight ps os c) × (head (instance-shape ps os c) ≡ instance-head ps os c)
+  pub shape-parts : (nodes (instance-shape ps os c) ≡ weight ps os c) × (head (instance-shape ps os c) ≡ instance-head ps os c)
   unfolding instance-shape
   shape-parts = (nodes-coded (weight ps os c) (instance-head ps os c) (head-small ps os c), head-coded (weight ps os c) (instance-head ps os c) (head-small ps os c))
 
