@@ -71,6 +71,7 @@ module _ (ls : List Line) (u f : List ℕ) (d : ℕ) (places : Bool) where
 -- what emission asks of its arguments
 pub record Asked (b t u f : List ℕ) (y d : ℕ) : Type 0 where
   pub tabled : Tabled b t
+  pub states : length u ≤ 2 * decls-of (lines 6 b)
   pub forms : Forms b f
   pub type : y < count-of type-line (lines 6 b)
   pub decl : d < decls-of (lines 6 b)

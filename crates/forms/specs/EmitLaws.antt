@@ -1,4 +1,5 @@
 -- The words of a Y line's type, by its kind, from those of its parts. Assumes nothing.
+use mathlib.Core.Logic.{_⊎_, inl, inr}
 use mathlib.Core.Path.{_≡_, refl, ap, ap₂, sym, _∙_}
 use mathlib.Core.List.{List, [], _∷_, _++_, map, map-append, append-assoc, append-nil}
 use mathlib.Core.Bool.{Bool, true, false}
@@ -390,23 +391,13 @@ module _ (b : List ℕ) (passed : Passed b) (u f : List ℕ) (d : ℕ) (places :
         ∙ (map-append word (joined xss) (node 8 (length xss) n ∷ []) ∙ ap₂ (λ (x : List ℕ) (m : ℕ). x ++ (word (node 8 m n) ∷ [])) (run-kids 0 ∙ ap (run g 0) z) count-kids)
 
     -- a normal form with k parameters
-    placed-words : (k : ℕ) → map word (placed k (form n) xss) ≡ grown (filled g (kids-of ls y) (form-words f (position (program ls) n))) (kids-of ls y - k) (run g k (kids-of ls y - k))
+    pub placed-words : (k : ℕ) → map word (placed k (form n) xss) ≡ grown (filled g (kids-of ls y) (form-words f (position (program ls) n))) (kids-of ls y - k) (run g k (kids-of ls y - k))
     unfolding placed words
     placed-words k =
         grown-attached (spread (argument xss) (form n)) (length (drop k xss)) (joined (drop k xss))
         (spread-small (argument xss) (λ i. argument-small xss i (each-small (lay-of ls u) form ps ρ form-small (parts-of b passed y h))) (form n) (form-small n))
         ∙ ap₂ (λ (x : List ℕ) (r : List ℕ). grown x (length (drop k xss)) r) (filled-spread xss g (kids-of ls y) (argument-parts (lay-of ls u) form ps ρ F (kids-of ls y)) (form-words f (position (program ls) n))) (run-kids k)
         ∙ ap (λ (m : ℕ). grown (filled g (kids-of ls y) (form-words f (position (program ls) n))) m (run g k (kids-of ls y - k))) (length-drop k xss ∙ ap (λ (m : ℕ). m - k) count-kids)
-
-    pub words-newtype : (qs : List ℕ) (c : Cty) → lay-of ls u n ≡ newtype qs c
-        → words ls u f d places y ≡ grown (filled g (kids-of ls y) (form-words f (position (program ls) n))) (kids-of ls y - length qs) (run g (length qs) (kids-of ls y - length qs))
-    unfolding named
-    words-newtype qs c e = named-words (newtype qs c) e ∙ placed-words (length qs)
-
-    pub words-abbreviation : (qs : List ℕ) (c : Cty) → lay-of ls u n ≡ abbreviation qs c
-        → words ls u f d places y ≡ grown (filled g (kids-of ls y) (form-words f (position (program ls) n))) (kids-of ls y - length qs) (run g (length qs) (kids-of ls y - length qs))
-    unfolding named
-    words-abbreviation qs c e = named-words (abbreviation qs c) e ∙ placed-words (length qs)
 
     -- with no more arguments than parameters, nothing is attached
     grown-none : (xs : List Node) → Smalls xs → grown (map word xs) 0 [] ≡ map word xs
@@ -421,3 +412,20 @@ module _ (b : List ℕ) (passed : Passed b) (u f : List ℕ) (d : ℕ) (places :
             ap (λ (w : ℕ). w ∷ []) (ap (λ (z : Node). word (node 8 (z .count + 0) (z .own))) (node-cut x) ∙ (word-grown 8 (x .count) 0 (x .own) ∙ rw (z, ← k)))
         go false e = refl
     grown-none (x ∷ z ∷ xs) s = ap (λ (l : List ℕ). word x ∷ l) (grown-none (z ∷ xs) (s .1))
+
+    pub words-exact : (k : ℕ) → kids-of ls y ≤ k → map word (placed k (form n) xss) ≡ filled g (kids-of ls y) (form-words f (position (program ls) n))
+    unfolding placed words run
+    words-exact k q =
+        let e : kids-of ls y - k ≡ 0 = omega arith in
+        let t : filled g (kids-of ls y) (form-words f (position (program ls) n)) ≡ map word (spread (argument xss) (form n)) =
+        sym (filled-spread xss g (kids-of ls y) (argument-parts (lay-of ls u) form ps ρ F (kids-of ls y)) (form-words f (position (program ls) n))) in
+        placed-words k
+        ∙ (ap (λ (m : ℕ). grown (filled g (kids-of ls y) (form-words f (position (program ls) n))) m (run g k m)) e
+        ∙ (ap (λ (l : List ℕ). grown l 0 []) t
+        ∙ (grown-none (spread (argument xss) (form n)) (spread-small (argument xss) (λ i. argument-small xss i (each-small (lay-of ls u) form ps ρ form-small (parts-of b passed y h))) (form n) (form-small n)) ∙ sym t)))
+
+    pub words-placed : (k : ℕ) (qs : List ℕ) (c : Cty) → (lay-of ls u n ≡ newtype qs c) ⊎ (lay-of ls u n ≡ abbreviation qs c) → length qs ≡ k
+        → words ls u f d places y ≡ map word (placed k (form n) xss)
+    unfolding named
+    words-placed k qs c (inl e) q = named-words (newtype qs c) e ∙ ap (λ (j : ℕ). map word (placed j (form n) xss)) q
+    words-placed k qs c (inr e) q = named-words (abbreviation qs c) e ∙ ap (λ (j : ℕ). map word (placed j (form n) xss)) q

@@ -1,3 +1,4 @@
 pub mod States
 pub mod Emit
 pub mod EmitLaws
+pub mod CodeLaws

@@ -1,1 +1,205 @@
-// placeholder
+// The nodes of a resolved type as words, from its Y line and the normal forms of unfolded declarations: no body is
+// entered, and an argument that is dropped is not looked at. A place past the end of the array says that there is no room.
+ghost use mathlib.Core.Path.{_≡_};
+ghost use Prim.Native.Nat.{_+_, _*_, _-_, _≤_, _<_};
+ghost use lib.ListN.{length, take, drop};
+ghost use Rattle.sheet.specs.Sheet.{lines};
+ghost use Rattle.tables.specs.Tables as tables;
+ghost use Rattle.kids.specs.Nodes.{kids-of, kind-of};
+ghost use Rattle.node_words.specs.Put.{Put};
+ghost use Rattle.forms.specs.Emit.{run, step, filled, grown, form-words, words, kid-words, Asked};
+use kids::kid;
+use kids::kids;
+use node_words::own_word;
+use node_words::put;
+use node_words::state;
+use node_words::variable_word;
+use nodes::count;
+use nodes::kind;
+use nodes::own;
+use nodes::pack;
+
+// The type of Y line y in declaration d, from place `at` on.
+pub fn emit(
+    s: &[u8],
+    t: &[u32],
+    u: &[u16],
+    f: &[u64],
+    y: usize,
+    d: usize,
+    places: bool,
+    out: &mut [u64],
+    at: usize,
+) -> usize
+    requires { ⌜ Asked (now s) (now t) (now u) (now f) y d × (at ≤ length (now out)) ⌝ }
+    ensures { λ r. ⌜ Put (words (lines 6 (now (s .entry))) (now (u .entry)) (now (f .entry)) d places y) (now (out .entry)) at r (now (out .exit)) ⌝ }
+{
+    let k = tables::type_number(s, t, y, 0);
+    if k == 3 {
+        let v = tables::type_number(s, t, y, 1);
+        return put(out, at, variable_word(s, t, d, places, v));
+    }
+    if k == 8 {
+        return emit_name(s, t, u, f, y, d, places, out, at);
+    }
+    let r = emit_kids(s, t, u, f, y, d, places, 0, out, at);
+    if r > out.len() {
+        return r;
+    }
+    put(out, r, own_word(s, t, y))
+}
+
+// A name with its arguments.
+fn emit_name(
+    s: &[u8],
+    t: &[u32],
+    u: &[u16],
+    f: &[u64],
+    y: usize,
+    d: usize,
+    places: bool,
+    out: &mut [u64],
+    at: usize,
+) -> usize
+    requires { ⌜ Asked (now s) (now t) (now u) (now f) y d × (at ≤ length (now out)) ⌝ }
+    requires { ⌜ kind-of (lines 6 (now s)) y ≡ 8 ⌝ }
+    ensures { λ r. ⌜ Put (words (lines 6 (now (s .entry))) (now (u .entry)) (now (f .entry)) d places y) (now (out .entry)) at r (now (out .exit)) ⌝ }
+{
+    let n = tables::type_number(s, t, y, 1);
+    let m = tables::decl_of(s, t, n as usize);
+    let x = state(u, m);
+    if x == 0 {
+        return put(out, at, pack(0, 0, 0));
+    }
+    if x > 2 {
+        let r = emit_kids(s, t, u, f, y, d, places, 0, out, at);
+        if r > out.len() {
+            return r;
+        }
+        return put(out, r, pack(8, kids(s, t, y) as u32, n));
+    }
+    let r = emit_form(s, t, u, f, y, d, places, m, out, at);
+    if r > out.len() {
+        return r;
+    }
+    let k = calls::params(s, t, m);
+    if kids(s, t, y) <= k {
+        return r;
+    }
+    emit_surplus(s, t, u, f, y, d, places, k, out, at, r)
+}
+
+// The arguments past the first k, attached to what stands from place `at` to place r, if that ends in a `TApp`.
+fn emit_surplus(
+    s: &[u8],
+    t: &[u32],
+    u: &[u16],
+    f: &[u64],
+    y: usize,
+    d: usize,
+    places: bool,
+    k: usize,
+    out: &mut [u64],
+    at: usize,
+    r: usize,
+) -> usize
+    requires { ⌜ Asked (now s) (now t) (now u) (now f) y d × (at ≤ r) × (r ≤ length (now out)) × (k ≤ kids-of (lines 6 (now s)) y) ⌝ }
+    requires { ⌜ kind-of (lines 6 (now s)) y ≡ 8 ⌝ }
+    ensures { λ e. ⌜ Put (grown (take (r - at) (drop at (now (out .entry)))) (kids-of (lines 6 (now (s .entry))) y - k) (run (kid-words (lines 6 (now (s .entry))) (now (u .entry)) (now (f .entry)) d places y) k (kids-of (lines 6 (now (s .entry))) y - k))) (now (out .entry)) at e (now (out .exit)) ⌝ }
+{
+    if r == at {
+        return r;
+    }
+    let w = out[r - 1];
+    if kind(w) != 8 {
+        return r;
+    }
+    let n = kids(s, t, y) - k;
+    let e = emit_kids(s, t, u, f, y, d, places, k, out, r - 1);
+    if e > out.len() {
+        return e;
+    }
+    put(out, e, pack(8, count(w) + n as u32, own(w)))
+}
+
+// A normal form with the arguments put in.
+fn emit_form(
+    s: &[u8],
+    t: &[u32],
+    u: &[u16],
+    f: &[u64],
+    y: usize,
+    d: usize,
+    places: bool,
+    m: usize,
+    out: &mut [u64],
+    at: usize,
+) -> usize
+    requires { ⌜ Asked (now s) (now t) (now u) (now f) y d × (at ≤ length (now out)) × (m < tables.decls-of (lines 6 (now s))) ⌝ }
+    ensures { λ r. ⌜ Put (filled (kid-words (lines 6 (now (s .entry))) (now (u .entry)) (now (f .entry)) d places y) (kids-of (lines 6 (now (s .entry))) y) (form-words (now (f .entry)) m)) (now (out .entry)) at r (now (out .exit)) ⌝ }
+{
+    let start = f[2 * m] as usize;
+    let end = f[2 * m + 1] as usize;
+    let mut r = at;
+    for i in 0..end {
+        r = emit_node(s, t, u, f, y, d, places, f[start + i], out, r);
+        if r > out.len() {
+            return r;
+        }
+    }
+    r
+}
+
+// A word of a normal form: an argument for a parameter, or the word.
+fn emit_node(
+    s: &[u8],
+    t: &[u32],
+    u: &[u16],
+    f: &[u64],
+    y: usize,
+    d: usize,
+    places: bool,
+    w: u64,
+    out: &mut [u64],
+    at: usize,
+) -> usize
+    requires { ⌜ Asked (now s) (now t) (now u) (now f) y d × (at ≤ length (now out)) ⌝ }
+    ensures { λ r. ⌜ Put (step (kid-words (lines 6 (now (s .entry))) (now (u .entry)) (now (f .entry)) d places y) (kids-of (lines 6 (now (s .entry))) y) w) (now (out .entry)) at r (now (out .exit)) ⌝ }
+{
+    let k = kind(w);
+    if k != 3 {
+        return put(out, at, pack(k, count(w), own(w)));
+    }
+    let i = own(w) as usize;
+    if i >= kids(s, t, y) {
+        return put(out, at, pack(0, 0, 0));
+    }
+    emit(s, t, u, f, kid(s, t, y, i), d, places, out, at)
+}
+
+// The parts from part `from` on.
+fn emit_kids(
+    s: &[u8],
+    t: &[u32],
+    u: &[u16],
+    f: &[u64],
+    y: usize,
+    d: usize,
+    places: bool,
+    from: usize,
+    out: &mut [u64],
+    at: usize,
+) -> usize
+    requires { ⌜ Asked (now s) (now t) (now u) (now f) y d × (at ≤ length (now out)) × (from ≤ kids-of (lines 6 (now s)) y) ⌝ }
+    ensures { λ r. ⌜ Put (run (kid-words (lines 6 (now (s .entry))) (now (u .entry)) (now (f .entry)) d places y) from (kids-of (lines 6 (now (s .entry))) y - from)) (now (out .entry)) at r (now (out .exit)) ⌝ }
+{
+    let n = kids(s, t, y);
+    let mut r = at;
+    for i in from..n {
+        r = emit(s, t, u, f, kid(s, t, y, i), d, places, out, r);
+        if r > out.len() {
+            return r;
+        }
+    }
+    r
+}

@@ -4,3 +4,4 @@ pub mod Nodes
 pub mod NodesLaws
 pub mod Forms
 pub mod FormsLaws
+pub mod TableLaws

@@ -1,0 +1,1290 @@
+-- `forms::emit` and the functions that it calls in turn meet their contracts: each puts what its callees put, and the Y line falls.
+-- Assumes nothing.
+use Prim.Native.Nat.{ℕ, _+_, _-_, _*_, _≤_, _<_}
+use mathlib.Core.Path.{_≡_, refl, ap, sym, _∙_, subst}
+use native.Mathlib.Omega.{arith}
+use lib.ListN.{length, getD, take, drop}
+use borrow.Author.Needs.{needs}
+use Rattle.sheet.specs.Sheet.{lines}
+use Rattle.kids.specs.Nodes.{kids-of, kid-of, kind-of}
+use Rattle.node_words.specs.Put.{Put, put-none, put-more, put-stop}
+use Rattle.kids.specs.NodesLaws.{node-at}
+use Rattle.forms.specs.CodeLaws.{
+  put-same,
+  run-none,
+  run-more,
+  run-stop,
+  filled-none,
+  filled-more,
+  filled-all,
+  filled-stop,
+  step-other,
+  step-past,
+  step-arg,
+  put-var,
+  put-plain,
+  stop-plain,
+  put-gone,
+  put-stays,
+  stop-stays,
+  stop-form,
+  put-form,
+  put-surplus,
+  surplus-none,
+  surplus-kept,
+  surplus-stop,
+  surplus-put,
+  grown-word,
+  below,
+  state-below,
+  place-few,
+  count-few,
+  name-kids,
+  asked-kid,
+}
+use Rattle.forms.specs.Emit.{run, step, filled, grown, form-words, words, kid-words, Asked}
+use borrow.Fn.Kinds.{In}
+use borrow.Fn.PlainCycle.{Measures, is, falls, and}
+use Rattle.forms.proofs.emit.Reads as emit
+use Rattle.forms.proofs.emit.Kinds as emit-kinds
+use Rattle.forms.proofs.+emit+emit_form+emit_kids+emit_name+emit_node+emit_surplus.Lts-emit as emit-lts
+use Rattle.forms.proofs.emit_form.Reads as emit-form
+use Rattle.forms.proofs.emit_form.Kinds as emit-form-kinds
+use Rattle.forms.proofs.+emit+emit_form+emit_kids+emit_name+emit_node+emit_surplus.Lts-emit_form as emit-form-lts
+use Rattle.forms.proofs.emit_kids.Reads as emit-kids
+use Rattle.forms.proofs.emit_kids.Kinds as emit-kids-kinds
+use Rattle.forms.proofs.+emit+emit_form+emit_kids+emit_name+emit_node+emit_surplus.Lts-emit_kids as emit-kids-lts
+use Rattle.forms.proofs.emit_name.Reads as emit-name
+use Rattle.forms.proofs.emit_name.Kinds as emit-name-kinds
+use Rattle.forms.proofs.+emit+emit_form+emit_kids+emit_name+emit_node+emit_surplus.Lts-emit_name as emit-name-lts
+use Rattle.forms.proofs.emit_node.Reads as emit-node
+use Rattle.forms.proofs.emit_node.Kinds as emit-node-kinds
+use Rattle.forms.proofs.+emit+emit_form+emit_kids+emit_name+emit_node+emit_surplus.Lts-emit_node as emit-node-lts
+use Rattle.forms.proofs.emit_surplus.Reads as emit-surplus
+use Rattle.forms.proofs.emit_surplus.Kinds as emit-surplus-kinds
+use Rattle.forms.proofs.+emit+emit_form+emit_kids+emit_name+emit_node+emit_surplus.Lts-emit_surplus as emit-surplus-lts
+use Rattle.calls.proofs.params.Reads as params-reads
+use Rattle.kids.proofs.kid.Reads as kid-reads
+use Rattle.kids.proofs.kids.Reads as kids-reads
+use Rattle.node_words.proofs.own_word.Reads as own-word-reads
+use Rattle.node_words.proofs.put.Reads as put-reads
+use Rattle.node_words.proofs.state.Reads as state-reads
+use Rattle.node_words.proofs.variable_word.Reads as variable-word-reads
+use Rattle.nodes.proofs.count.Reads as count-reads
+use Rattle.nodes.proofs.kind.Reads as kind-reads
+use Rattle.nodes.proofs.own.Reads as own-reads
+use Rattle.nodes.proofs.pack.Reads as pack-reads
+use Rattle.tables.proofs.decl_of.Reads as decl-of-reads
+use Rattle.tables.proofs.type_number.Reads as type-number-reads
+use Rattle.forms.proofs.+emit+emit_form+emit_kids+emit_name+emit_node+emit_surplus.{
+  statement,
+}
+use Rattle.forms.proofs.+emit+emit_form+emit_kids+emit_name+emit_node+emit_surplus.Tie.{
+  close,
+}
+
+abbrev μ-emit : Measures 5 emit-kinds.ps ℕ
+μ-emit κs a = 5 * a .1 .1 .1 .1 .0 + 4
+
+abbrev μ-emit-form : Measures 5 emit-form-kinds.ps ℕ
+μ-emit-form κs a = 5 * a .1 .1 .1 .1 .0 + 2
+
+abbrev μ-emit-kids : Measures 5 emit-kids-kinds.ps ℕ
+μ-emit-kids κs a = 5 * a .1 .1 .1 .1 .0 + 1
+
+abbrev μ-emit-name : Measures 5 emit-name-kinds.ps ℕ
+μ-emit-name κs a = 5 * a .1 .1 .1 .1 .0 + 3
+
+abbrev μ-emit-node : Measures 5 emit-node-kinds.ps ℕ
+μ-emit-node κs a = 5 * a .1 .1 .1 .1 .0 + 1
+
+abbrev μ-emit-surplus : Measures 5 emit-surplus-kinds.ps ℕ
+μ-emit-surplus κs a = 5 * a .1 .1 .1 .1 .0 + 2
+
+abbrev emit-at : ℕ → In 5 emit-kinds.ps
+emit-at t = and 5 emit-kinds.ps (is 5 emit-kinds.ps μ-emit t) emit.Pre
+
+abbrev emit-below : ℕ → In 5 emit-kinds.ps
+emit-below t = and 5 emit-kinds.ps (falls 5 emit-kinds.ps _<_ μ-emit t) emit.Pre
+
+abbrev emit-form-at : ℕ → In 5 emit-form-kinds.ps
+emit-form-at t = and 5 emit-form-kinds.ps (is 5 emit-form-kinds.ps μ-emit-form t) emit-form.Pre
+
+abbrev emit-form-below : ℕ → In 5 emit-form-kinds.ps
+emit-form-below t =
+    and 5 emit-form-kinds.ps (falls 5 emit-form-kinds.ps _<_ μ-emit-form t) emit-form.Pre
+
+abbrev emit-kids-at : ℕ → In 5 emit-kids-kinds.ps
+emit-kids-at t = and 5 emit-kids-kinds.ps (is 5 emit-kids-kinds.ps μ-emit-kids t) emit-kids.Pre
+
+abbrev emit-kids-below : ℕ → In 5 emit-kids-kinds.ps
+emit-kids-below t =
+    and 5 emit-kids-kinds.ps (falls 5 emit-kids-kinds.ps _<_ μ-emit-kids t) emit-kids.Pre
+
+abbrev emit-name-at : ℕ → In 5 emit-name-kinds.ps
+emit-name-at t = and 5 emit-name-kinds.ps (is 5 emit-name-kinds.ps μ-emit-name t) emit-name.Pre
+
+abbrev emit-name-below : ℕ → In 5 emit-name-kinds.ps
+emit-name-below t =
+    and 5 emit-name-kinds.ps (falls 5 emit-name-kinds.ps _<_ μ-emit-name t) emit-name.Pre
+
+abbrev emit-node-at : ℕ → In 5 emit-node-kinds.ps
+emit-node-at t = and 5 emit-node-kinds.ps (is 5 emit-node-kinds.ps μ-emit-node t) emit-node.Pre
+
+abbrev emit-node-below : ℕ → In 5 emit-node-kinds.ps
+emit-node-below t =
+    and 5 emit-node-kinds.ps (falls 5 emit-node-kinds.ps _<_ μ-emit-node t) emit-node.Pre
+
+abbrev emit-surplus-at : ℕ → In 5 emit-surplus-kinds.ps
+emit-surplus-at t =
+    and 5 emit-surplus-kinds.ps (is 5 emit-surplus-kinds.ps μ-emit-surplus t) emit-surplus.Pre
+
+abbrev emit-surplus-below : ℕ → In 5 emit-surplus-kinds.ps
+emit-surplus-below t =
+    and
+    5
+    emit-surplus-kinds.ps
+    (falls 5 emit-surplus-kinds.ps _<_ μ-emit-surplus t)
+    emit-surplus.Pre
+
+emit-returns : (t : ℕ) → emit-lts.Need-returns (
+  type-number-reads.Asked,
+  type-number-reads.Learnt,
+  variable-word-reads.Asked,
+  variable-word-reads.Learnt,
+  put-reads.Asked,
+  put-reads.Learnt,
+  emit-name-below t,
+  emit-name.Post,
+  emit-kids-below t,
+  emit-kids.Post,
+  own-word-reads.Asked,
+  own-word-reads.Learnt,
+) (emit-at t) emit.Post
+emit-returns t c =
+    let a = c .before .before .before .before .before .before .before .before .before .before .before .before .before .args in
+    let p = c .before .before .before .before .before .before .before .before .before .before .before .before .before .pre in
+    put-var (a .s .now) (p .1 .0 .tabled .passed) (a .u .now) (a .f .now) (a .d) (a .places) (a .y) (p .1 .0 .type) (a .out .now) (a .at) (p .1 .1) _ _ _ _ (sym (c .before .before .before .before .before .before .before .type-number .ensures) ∙ c .before .before .before .before .before .before .if1 .taken) (c .before .before .before .before .before .type-number2 .ensures) (c .before .before .before .variable-word .ensures) (c .before .before .put .ensures)
+
+emit-returns-2 : (t : ℕ) → emit-lts.Need-returns-2 (
+  type-number-reads.Asked,
+  type-number-reads.Learnt,
+  variable-word-reads.Asked,
+  variable-word-reads.Learnt,
+  put-reads.Asked,
+  put-reads.Learnt,
+  emit-name-below t,
+  emit-name.Post,
+  emit-kids-below t,
+  emit-kids.Post,
+  own-word-reads.Asked,
+  own-word-reads.Learnt,
+) (emit-at t) emit.Post
+emit-returns-2 t c =
+    c .before .before .emit-name .ensures
+
+emit-returns-3 : (t : ℕ) → emit-lts.Need-returns-3 (
+  type-number-reads.Asked,
+  type-number-reads.Learnt,
+  variable-word-reads.Asked,
+  variable-word-reads.Learnt,
+  put-reads.Asked,
+  put-reads.Learnt,
+  emit-name-below t,
+  emit-name.Post,
+  emit-kids-below t,
+  emit-kids.Post,
+  own-word-reads.Asked,
+  own-word-reads.Learnt,
+) (emit-at t) emit.Post
+emit-returns-3 t c =
+    let a = c .before .before .before .before .before .before .before .before .before .before .before .before .before .args in
+    let p = c .before .before .before .before .before .before .before .before .before .before .before .before .before .pre in
+    stop-plain (a .s .now) (p .1 .0 .tabled .passed) (a .u .now) (a .f .now) (a .d) (a .places) (a .y) (p .1 .0 .type) (a .out .now) (a .at) (p .1 .1) (λ e. c .before .before .before .before .before .before .if1 .left (c .before .before .before .before .before .before .before .type-number .ensures ∙ e)) (λ e. c .before .before .before .before .before .if2 .left (c .before .before .before .before .before .before .before .type-number .ensures ∙ e)) _ _ (omega (arith, c .if3 .taken, c .before .before .before .emit-kids .ensures .long)) (c .before .before .before .emit-kids .ensures)
+
+emit-returns-4 : (t : ℕ) → emit-lts.Need-returns-4 (
+  type-number-reads.Asked,
+  type-number-reads.Learnt,
+  variable-word-reads.Asked,
+  variable-word-reads.Learnt,
+  put-reads.Asked,
+  put-reads.Learnt,
+  emit-name-below t,
+  emit-name.Post,
+  emit-kids-below t,
+  emit-kids.Post,
+  own-word-reads.Asked,
+  own-word-reads.Learnt,
+) (emit-at t) emit.Post
+emit-returns-4 t c =
+    let a = c .before .before .before .before .before .before .before .before .before .before .before .before .before .before .before .before .before .before .args in
+    let p = c .before .before .before .before .before .before .before .before .before .before .before .before .before .before .before .before .before .before .pre in
+    put-plain (a .s .now) (p .1 .0 .tabled .passed) (a .u .now) (a .f .now) (a .d) (a .places) (a .y) (p .1 .0 .type) (a .out .now) (a .at) (p .1 .1) (λ e. c .before .before .before .before .before .before .before .before .before .before .before .if1 .left (c .before .before .before .before .before .before .before .before .before .before .before .before .type-number .ensures ∙ e)) (λ e. c .before .before .before .before .before .before .before .before .before .before .if2 .left (c .before .before .before .before .before .before .before .before .before .before .before .before .type-number .ensures ∙ e)) _ _ _ _ _ (omega (arith, c .before .before .before .before .before .if3 .left, c .before .before .before .before .before .before .before .before .emit-kids .ensures .long)) (c .before .before .before .before .before .before .before .before .emit-kids .ensures) (c .before .before .before .own-word .ensures) (c .before .before .put2 .ensures)
+
+abbrev emit-form-Inv-loop : emit-form-lts.InvT-loop
+emit-form-Inv-loop s t u f y d places m out₀ at start end r₀ i₀ out r i =
+    (i ≤ end) × (length out ≡ length out₀) × (r ≤ length out) × Put (filled (kid-words (lines 6 s) u f d places y) (kids-of (lines 6 s) y) (take i (take end (drop start f)))) out₀ at r out
+
+abbrev emit-form-μ-loop : emit-form-lts.MeasureT-loop
+emit-form-μ-loop s t u f y d places m out₀ at start end r₀ i₀ out r i = end - i
+
+emit-form-loop-holds :
+    (t : ℕ) →
+    emit-form-lts.Need-loop-holds
+    (emit-node-below t, emit-node.Post)
+    (emit-form-at t)
+    emit-form.Post
+    emit-form-Inv-loop
+    emit-form-μ-loop
+emit-form-loop-holds t c =
+    let a = c .before .before .before .before .before .before .before .args in
+    let p = c .before .before .before .before .before .before .before .pre in
+    (omega arith, refl, p .1 .1, put-same _ _ _ _ _ _ (sym (filled-none (kid-words (lines 6 (a .s .now)) (a .u .now) (a .f .now) (a .d) (a .places) (a .y)) (kids-of (lines 6 (a .s .now)) (a .y)) (a .f .now) (getD (a .f .now) (2 * a .m) 0) (getD (a .f .now) (2 * a .m + 1) 0) (p .1 .0 .forms .inside (a .m) (p .1 .2)))) (put-none (a .out .now) (a .at) (p .1 .1)))
+
+emit-form-add-emit-node : (t : ℕ) → emit-form-lts.Need-add-emit-node (
+  emit-node-below t,
+  emit-node.Post,
+) (emit-form-at t) emit-form.Post emit-form-Inv-loop emit-form-μ-loop
+emit-form-add-emit-node t c =
+    let a = c .before .before .before .before .before .before .before .before .before .args in
+    let p = c .before .before .before .before .before .before .before .before .before .pre in
+    omega (arith, c .loop-test .taken, (p .1 .0 .forms .inside (a .m) (p .1 .2)))
+
+emit-form-mul-emit-node : (t : ℕ) → emit-form-lts.Need-mul-emit-node (
+  emit-node-below t,
+  emit-node.Post,
+) (emit-form-at t) emit-form.Post emit-form-Inv-loop emit-form-μ-loop
+emit-form-mul-emit-node t c =
+    let a = c .before .before .before .before .before .before .before .before .before .args in
+    let p = c .before .before .before .before .before .before .before .before .before .pre in
+    omega (arith, c .loop-test .taken, (p .1 .0 .forms .inside (a .m) (p .1 .2)), c .before .before .before .before .before .before .before .before .before .good .1 .1 .1 .0 .1)
+
+emit-form-shared-slice-read-emit-node : (t : ℕ) → emit-form-lts.Need-shared-slice-read-emit-node (
+  emit-node-below t,
+  emit-node.Post,
+) (emit-form-at t) emit-form.Post emit-form-Inv-loop emit-form-μ-loop
+emit-form-shared-slice-read-emit-node t c =
+    let a = c .before .before .before .before .before .before .before .before .before .before .args in
+    let p = c .before .before .before .before .before .before .before .before .before .before .pre in
+    omega (arith, c .before .loop-test .taken, (p .1 .0 .forms .inside (a .m) (p .1 .2)))
+
+emit-form-emit-node-requires : (t : ℕ) → emit-form-lts.Need-emit-node-requires (
+  emit-node-below t,
+  emit-node.Post,
+) (emit-form-at t) emit-form.Post emit-form-Inv-loop emit-form-μ-loop
+emit-form-emit-node-requires t c κs =
+    let a = c .before .before .before .before .before .before .before .before .before .before .before .args in
+    let p = c .before .before .before .before .before .before .before .before .before .before .before .pre in
+    (omega (arith, p .0), (p .1 .0, c .before .before .before .loop .inv .2))
+
+emit-form-same-length : (t : ℕ) → emit-form-lts.Need-same-length (
+  emit-node-below t,
+  emit-node.Post,
+) (emit-form-at t) emit-form.Post emit-form-Inv-loop emit-form-μ-loop
+emit-form-same-length t c =
+    omega (arith, c .before .before .before .emit-node .ensures .long, c .before .before .before .before .before .before .before .loop .inv .1)
+
+emit-form-returns :
+    (t : ℕ) →
+    emit-form-lts.Need-returns
+    (emit-node-below t, emit-node.Post)
+    (emit-form-at t)
+    emit-form.Post
+    emit-form-Inv-loop
+    emit-form-μ-loop
+emit-form-returns t c =
+    let a = c .before .before .before .before .before .before .before .before .before .before .before .before .before .before .before .args in
+    let p = c .before .before .before .before .before .before .before .before .before .before .before .before .before .before .before .pre in
+    filled-stop (kid-words (lines 6 (a .s .now)) (a .u .now) (a .f .now) (a .d) (a .places) (a .y)) (kids-of (lines 6 (a .s .now)) (a .y)) (a .f .now) (getD (a .f .now) (2 * a .m) 0) (getD (a .f .now) (2 * a .m + 1) 0) (p .1 .0 .forms .inside (a .m) (p .1 .2)) (c .before .before .before .before .before .before .before .loop .i + 1) (a .out .now) (a .at) _ _ (omega (arith, c .if1 .taken, c .before .before .before .emit-node .ensures .long, c .before .before .before .before .before .before .before .loop .inv .1)) (put-same _ _ _ _ _ _ (filled-more (kid-words (lines 6 (a .s .now)) (a .u .now) (a .f .now) (a .d) (a .places) (a .y)) (kids-of (lines 6 (a .s .now)) (a .y)) (a .f .now) (getD (a .f .now) (2 * a .m) 0) (getD (a .f .now) (2 * a .m + 1) 0) (p .1 .0 .forms .inside (a .m) (p .1 .2)) (c .before .before .before .before .before .before .before .loop .i) (c .before .before .before .before .before .before .loop-test .taken)) (put-more _ _ (a .out .now) (a .at) (c .before .before .before .before .before .before .before .loop .r) _ (c .before .before .before .before .before .before .before .loop .out) _ (p .1 .1) (omega (arith, c .before .before .before .before .before .before .before .loop .inv .1, c .before .before .before .before .before .before .before .loop .inv .2)) (c .before .before .before .before .before .before .before .loop .inv .3) (c .before .before .before .emit-node .ensures)))
+
+emit-form-add-i :
+    (t : ℕ) →
+    emit-form-lts.Need-add-i
+    (emit-node-below t, emit-node.Post)
+    (emit-form-at t)
+    emit-form.Post
+    emit-form-Inv-loop
+    emit-form-μ-loop
+emit-form-add-i t c =
+    let a = c .before .before .before .before .before .before .before .before .before .before .before .before .before .before .before .args in
+    let p = c .before .before .before .before .before .before .before .before .before .before .before .before .before .before .before .pre in
+    omega (arith, c .before .before .before .before .before .before .loop-test .taken, (p .1 .0 .forms .inside (a .m) (p .1 .2)), c .before .before .before .before .before .before .before .before .before .before .before .before .before .before .before .good .1 .1 .1 .0 .0)
+
+emit-form-loop-less :
+    (t : ℕ) →
+    emit-form-lts.Need-loop-less
+    (emit-node-below t, emit-node.Post)
+    (emit-form-at t)
+    emit-form.Post
+    emit-form-Inv-loop
+    emit-form-μ-loop
+emit-form-loop-less t c =
+    omega (arith, c .before .before .before .before .before .before .loop-test .taken)
+
+emit-form-loop-again :
+    (t : ℕ) →
+    emit-form-lts.Need-loop-again
+    (emit-node-below t, emit-node.Post)
+    (emit-form-at t)
+    emit-form.Post
+    emit-form-Inv-loop
+    emit-form-μ-loop
+emit-form-loop-again t c =
+    let a = c .before .before .before .before .before .before .before .before .before .before .before .before .before .before .before .args in
+    let p = c .before .before .before .before .before .before .before .before .before .before .before .before .before .before .before .pre in
+    (omega (arith, c .before .before .before .before .before .before .loop-test .taken), omega (arith, c .before .before .before .emit-node .ensures .long, c .before .before .before .before .before .before .before .loop .inv .1), omega (arith, c .if1 .left), (put-same _ _ _ _ _ _ (filled-more (kid-words (lines 6 (a .s .now)) (a .u .now) (a .f .now) (a .d) (a .places) (a .y)) (kids-of (lines 6 (a .s .now)) (a .y)) (a .f .now) (getD (a .f .now) (2 * a .m) 0) (getD (a .f .now) (2 * a .m + 1) 0) (p .1 .0 .forms .inside (a .m) (p .1 .2)) (c .before .before .before .before .before .before .before .loop .i) (c .before .before .before .before .before .before .loop-test .taken)) (put-more _ _ (a .out .now) (a .at) (c .before .before .before .before .before .before .before .loop .r) _ (c .before .before .before .before .before .before .before .loop .out) _ (p .1 .1) (omega (arith, c .before .before .before .before .before .before .before .loop .inv .1, c .before .before .before .before .before .before .before .loop .inv .2)) (c .before .before .before .before .before .before .before .loop .inv .3) (c .before .before .before .emit-node .ensures))))
+
+emit-form-same-length-2 : (t : ℕ) → emit-form-lts.Need-same-length-2 (
+  emit-node-below t,
+  emit-node.Post,
+) (emit-form-at t) emit-form.Post emit-form-Inv-loop emit-form-μ-loop
+emit-form-same-length-2 t c =
+    c .before .loop .inv .1
+
+emit-form-returns-2 :
+    (t : ℕ) →
+    emit-form-lts.Need-returns-2
+    (emit-node-below t, emit-node.Post)
+    (emit-form-at t)
+    emit-form.Post
+    emit-form-Inv-loop
+    emit-form-μ-loop
+emit-form-returns-2 t c =
+    let a = c .before .before .before .before .before .before .before .before .before .args in
+    let p = c .before .before .before .before .before .before .before .before .before .pre in
+    put-same _ _ _ _ _ _ (filled-all (kid-words (lines 6 (a .s .now)) (a .u .now) (a .f .now) (a .d) (a .places) (a .y)) (kids-of (lines 6 (a .s .now)) (a .y)) (a .f .now) (getD (a .f .now) (2 * a .m) 0) (getD (a .f .now) (2 * a .m + 1) 0) (p .1 .0 .forms .inside (a .m) (p .1 .2)) (c .before .loop .i) (omega (arith, c .loop-test .left))) (c .before .loop .inv .3)
+
+abbrev emit-kids-Inv-loop : emit-kids-lts.InvT-loop
+emit-kids-Inv-loop s t u f y d places from out₀ at n r₀ i₀ out r i =
+    (from ≤ i) × (i ≤ n) × (length out ≡ length out₀) × (r ≤ length out) × Put (run (kid-words (lines 6 s) u f d places y) from (i - from)) out₀ at r out
+
+abbrev emit-kids-μ-loop : emit-kids-lts.MeasureT-loop
+emit-kids-μ-loop s t u f y d places from out₀ at n r₀ i₀ out r i = n - i
+
+emit-kids-loop-holds : (t : ℕ) → emit-kids-lts.Need-loop-holds (
+  kids-reads.Asked,
+  kids-reads.Learnt,
+  kid-reads.Asked,
+  kid-reads.Learnt,
+  emit-below t,
+  emit.Post,
+) (emit-kids-at t) emit-kids.Post emit-kids-Inv-loop emit-kids-μ-loop
+emit-kids-loop-holds t c =
+    let a = c .before .before .before .before .before .before .args in
+    let p = c .before .before .before .before .before .before .pre in
+    (omega arith, omega (arith, p .1 .2, c .kids .ensures), refl, p .1 .1, put-same _ _ _ _ _ _ (sym (run-none (kid-words (lines 6 (a .s .now)) (a .u .now) (a .f .now) (a .d) (a .places) (a .y)) (a .from))) (put-none (a .out .now) (a .at) (p .1 .1)))
+
+emit-kids-kid-requires : (t : ℕ) → emit-kids-lts.Need-kid-requires (
+  kids-reads.Asked,
+  kids-reads.Learnt,
+  kid-reads.Asked,
+  kid-reads.Learnt,
+  emit-below t,
+  emit.Post,
+) (emit-kids-at t) emit-kids.Post emit-kids-Inv-loop emit-kids-μ-loop
+emit-kids-kid-requires t c κs =
+    let a = c .before .before .before .before .before .before .before .before .args in
+    let p = c .before .before .before .before .before .before .before .before .pre in
+    (p .1 .0 .tabled, (p .1 .0 .type, omega (arith, c .loop-test .taken, c .before .before .kids .ensures)))
+
+emit-kids-emit-requires : (t : ℕ) → emit-kids-lts.Need-emit-requires (
+  kids-reads.Asked,
+  kids-reads.Learnt,
+  kid-reads.Asked,
+  kid-reads.Learnt,
+  emit-below t,
+  emit.Post,
+) (emit-kids-at t) emit-kids.Post emit-kids-Inv-loop emit-kids-μ-loop
+emit-kids-emit-requires t c κs =
+    let a = c .before .before .before .before .before .before .before .before .before .before .args in
+    let p = c .before .before .before .before .before .before .before .before .before .before .pre in
+    let q = asked-kid (a .s .now) (a .t .now) (a .u .now) (a .f .now) (a .y) (a .d) (c .before .before .before .loop .i) (c .before .kid .result) (p .1 .0) (omega (arith, c .before .before .loop-test .taken, c .before .before .before .before .kids .ensures)) (c .before .kid .ensures) in
+    (omega (arith, p .0, q .0), (q .1, c .before .before .before .loop .inv .3))
+
+emit-kids-same-length : (t : ℕ) → emit-kids-lts.Need-same-length (
+  kids-reads.Asked,
+  kids-reads.Learnt,
+  kid-reads.Asked,
+  kid-reads.Learnt,
+  emit-below t,
+  emit.Post,
+) (emit-kids-at t) emit-kids.Post emit-kids-Inv-loop emit-kids-μ-loop
+emit-kids-same-length t c =
+    omega (arith, c .before .before .before .emit .ensures .long, c .before .before .before .before .before .before .before .loop .inv .2)
+
+emit-kids-returns : (t : ℕ) → emit-kids-lts.Need-returns (
+  kids-reads.Asked,
+  kids-reads.Learnt,
+  kid-reads.Asked,
+  kid-reads.Learnt,
+  emit-below t,
+  emit.Post,
+) (emit-kids-at t) emit-kids.Post emit-kids-Inv-loop emit-kids-μ-loop
+emit-kids-returns t c =
+    let a = c .before .before .before .before .before .before .before .before .before .before .before .before .before .before .args in
+    let p = c .before .before .before .before .before .before .before .before .before .before .before .before .before .before .pre in
+    run-stop (kid-words (lines 6 (a .s .now)) (a .u .now) (a .f .now) (a .d) (a .places) (a .y)) (a .from) (c .before .before .before .before .before .before .before .loop .i + 1 - a .from) (kids-of (lines 6 (a .s .now)) (a .y) - a .from) (a .out .now) (a .at) _ _ (omega (arith, c .before .before .before .before .before .before .loop-test .taken, c .before .before .before .before .before .before .before .before .kids .ensures)) (omega (arith, c .if1 .taken, c .before .before .before .emit .ensures .long, c .before .before .before .before .before .before .before .loop .inv .2)) (put-same _ _ _ _ _ _ (run-more (kid-words (lines 6 (a .s .now)) (a .u .now) (a .f .now) (a .d) (a .places) (a .y)) (a .from) (c .before .before .before .before .before .before .before .loop .i) (c .before .before .before .before .before .before .before .loop .inv .0)) (put-more _ _ (a .out .now) (a .at) (c .before .before .before .before .before .before .before .loop .r) _ (c .before .before .before .before .before .before .before .loop .out) _ (p .1 .1) (omega (arith, c .before .before .before .before .before .before .before .loop .inv .2, c .before .before .before .before .before .before .before .loop .inv .3)) (c .before .before .before .before .before .before .before .loop .inv .4) (put-same _ _ _ _ _ _ (ap (λ (i : ℕ). words (lines 6 (a .s .now)) (a .u .now) (a .f .now) (a .d) (a .places) i) (c .before .before .before .before .before .kid .ensures)) (c .before .before .before .emit .ensures))))
+
+emit-kids-add-i : (t : ℕ) → emit-kids-lts.Need-add-i (
+  kids-reads.Asked,
+  kids-reads.Learnt,
+  kid-reads.Asked,
+  kid-reads.Learnt,
+  emit-below t,
+  emit.Post,
+) (emit-kids-at t) emit-kids.Post emit-kids-Inv-loop emit-kids-μ-loop
+emit-kids-add-i t c =
+    search needs
+
+emit-kids-loop-less : (t : ℕ) → emit-kids-lts.Need-loop-less (
+  kids-reads.Asked,
+  kids-reads.Learnt,
+  kid-reads.Asked,
+  kid-reads.Learnt,
+  emit-below t,
+  emit.Post,
+) (emit-kids-at t) emit-kids.Post emit-kids-Inv-loop emit-kids-μ-loop
+emit-kids-loop-less t c =
+    omega (arith, c .before .before .before .before .before .before .loop-test .taken)
+
+emit-kids-loop-again : (t : ℕ) → emit-kids-lts.Need-loop-again (
+  kids-reads.Asked,
+  kids-reads.Learnt,
+  kid-reads.Asked,
+  kid-reads.Learnt,
+  emit-below t,
+  emit.Post,
+) (emit-kids-at t) emit-kids.Post emit-kids-Inv-loop emit-kids-μ-loop
+emit-kids-loop-again t c =
+    let a = c .before .before .before .before .before .before .before .before .before .before .before .before .before .before .args in
+    let p = c .before .before .before .before .before .before .before .before .before .before .before .before .before .before .pre in
+    (omega (arith, c .before .before .before .before .before .before .before .loop .inv .0), omega (arith, c .before .before .before .before .before .before .loop-test .taken), omega (arith, c .before .before .before .emit .ensures .long, c .before .before .before .before .before .before .before .loop .inv .2), omega (arith, c .if1 .left), (put-same _ _ _ _ _ _ (run-more (kid-words (lines 6 (a .s .now)) (a .u .now) (a .f .now) (a .d) (a .places) (a .y)) (a .from) (c .before .before .before .before .before .before .before .loop .i) (c .before .before .before .before .before .before .before .loop .inv .0)) (put-more _ _ (a .out .now) (a .at) (c .before .before .before .before .before .before .before .loop .r) _ (c .before .before .before .before .before .before .before .loop .out) _ (p .1 .1) (omega (arith, c .before .before .before .before .before .before .before .loop .inv .2, c .before .before .before .before .before .before .before .loop .inv .3)) (c .before .before .before .before .before .before .before .loop .inv .4) (put-same _ _ _ _ _ _ (ap (λ (i : ℕ). words (lines 6 (a .s .now)) (a .u .now) (a .f .now) (a .d) (a .places) i) (c .before .before .before .before .before .kid .ensures)) (c .before .before .before .emit .ensures)))))
+
+emit-kids-same-length-2 : (t : ℕ) → emit-kids-lts.Need-same-length-2 (
+  kids-reads.Asked,
+  kids-reads.Learnt,
+  kid-reads.Asked,
+  kid-reads.Learnt,
+  emit-below t,
+  emit.Post,
+) (emit-kids-at t) emit-kids.Post emit-kids-Inv-loop emit-kids-μ-loop
+emit-kids-same-length-2 t c =
+    c .before .loop .inv .2
+
+emit-kids-returns-2 : (t : ℕ) → emit-kids-lts.Need-returns-2 (
+  kids-reads.Asked,
+  kids-reads.Learnt,
+  kid-reads.Asked,
+  kid-reads.Learnt,
+  emit-below t,
+  emit.Post,
+) (emit-kids-at t) emit-kids.Post emit-kids-Inv-loop emit-kids-μ-loop
+emit-kids-returns-2 t c =
+    let a = c .before .before .before .before .before .before .before .before .args in
+    let p = c .before .before .before .before .before .before .before .before .pre in
+    let e : c .before .loop .i ≡ kids-of (lines 6 (a .s .now)) (a .y) = omega (arith, c .loop-test .left, c .before .loop .inv .1, c .before .before .kids .ensures) in
+    put-same _ _ _ _ _ _ (ap (λ (i : ℕ). run (kid-words (lines 6 (a .s .now)) (a .u .now) (a .f .now) (a .d) (a .places) (a .y)) (a .from) (i - a .from)) e) (c .before .loop .inv .4)
+
+emit-name-decl-of-requires : (t : ℕ) → emit-name-lts.Need-decl-of-requires (
+  type-number-reads.Asked,
+  type-number-reads.Learnt,
+  decl-of-reads.Asked,
+  decl-of-reads.Learnt,
+  state-reads.Asked,
+  state-reads.Learnt,
+  pack-reads.Asked,
+  pack-reads.Learnt,
+  put-reads.Asked,
+  put-reads.Learnt,
+  emit-kids-below t,
+  emit-kids.Post,
+  kids-reads.Asked,
+  kids-reads.Learnt,
+  emit-form-below t,
+  emit-form.Post,
+  params-reads.Asked,
+  params-reads.Learnt,
+  emit-surplus-below t,
+  emit-surplus.Post,
+) (emit-name-at t) emit-name.Post
+emit-name-decl-of-requires t c κs =
+    let a = c .before .before .before .before .before .before .args in
+    let p = c .before .before .before .before .before .before .pre in
+    (p .1 .0 .0 .tabled, omega (arith, c .type-number .ensures, node-at (a .s .now) (p .1 .0 .0 .tabled .passed) (a .y) (p .1 .0 .0 .type) .named (p .1 .1)))
+
+emit-name-state-requires : (t : ℕ) → emit-name-lts.Need-state-requires (
+  type-number-reads.Asked,
+  type-number-reads.Learnt,
+  decl-of-reads.Asked,
+  decl-of-reads.Learnt,
+  state-reads.Asked,
+  state-reads.Learnt,
+  pack-reads.Asked,
+  pack-reads.Learnt,
+  put-reads.Asked,
+  put-reads.Learnt,
+  emit-kids-below t,
+  emit-kids.Post,
+  kids-reads.Asked,
+  kids-reads.Learnt,
+  emit-form-below t,
+  emit-form.Post,
+  params-reads.Asked,
+  params-reads.Learnt,
+  emit-surplus-below t,
+  emit-surplus.Post,
+) (emit-name-at t) emit-name.Post
+emit-name-state-requires t c κs =
+    let a = c .before .before .before .before .before .before .before .args in
+    let p = c .before .before .before .before .before .before .before .pre in
+    omega (arith, c .decl-of .ensures, place-few (a .s .now) (p .1 .0 .0 .tabled .passed) (c .before .type-number .result))
+
+emit-name-returns : (t : ℕ) → emit-name-lts.Need-returns (
+  type-number-reads.Asked,
+  type-number-reads.Learnt,
+  decl-of-reads.Asked,
+  decl-of-reads.Learnt,
+  state-reads.Asked,
+  state-reads.Learnt,
+  pack-reads.Asked,
+  pack-reads.Learnt,
+  put-reads.Asked,
+  put-reads.Learnt,
+  emit-kids-below t,
+  emit-kids.Post,
+  kids-reads.Asked,
+  kids-reads.Learnt,
+  emit-form-below t,
+  emit-form.Post,
+  params-reads.Asked,
+  params-reads.Learnt,
+  emit-surplus-below t,
+  emit-surplus.Post,
+) (emit-name-at t) emit-name.Post
+emit-name-returns t c =
+    let a = c .before .before .before .before .before .before .before .before .before .before .before .before .before .before .args in
+    let p = c .before .before .before .before .before .before .before .before .before .before .before .before .before .before .pre in
+    put-gone (a .s .now) (p .1 .0 .0 .tabled .passed) (a .u .now) (a .f .now) (a .d) (a .places) (a .y) (p .1 .0 .0 .type) (a .out .now) (a .at) (p .1 .0 .1) (p .1 .1) (c .before .before .before .before .before .before .before .before .type-number .result) (c .before .before .before .before .before .before .before .decl-of .result) (c .before .before .before .before .before .before .state .result) (c .before .before .before .before .before .before .before .before .type-number .ensures) (c .before .before .before .before .before .before .before .decl-of .ensures) (c .before .before .before .before .before .before .state .ensures) _ _ _ (c .before .before .before .before .before .if1 .taken) (c .before .before .before .pack .ensures) (c .before .before .put .ensures)
+
+emit-name-returns-2 : (t : ℕ) → emit-name-lts.Need-returns-2 (
+  type-number-reads.Asked,
+  type-number-reads.Learnt,
+  decl-of-reads.Asked,
+  decl-of-reads.Learnt,
+  state-reads.Asked,
+  state-reads.Learnt,
+  pack-reads.Asked,
+  pack-reads.Learnt,
+  put-reads.Asked,
+  put-reads.Learnt,
+  emit-kids-below t,
+  emit-kids.Post,
+  kids-reads.Asked,
+  kids-reads.Learnt,
+  emit-form-below t,
+  emit-form.Post,
+  params-reads.Asked,
+  params-reads.Learnt,
+  emit-surplus-below t,
+  emit-surplus.Post,
+) (emit-name-at t) emit-name.Post
+emit-name-returns-2 t c =
+    let a = c .before .before .before .before .before .before .before .before .before .before .before .before .before .before .before .args in
+    let p = c .before .before .before .before .before .before .before .before .before .before .before .before .before .before .before .pre in
+    stop-stays (a .s .now) (p .1 .0 .0 .tabled .passed) (a .u .now) (a .f .now) (a .d) (a .places) (a .y) (p .1 .0 .0 .type) (a .out .now) (a .at) (p .1 .0 .1) (p .1 .1) (c .before .before .before .before .before .before .before .before .before .type-number .result) (c .before .before .before .before .before .before .before .before .decl-of .result) (c .before .before .before .before .before .before .before .state .result) (c .before .before .before .before .before .before .before .before .before .type-number .ensures) (c .before .before .before .before .before .before .before .before .decl-of .ensures) (c .before .before .before .before .before .before .before .state .ensures) _ _ (omega (arith, c .before .before .before .before .before .if2 .taken)) (omega (arith, c .if3 .taken, c .before .before .before .emit-kids .ensures .long)) (c .before .before .before .emit-kids .ensures)
+
+emit-name-cast-pack : (t : ℕ) → emit-name-lts.Need-cast-pack (
+  type-number-reads.Asked,
+  type-number-reads.Learnt,
+  decl-of-reads.Asked,
+  decl-of-reads.Learnt,
+  state-reads.Asked,
+  state-reads.Learnt,
+  pack-reads.Asked,
+  pack-reads.Learnt,
+  put-reads.Asked,
+  put-reads.Learnt,
+  emit-kids-below t,
+  emit-kids.Post,
+  kids-reads.Asked,
+  kids-reads.Learnt,
+  emit-form-below t,
+  emit-form.Post,
+  params-reads.Asked,
+  params-reads.Learnt,
+  emit-surplus-below t,
+  emit-surplus.Post,
+) (emit-name-at t) emit-name.Post
+emit-name-cast-pack t c =
+    let a = c .before .before .before .before .before .before .before .before .before .before .before .before .before .before .before .before .before .args in
+    let p = c .before .before .before .before .before .before .before .before .before .before .before .before .before .before .before .before .before .pre in
+    omega (arith, c .kids .ensures, name-kids (a .s .now) (p .1 .0 .0 .tabled .passed) (a .y) (p .1 .0 .0 .type) (p .1 .1))
+
+emit-name-returns-3 : (t : ℕ) → emit-name-lts.Need-returns-3 (
+  type-number-reads.Asked,
+  type-number-reads.Learnt,
+  decl-of-reads.Asked,
+  decl-of-reads.Learnt,
+  state-reads.Asked,
+  state-reads.Learnt,
+  pack-reads.Asked,
+  pack-reads.Learnt,
+  put-reads.Asked,
+  put-reads.Learnt,
+  emit-kids-below t,
+  emit-kids.Post,
+  kids-reads.Asked,
+  kids-reads.Learnt,
+  emit-form-below t,
+  emit-form.Post,
+  params-reads.Asked,
+  params-reads.Learnt,
+  emit-surplus-below t,
+  emit-surplus.Post,
+) (emit-name-at t) emit-name.Post
+emit-name-returns-3 t c =
+    let a = c .before .before .before .before .before .before .before .before .before .before .before .before .before .before .before .before .before .before .before .before .before .args in
+    let p = c .before .before .before .before .before .before .before .before .before .before .before .before .before .before .before .before .before .before .before .before .before .pre in
+    put-stays (a .s .now) (p .1 .0 .0 .tabled .passed) (a .u .now) (a .f .now) (a .d) (a .places) (a .y) (p .1 .0 .0 .type) (a .out .now) (a .at) (p .1 .0 .1) (p .1 .1) (c .before .before .before .before .before .before .before .before .before .before .before .before .before .before .before .type-number .result) (c .before .before .before .before .before .before .before .before .before .before .before .before .before .before .decl-of .result) (c .before .before .before .before .before .before .before .before .before .before .before .before .before .state .result) (c .before .before .before .before .before .before .before .before .before .before .before .before .before .before .before .type-number .ensures) (c .before .before .before .before .before .before .before .before .before .before .before .before .before .before .decl-of .ensures) (c .before .before .before .before .before .before .before .before .before .before .before .before .before .state .ensures) (c .before .before .before .before .kids .result) _ _ _ _ _ (omega (arith, c .before .before .before .before .before .before .before .before .before .before .before .if2 .taken)) (omega (arith, c .before .before .before .before .before .before .if3 .left, c .before .before .before .before .before .before .before .before .before .emit-kids .ensures .long)) (c .before .before .before .before .before .before .before .before .before .emit-kids .ensures) (c .before .before .before .before .kids .ensures) (c .before .before .before .pack2 .ensures) (c .before .before .put2 .ensures)
+
+emit-name-emit-form-requires : (t : ℕ) → emit-name-lts.Need-emit-form-requires (
+  type-number-reads.Asked,
+  type-number-reads.Learnt,
+  decl-of-reads.Asked,
+  decl-of-reads.Learnt,
+  state-reads.Asked,
+  state-reads.Learnt,
+  pack-reads.Asked,
+  pack-reads.Learnt,
+  put-reads.Asked,
+  put-reads.Learnt,
+  emit-kids-below t,
+  emit-kids.Post,
+  kids-reads.Asked,
+  kids-reads.Learnt,
+  emit-form-below t,
+  emit-form.Post,
+  params-reads.Asked,
+  params-reads.Learnt,
+  emit-surplus-below t,
+  emit-surplus.Post,
+) (emit-name-at t) emit-name.Post
+emit-name-emit-form-requires t c κs =
+    let a = c .before .before .before .before .before .before .before .before .before .before .before .args in
+    let p = c .before .before .before .before .before .before .before .before .before .before .before .pre in
+    (omega (arith, p .0), (p .1 .0 .0, p .1 .0 .1, state-below (a .u .now) (c .before .before .before .before .decl-of .result) (c .before .before .before .state .result) _ (c .before .before .before .state .ensures) (omega (arith, c .before .if2 .left)) (p .1 .0 .0 .states)))
+
+emit-name-returns-4 : (t : ℕ) → emit-name-lts.Need-returns-4 (
+  type-number-reads.Asked,
+  type-number-reads.Learnt,
+  decl-of-reads.Asked,
+  decl-of-reads.Learnt,
+  state-reads.Asked,
+  state-reads.Learnt,
+  pack-reads.Asked,
+  pack-reads.Learnt,
+  put-reads.Asked,
+  put-reads.Learnt,
+  emit-kids-below t,
+  emit-kids.Post,
+  kids-reads.Asked,
+  kids-reads.Learnt,
+  emit-form-below t,
+  emit-form.Post,
+  params-reads.Asked,
+  params-reads.Learnt,
+  emit-surplus-below t,
+  emit-surplus.Post,
+) (emit-name-at t) emit-name.Post
+emit-name-returns-4 t c =
+    let a = c .before .before .before .before .before .before .before .before .before .before .before .before .before .before .before .args in
+    let p = c .before .before .before .before .before .before .before .before .before .before .before .before .before .before .before .pre in
+    stop-form (a .s .now) (p .1 .0 .0 .tabled .passed) (a .u .now) (a .f .now) (a .d) (a .places) (a .y) (p .1 .0 .0 .type) (a .out .now) (a .at) (p .1 .0 .1) (p .1 .1) (c .before .before .before .before .before .before .before .before .before .type-number .result) (c .before .before .before .before .before .before .before .before .decl-of .result) (c .before .before .before .before .before .before .before .state .result) (c .before .before .before .before .before .before .before .before .before .type-number .ensures) (c .before .before .before .before .before .before .before .before .decl-of .ensures) (c .before .before .before .before .before .before .before .state .ensures) (λ e. c .before .before .before .before .before .before .if1 .left e) (omega (arith, c .before .before .before .before .before .if2 .left)) _ _ (omega (arith, c .if4 .taken, c .before .before .before .emit-form .ensures .long)) (c .before .before .before .emit-form .ensures)
+
+emit-name-params-requires : (t : ℕ) → emit-name-lts.Need-params-requires (
+  type-number-reads.Asked,
+  type-number-reads.Learnt,
+  decl-of-reads.Asked,
+  decl-of-reads.Learnt,
+  state-reads.Asked,
+  state-reads.Learnt,
+  pack-reads.Asked,
+  pack-reads.Learnt,
+  put-reads.Asked,
+  put-reads.Learnt,
+  emit-kids-below t,
+  emit-kids.Post,
+  kids-reads.Asked,
+  kids-reads.Learnt,
+  emit-form-below t,
+  emit-form.Post,
+  params-reads.Asked,
+  params-reads.Learnt,
+  emit-surplus-below t,
+  emit-surplus.Post,
+) (emit-name-at t) emit-name.Post
+emit-name-params-requires t c κs =
+    let a = c .before .before .before .before .before .before .before .before .before .before .before .before .before .before .before .args in
+    let p = c .before .before .before .before .before .before .before .before .before .before .before .before .before .before .before .pre in
+    (p .1 .0 .0 .tabled, state-below (a .u .now) (c .before .before .before .before .before .before .before .before .decl-of .result) (c .before .before .before .before .before .before .before .state .result) _ (c .before .before .before .before .before .before .before .state .ensures) (omega (arith, c .before .before .before .before .before .if2 .left)) (p .1 .0 .0 .states))
+
+emit-name-returns-5 : (t : ℕ) → emit-name-lts.Need-returns-5 (
+  type-number-reads.Asked,
+  type-number-reads.Learnt,
+  decl-of-reads.Asked,
+  decl-of-reads.Learnt,
+  state-reads.Asked,
+  state-reads.Learnt,
+  pack-reads.Asked,
+  pack-reads.Learnt,
+  put-reads.Asked,
+  put-reads.Learnt,
+  emit-kids-below t,
+  emit-kids.Post,
+  kids-reads.Asked,
+  kids-reads.Learnt,
+  emit-form-below t,
+  emit-form.Post,
+  params-reads.Asked,
+  params-reads.Learnt,
+  emit-surplus-below t,
+  emit-surplus.Post,
+) (emit-name-at t) emit-name.Post
+emit-name-returns-5 t c =
+    let a = c .before .before .before .before .before .before .before .before .before .before .before .before .before .before .before .before .before .before .args in
+    let p = c .before .before .before .before .before .before .before .before .before .before .before .before .before .before .before .before .before .before .pre in
+    put-form (a .s .now) (p .1 .0 .0 .tabled .passed) (a .u .now) (a .f .now) (a .d) (a .places) (a .y) (p .1 .0 .0 .type) (a .out .now) (a .at) (p .1 .0 .1) (p .1 .1) (c .before .before .before .before .before .before .before .before .before .before .before .before .type-number .result) (c .before .before .before .before .before .before .before .before .before .before .before .decl-of .result) (c .before .before .before .before .before .before .before .before .before .before .state .result) (c .before .before .before .before .before .before .before .before .before .before .before .before .type-number .ensures) (c .before .before .before .before .before .before .before .before .before .before .before .decl-of .ensures) (c .before .before .before .before .before .before .before .before .before .before .state .ensures) (λ e. c .before .before .before .before .before .before .before .before .before .if1 .left e) (omega (arith, c .before .before .before .before .before .before .before .before .if2 .left)) _ _ (omega (arith, c .if5 .taken, c .before .kids2 .ensures, c .before .before .params .ensures)) (c .before .before .before .before .before .before .emit-form .ensures)
+
+emit-name-emit-surplus-requires : (t : ℕ) → emit-name-lts.Need-emit-surplus-requires (
+  type-number-reads.Asked,
+  type-number-reads.Learnt,
+  decl-of-reads.Asked,
+  decl-of-reads.Learnt,
+  state-reads.Asked,
+  state-reads.Learnt,
+  pack-reads.Asked,
+  pack-reads.Learnt,
+  put-reads.Asked,
+  put-reads.Learnt,
+  emit-kids-below t,
+  emit-kids.Post,
+  kids-reads.Asked,
+  kids-reads.Learnt,
+  emit-form-below t,
+  emit-form.Post,
+  params-reads.Asked,
+  params-reads.Learnt,
+  emit-surplus-below t,
+  emit-surplus.Post,
+) (emit-name-at t) emit-name.Post
+emit-name-emit-surplus-requires t c κs =
+    let a = c .before .before .before .before .before .before .before .before .before .before .before .before .before .before .before .before .before .before .before .args in
+    let p = c .before .before .before .before .before .before .before .before .before .before .before .before .before .before .before .before .before .before .before .pre in
+    (omega (arith, p .0), ((p .1 .0 .0, omega (arith, c .before .before .before .before .before .before .before .emit-form .ensures .room (omega (arith, c .before .before .before .before .if4 .left, c .before .before .before .before .before .before .before .emit-form .ensures .long)) .0), omega (arith, c .before .before .before .before .if4 .left), omega (arith, c .before .if5 .left, c .before .before .kids2 .ensures)), p .1 .1))
+
+emit-name-returns-6 : (t : ℕ) → emit-name-lts.Need-returns-6 (
+  type-number-reads.Asked,
+  type-number-reads.Learnt,
+  decl-of-reads.Asked,
+  decl-of-reads.Learnt,
+  state-reads.Asked,
+  state-reads.Learnt,
+  pack-reads.Asked,
+  pack-reads.Learnt,
+  put-reads.Asked,
+  put-reads.Learnt,
+  emit-kids-below t,
+  emit-kids.Post,
+  kids-reads.Asked,
+  kids-reads.Learnt,
+  emit-form-below t,
+  emit-form.Post,
+  params-reads.Asked,
+  params-reads.Learnt,
+  emit-surplus-below t,
+  emit-surplus.Post,
+) (emit-name-at t) emit-name.Post
+emit-name-returns-6 t c =
+    let a = c .before .before .before .before .before .before .before .before .before .before .before .before .before .before .before .before .before .before .before .before .before .before .args in
+    let p = c .before .before .before .before .before .before .before .before .before .before .before .before .before .before .before .before .before .before .before .before .before .before .pre in
+    put-surplus (a .s .now) (p .1 .0 .0 .tabled .passed) (a .u .now) (a .f .now) (a .d) (a .places) (a .y) (p .1 .0 .0 .type) (a .out .now) (a .at) (p .1 .0 .1) (p .1 .1) (c .before .before .before .before .before .before .before .before .before .before .before .before .before .before .before .before .type-number .result) (c .before .before .before .before .before .before .before .before .before .before .before .before .before .before .before .decl-of .result) (c .before .before .before .before .before .before .before .before .before .before .before .before .before .before .state .result) (c .before .before .before .before .before .before .before .before .before .before .before .before .before .before .before .before .type-number .ensures) (c .before .before .before .before .before .before .before .before .before .before .before .before .before .before .before .decl-of .ensures) (c .before .before .before .before .before .before .before .before .before .before .before .before .before .before .state .ensures) (λ e. c .before .before .before .before .before .before .before .before .before .before .before .before .before .if1 .left e) (omega (arith, c .before .before .before .before .before .before .before .before .before .before .before .before .if2 .left)) (c .before .before .before .before .before .before .params .result) (c .before .before .before .before .before .before .before .before .before .before .emit-form .result) _ _ _ (c .before .before .before .before .before .before .params .ensures) (omega (arith, c .before .before .before .before .before .before .before .if4 .left, c .before .before .before .before .before .before .before .before .before .before .emit-form .ensures .long)) (c .before .before .before .before .before .before .before .before .before .before .emit-form .ensures) (c .before .before .emit-surplus .ensures)
+
+emit-node-returns : (t : ℕ) → emit-node-lts.Need-returns (
+  kind-reads.Asked,
+  kind-reads.Learnt,
+  count-reads.Asked,
+  count-reads.Learnt,
+  own-reads.Asked,
+  own-reads.Learnt,
+  pack-reads.Asked,
+  pack-reads.Learnt,
+  put-reads.Asked,
+  put-reads.Learnt,
+  kids-reads.Asked,
+  kids-reads.Learnt,
+  kid-reads.Asked,
+  kid-reads.Learnt,
+  emit-below t,
+  emit.Post,
+) (emit-node-at t) emit-node.Post
+emit-node-returns t c =
+    let a = c .before .before .before .before .before .before .before .before .before .before .before .before .before .before .args in
+    let p = c .before .before .before .before .before .before .before .before .before .before .before .before .before .before .pre in
+    put-same _ _ _ _ _ _ (step-other (kid-words (lines 6 (a .s .now)) (a .u .now) (a .f .now) (a .d) (a .places) (a .y)) (kids-of (lines 6 (a .s .now)) (a .y)) (a .w) _ _ _ _ (c .before .before .before .before .before .before .before .before .kind .ensures) (c .before .before .before .before .before .count .ensures) (c .before .before .before .before .own .ensures) (c .before .before .before .before .before .before .before .if1 .taken) (c .before .before .before .pack .ensures)) (c .before .before .put .ensures)
+
+emit-node-returns-2 : (t : ℕ) → emit-node-lts.Need-returns-2 (
+  kind-reads.Asked,
+  kind-reads.Learnt,
+  count-reads.Asked,
+  count-reads.Learnt,
+  own-reads.Asked,
+  own-reads.Learnt,
+  pack-reads.Asked,
+  pack-reads.Learnt,
+  put-reads.Asked,
+  put-reads.Learnt,
+  kids-reads.Asked,
+  kids-reads.Learnt,
+  kid-reads.Asked,
+  kid-reads.Learnt,
+  emit-below t,
+  emit.Post,
+) (emit-node-at t) emit-node.Post
+emit-node-returns-2 t c =
+    let a = c .before .before .before .before .before .before .before .before .before .before .before .before .before .before .before .args in
+    let p = c .before .before .before .before .before .before .before .before .before .before .before .before .before .before .before .pre in
+    put-same _ _ _ _ _ _ (step-past (kid-words (lines 6 (a .s .now)) (a .u .now) (a .f .now) (a .d) (a .places) (a .y)) (kids-of (lines 6 (a .s .now)) (a .y)) (a .w) _ _ _ (c .before .before .before .before .before .before .before .before .before .kind .ensures) (c .before .before .before .before .before .before .before .own2 .ensures) (c .before .before .before .before .before .before .before .before .if1 .left) (omega (arith, c .before .before .before .before .before .if2 .taken, c .before .before .before .before .before .before .kids .ensures)) (c .before .before .before .pack2 .ensures)) (c .before .before .put2 .ensures)
+
+emit-node-kid-requires : (t : ℕ) → emit-node-lts.Need-kid-requires (
+  kind-reads.Asked,
+  kind-reads.Learnt,
+  count-reads.Asked,
+  count-reads.Learnt,
+  own-reads.Asked,
+  own-reads.Learnt,
+  pack-reads.Asked,
+  pack-reads.Learnt,
+  put-reads.Asked,
+  put-reads.Learnt,
+  kids-reads.Asked,
+  kids-reads.Learnt,
+  kid-reads.Asked,
+  kid-reads.Learnt,
+  emit-below t,
+  emit.Post,
+) (emit-node-at t) emit-node.Post
+emit-node-kid-requires t c κs =
+    let a = c .before .before .before .before .before .before .before .before .before .before .args in
+    let p = c .before .before .before .before .before .before .before .before .before .before .pre in
+    (p .1 .0 .tabled, (p .1 .0 .type, omega (arith, c .if2 .left, c .before .kids .ensures)))
+
+emit-node-emit-requires : (t : ℕ) → emit-node-lts.Need-emit-requires (
+  kind-reads.Asked,
+  kind-reads.Learnt,
+  count-reads.Asked,
+  count-reads.Learnt,
+  own-reads.Asked,
+  own-reads.Learnt,
+  pack-reads.Asked,
+  pack-reads.Learnt,
+  put-reads.Asked,
+  put-reads.Learnt,
+  kids-reads.Asked,
+  kids-reads.Learnt,
+  kid-reads.Asked,
+  kid-reads.Learnt,
+  emit-below t,
+  emit.Post,
+) (emit-node-at t) emit-node.Post
+emit-node-emit-requires t c κs =
+    let a = c .before .before .before .before .before .before .before .before .before .before .before .before .args in
+    let p = c .before .before .before .before .before .before .before .before .before .before .before .before .pre in
+    let q = asked-kid (a .s .now) (a .t .now) (a .u .now) (a .f .now) (a .y) (a .d) (c .before .before .before .before .own2 .result) (c .before .kid .result) (p .1 .0) (omega (arith, c .before .before .if2 .left, c .before .before .before .kids .ensures)) (c .before .kid .ensures) in
+    (omega (arith, p .0, q .0), (q .1, p .1 .1))
+
+emit-node-returns-3 : (t : ℕ) → emit-node-lts.Need-returns-3 (
+  kind-reads.Asked,
+  kind-reads.Learnt,
+  count-reads.Asked,
+  count-reads.Learnt,
+  own-reads.Asked,
+  own-reads.Learnt,
+  pack-reads.Asked,
+  pack-reads.Learnt,
+  put-reads.Asked,
+  put-reads.Learnt,
+  kids-reads.Asked,
+  kids-reads.Learnt,
+  kid-reads.Asked,
+  kid-reads.Learnt,
+  emit-below t,
+  emit.Post,
+) (emit-node-at t) emit-node.Post
+emit-node-returns-3 t c =
+    let a = c .before .before .before .before .before .before .before .before .before .before .before .before .before .before .before .args in
+    let p = c .before .before .before .before .before .before .before .before .before .before .before .before .before .before .before .pre in
+    put-same _ _ _ _ _ _ (ap (λ (i : ℕ). words (lines 6 (a .s .now)) (a .u .now) (a .f .now) (a .d) (a .places) i) (c .before .before .before .before .kid .ensures) ∙ step-arg (kid-words (lines 6 (a .s .now)) (a .u .now) (a .f .now) (a .d) (a .places) (a .y)) (kids-of (lines 6 (a .s .now)) (a .y)) (a .w) _ _ (c .before .before .before .before .before .before .before .before .before .kind .ensures) (c .before .before .before .before .before .before .before .own2 .ensures) (c .before .before .before .before .before .before .before .before .if1 .left) (omega (arith, c .before .before .before .before .before .if2 .left, c .before .before .before .before .before .before .kids .ensures))) (c .before .before .emit .ensures)
+
+emit-surplus-returns : (t : ℕ) → emit-surplus-lts.Need-returns (
+  kind-reads.Asked,
+  kind-reads.Learnt,
+  kids-reads.Asked,
+  kids-reads.Learnt,
+  emit-kids-below t,
+  emit-kids.Post,
+  count-reads.Asked,
+  count-reads.Learnt,
+  own-reads.Asked,
+  own-reads.Learnt,
+  pack-reads.Asked,
+  pack-reads.Learnt,
+  put-reads.Asked,
+  put-reads.Learnt,
+) (emit-surplus-at t) emit-surplus.Post
+emit-surplus-returns t c =
+    let a = c .before .before .before .before .before .before .args in
+    let p = c .before .before .before .before .before .before .pre in
+    surplus-none (a .out .now) (a .at) (a .r) (kids-of (lines 6 (a .s .now)) (a .y) - a .k) (run (kid-words (lines 6 (a .s .now)) (a .u .now) (a .f .now) (a .d) (a .places) (a .y)) (a .k) (kids-of (lines 6 (a .s .now)) (a .y) - a .k)) (c .if1 .taken) (omega (arith, p .1 .0 .1, p .1 .0 .2))
+
+emit-surplus-returns-2 : (t : ℕ) → emit-surplus-lts.Need-returns-2 (
+  kind-reads.Asked,
+  kind-reads.Learnt,
+  kids-reads.Asked,
+  kids-reads.Learnt,
+  emit-kids-below t,
+  emit-kids.Post,
+  count-reads.Asked,
+  count-reads.Learnt,
+  own-reads.Asked,
+  own-reads.Learnt,
+  pack-reads.Asked,
+  pack-reads.Learnt,
+  put-reads.Asked,
+  put-reads.Learnt,
+) (emit-surplus-at t) emit-surplus.Post
+emit-surplus-returns-2 t c =
+    let a = c .before .before .before .before .before .before .before .before .before .args in
+    let p = c .before .before .before .before .before .before .before .before .before .pre in
+    surplus-kept (a .out .now) (a .at) (a .r) (kids-of (lines 6 (a .s .now)) (a .y) - a .k) (run (kid-words (lines 6 (a .s .now)) (a .u .now) (a .f .now) (a .d) (a .places) (a .y)) (a .k) (kids-of (lines 6 (a .s .now)) (a .y) - a .k)) (below (a .at) (a .r) (p .1 .0 .1) (c .before .before .before .if1 .left)) (p .1 .0 .2) (λ e. c .if2 .taken (c .before .kind .ensures ∙ e))
+
+emit-surplus-emit-kids-requires : (t : ℕ) → emit-surplus-lts.Need-emit-kids-requires (
+  kind-reads.Asked,
+  kind-reads.Learnt,
+  kids-reads.Asked,
+  kids-reads.Learnt,
+  emit-kids-below t,
+  emit-kids.Post,
+  count-reads.Asked,
+  count-reads.Learnt,
+  own-reads.Asked,
+  own-reads.Learnt,
+  pack-reads.Asked,
+  pack-reads.Learnt,
+  put-reads.Asked,
+  put-reads.Learnt,
+) (emit-surplus-at t) emit-surplus.Post
+emit-surplus-emit-kids-requires t c κs =
+    let a = c .before .before .before .before .before .before .before .before .before .before .before .args in
+    let p = c .before .before .before .before .before .before .before .before .before .before .before .pre in
+    (omega (arith, p .0), (p .1 .0 .0, omega (arith, p .1 .0 .2), p .1 .0 .3))
+
+emit-surplus-returns-3 : (t : ℕ) → emit-surplus-lts.Need-returns-3 (
+  kind-reads.Asked,
+  kind-reads.Learnt,
+  kids-reads.Asked,
+  kids-reads.Learnt,
+  emit-kids-below t,
+  emit-kids.Post,
+  count-reads.Asked,
+  count-reads.Learnt,
+  own-reads.Asked,
+  own-reads.Learnt,
+  pack-reads.Asked,
+  pack-reads.Learnt,
+  put-reads.Asked,
+  put-reads.Learnt,
+) (emit-surplus-at t) emit-surplus.Post
+emit-surplus-returns-3 t c =
+    let a = c .before .before .before .before .before .before .before .before .before .before .before .before .before .before .before .args in
+    let p = c .before .before .before .before .before .before .before .before .before .before .before .before .before .before .before .pre in
+    surplus-stop (a .out .now) (a .at) (a .r) (kids-of (lines 6 (a .s .now)) (a .y) - a .k) (run (kid-words (lines 6 (a .s .now)) (a .u .now) (a .f .now) (a .d) (a .places) (a .y)) (a .k) (kids-of (lines 6 (a .s .now)) (a .y) - a .k)) (below (a .at) (a .r) (p .1 .0 .1) (c .before .before .before .before .before .before .before .before .before .if1 .left)) (p .1 .0 .2) _ _ (sym (c .before .before .before .before .before .before .before .kind .ensures) ∙ c .before .before .before .before .before .before .if2 .left) (omega (arith, c .if3 .taken, c .before .before .before .emit-kids .ensures .long)) (c .before .before .before .emit-kids .ensures)
+
+emit-surplus-cast-pack : (t : ℕ) → emit-surplus-lts.Need-cast-pack (
+  kind-reads.Asked,
+  kind-reads.Learnt,
+  kids-reads.Asked,
+  kids-reads.Learnt,
+  emit-kids-below t,
+  emit-kids.Post,
+  count-reads.Asked,
+  count-reads.Learnt,
+  own-reads.Asked,
+  own-reads.Learnt,
+  pack-reads.Asked,
+  pack-reads.Learnt,
+  put-reads.Asked,
+  put-reads.Learnt,
+) (emit-surplus-at t) emit-surplus.Post
+emit-surplus-cast-pack t c =
+    let a = c .before .before .before .before .before .before .before .before .before .before .before .before .before .before .before .before .before .args in
+    let p = c .before .before .before .before .before .before .before .before .before .before .before .before .before .before .before .before .before .pre in
+    omega (arith, c .before .before .before .before .before .before .before .kids .ensures, name-kids (a .s .now) (p .1 .0 .0 .tabled .passed) (a .y) (p .1 .0 .0 .type) (p .1 .1))
+
+emit-surplus-add-pack : (t : ℕ) → emit-surplus-lts.Need-add-pack (
+  kind-reads.Asked,
+  kind-reads.Learnt,
+  kids-reads.Asked,
+  kids-reads.Learnt,
+  emit-kids-below t,
+  emit-kids.Post,
+  count-reads.Asked,
+  count-reads.Learnt,
+  own-reads.Asked,
+  own-reads.Learnt,
+  pack-reads.Asked,
+  pack-reads.Learnt,
+  put-reads.Asked,
+  put-reads.Learnt,
+) (emit-surplus-at t) emit-surplus.Post
+emit-surplus-add-pack t c =
+    let a = c .before .before .before .before .before .before .before .before .before .before .before .before .before .before .before .before .before .args in
+    let p = c .before .before .before .before .before .before .before .before .before .before .before .before .before .before .before .before .before .pre in
+    omega (arith, c .before .before .before .before .before .before .before .kids .ensures, name-kids (a .s .now) (p .1 .0 .0 .tabled .passed) (a .y) (p .1 .0 .0 .type) (p .1 .1), c .count .ensures, count-few (getD (a .out .now) (a .r - 1) 0))
+
+emit-surplus-returns-4 : (t : ℕ) → emit-surplus-lts.Need-returns-4 (
+  kind-reads.Asked,
+  kind-reads.Learnt,
+  kids-reads.Asked,
+  kids-reads.Learnt,
+  emit-kids-below t,
+  emit-kids.Post,
+  count-reads.Asked,
+  count-reads.Learnt,
+  own-reads.Asked,
+  own-reads.Learnt,
+  pack-reads.Asked,
+  pack-reads.Learnt,
+  put-reads.Asked,
+  put-reads.Learnt,
+) (emit-surplus-at t) emit-surplus.Post
+emit-surplus-returns-4 t c =
+    let a = c .before .before .before .before .before .before .before .before .before .before .before .before .before .before .before .before .before .before .before .before .before .before .args in
+    let p = c .before .before .before .before .before .before .before .before .before .before .before .before .before .before .before .before .before .before .before .before .before .before .pre in
+    surplus-put (a .out .now) (a .at) (a .r) (kids-of (lines 6 (a .s .now)) (a .y) - a .k) (run (kid-words (lines 6 (a .s .now)) (a .u .now) (a .f .now) (a .d) (a .places) (a .y)) (a .k) (kids-of (lines 6 (a .s .now)) (a .y) - a .k)) (below (a .at) (a .r) (p .1 .0 .1) (c .before .before .before .before .before .before .before .before .before .before .before .before .before .before .before .before .if1 .left)) (p .1 .0 .2) _ _ _ _ _ (sym (c .before .before .before .before .before .before .before .before .before .before .before .before .before .before .kind .ensures) ∙ c .before .before .before .before .before .before .before .before .before .before .before .before .before .if2 .left) (omega (arith, c .before .before .before .before .before .before .before .if3 .left, c .before .before .before .before .before .before .before .before .before .before .emit-kids .ensures .long)) (c .before .before .before .pack .ensures ∙ grown-word _ _ _ _ _ _ (c .before .before .before .before .before .count .ensures) (c .before .before .before .before .own .ensures) (ap (λ (i : ℕ). i - a .k) (c .before .before .before .before .before .before .before .before .before .before .before .before .kids .ensures))) (c .before .before .before .before .before .before .before .before .before .before .emit-kids .ensures) (c .before .before .put .ensures)
+
+pub +emit+emit-form+emit-kids+emit-name+emit-node+emit-surplus-spec : {M : Type 1} → statement M
++emit+emit-form+emit-kids+emit-name+emit-node+emit-surplus-spec =
+    close
+    μ-emit
+    μ-emit-form
+    μ-emit-kids
+    μ-emit-name
+    μ-emit-node
+    μ-emit-surplus
+    (λ t. emit-lts.spec (
+      type-number-reads.Asked,
+      type-number-reads.Learnt,
+      variable-word-reads.Asked,
+      variable-word-reads.Learnt,
+      put-reads.Asked,
+      put-reads.Learnt,
+      emit-name-below t,
+      emit-name.Post,
+      emit-kids-below t,
+      emit-kids.Post,
+      own-word-reads.Asked,
+      own-word-reads.Learnt,
+    )
+    (emit-at t)
+    emit.Post
+    (λ c κs. search needs)
+    (λ c κs. search needs)
+    (λ c κs. search needs)
+    (λ c κs. search needs)
+    (λ c. search needs)
+    (emit-returns t)
+    (λ c κs. search needs)
+    (λ c. search needs)
+    (emit-returns-2 t)
+    (λ c κs. search needs)
+    (λ c. search needs)
+    (emit-returns-3 t)
+    (λ c κs. search needs)
+    (λ c κs. search needs)
+    (λ c. search needs)
+    (emit-returns-4 t))
+    (λ t. emit-form-lts.spec
+    (emit-node-below t, emit-node.Post)
+    (emit-form-at t)
+    emit-form.Post
+    emit-form-Inv-loop
+    emit-form-μ-loop
+    (λ c. search needs)
+    (λ c. search needs)
+    (λ c. search needs)
+    (λ c. search needs)
+    (λ c. search needs)
+    (λ c. search needs)
+    (λ c. search needs)
+    (emit-form-loop-holds t)
+    (emit-form-add-emit-node t)
+    (emit-form-mul-emit-node t)
+    (emit-form-shared-slice-read-emit-node t)
+    (emit-form-emit-node-requires t)
+    (emit-form-same-length t)
+    (emit-form-returns t)
+    (emit-form-add-i t)
+    (emit-form-loop-less t)
+    (emit-form-loop-again t)
+    (emit-form-same-length-2 t)
+    (emit-form-returns-2 t))
+    (λ t. emit-kids-lts.spec (
+      kids-reads.Asked,
+      kids-reads.Learnt,
+      kid-reads.Asked,
+      kid-reads.Learnt,
+      emit-below t,
+      emit.Post,
+    )
+    (emit-kids-at t)
+    emit-kids.Post
+    emit-kids-Inv-loop
+    emit-kids-μ-loop
+    (λ c κs. search needs)
+    (emit-kids-loop-holds t)
+    (emit-kids-kid-requires t)
+    (emit-kids-emit-requires t)
+    (emit-kids-same-length t)
+    (emit-kids-returns t)
+    (emit-kids-add-i t)
+    (emit-kids-loop-less t)
+    (emit-kids-loop-again t)
+    (emit-kids-same-length-2 t)
+    (emit-kids-returns-2 t))
+    (λ t. emit-name-lts.spec (
+      type-number-reads.Asked,
+      type-number-reads.Learnt,
+      decl-of-reads.Asked,
+      decl-of-reads.Learnt,
+      state-reads.Asked,
+      state-reads.Learnt,
+      pack-reads.Asked,
+      pack-reads.Learnt,
+      put-reads.Asked,
+      put-reads.Learnt,
+      emit-kids-below t,
+      emit-kids.Post,
+      kids-reads.Asked,
+      kids-reads.Learnt,
+      emit-form-below t,
+      emit-form.Post,
+      params-reads.Asked,
+      params-reads.Learnt,
+      emit-surplus-below t,
+      emit-surplus.Post,
+    )
+    (emit-name-at t)
+    emit-name.Post
+    (λ c κs. search needs)
+    (λ c. search needs)
+    (emit-name-decl-of-requires t)
+    (emit-name-state-requires t)
+    (λ c κs. search needs)
+    (λ c κs. search needs)
+    (λ c. search needs)
+    (emit-name-returns t)
+    (λ c κs. search needs)
+    (λ c. search needs)
+    (emit-name-returns-2 t)
+    (λ c κs. search needs)
+    (emit-name-cast-pack t)
+    (λ c κs. search needs)
+    (λ c κs. search needs)
+    (λ c. search needs)
+    (emit-name-returns-3 t)
+    (emit-name-emit-form-requires t)
+    (λ c. search needs)
+    (emit-name-returns-4 t)
+    (emit-name-params-requires t)
+    (λ c κs. search needs)
+    (λ c. search needs)
+    (emit-name-returns-5 t)
+    (emit-name-emit-surplus-requires t)
+    (λ c. search needs)
+    (emit-name-returns-6 t))
+    (λ t. emit-node-lts.spec (
+      kind-reads.Asked,
+      kind-reads.Learnt,
+      count-reads.Asked,
+      count-reads.Learnt,
+      own-reads.Asked,
+      own-reads.Learnt,
+      pack-reads.Asked,
+      pack-reads.Learnt,
+      put-reads.Asked,
+      put-reads.Learnt,
+      kids-reads.Asked,
+      kids-reads.Learnt,
+      kid-reads.Asked,
+      kid-reads.Learnt,
+      emit-below t,
+      emit.Post,
+    )
+    (emit-node-at t)
+    emit-node.Post
+    (λ c κs. search needs)
+    (λ c κs. search needs)
+    (λ c κs. search needs)
+    (λ c κs. search needs)
+    (λ c κs. search needs)
+    (λ c. search needs)
+    (emit-node-returns t)
+    (λ c κs. search needs)
+    (λ c. search needs)
+    (λ c κs. search needs)
+    (λ c κs. search needs)
+    (λ c κs. search needs)
+    (λ c. search needs)
+    (emit-node-returns-2 t)
+    (emit-node-kid-requires t)
+    (emit-node-emit-requires t)
+    (λ c. search needs)
+    (emit-node-returns-3 t))
+    λ t. emit-surplus-lts.spec (
+      kind-reads.Asked,
+      kind-reads.Learnt,
+      kids-reads.Asked,
+      kids-reads.Learnt,
+      emit-kids-below t,
+      emit-kids.Post,
+      count-reads.Asked,
+      count-reads.Learnt,
+      own-reads.Asked,
+      own-reads.Learnt,
+      pack-reads.Asked,
+      pack-reads.Learnt,
+      put-reads.Asked,
+      put-reads.Learnt,
+    )
+    (emit-surplus-at t)
+    emit-surplus.Post
+    (emit-surplus-returns t)
+    (λ c. search needs)
+    (λ c. search needs)
+    (λ c. search needs)
+    (λ c κs. search needs)
+    (emit-surplus-returns-2 t)
+    (λ c κs. search needs)
+    (λ c. search needs)
+    (λ c. search needs)
+    (emit-surplus-emit-kids-requires t)
+    (λ c. search needs)
+    (emit-surplus-returns-3 t)
+    (λ c κs. search needs)
+    (emit-surplus-cast-pack t)
+    (emit-surplus-add-pack t)
+    (λ c κs. search needs)
+    (λ c κs. search needs)
+    (λ c κs. search needs)
+    (λ c. search needs)
+    (emit-surplus-returns-4 t)
