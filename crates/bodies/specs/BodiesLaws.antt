@@ -23,7 +23,7 @@ use Rattle.meaning.specs.Laws.Program.{select-append, head-cases}
 use Rattle.model.specs.Laws.Rounds.{cases-eq}
 use Rattle.limits.specs.Limits.{start, counts-of}
 use Rattle.limits.specs.LimitsLaws.{short-bytes}
-use Rattle.ranges.specs.OrderLaws.{count-of-le}
+use Rattle.header.specs.OrderLaws.{count-of-le}
 use Rattle.refusals.specs.Rows.{Passed}
 use Rattle.refusals.specs.RowsLaws.{passed-kept}
 use Rattle.tables.specs.Tables.{nth, group, head-line, decls-of, first-of}

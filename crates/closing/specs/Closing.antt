@@ -10,7 +10,7 @@ use lib.Dec.{eqb, leb, ltb}
 use lib.ListN.{length, drop}
 use borrow.Author.Tests.{le-leb, eqb-true, eqb-false}
 use Rattle.columns.specs.Column.{pick}
-use Rattle.custard.specs.Cty.{
+use Rattle.model.specs.Cty.{
   Cty,
   Ctys,
   TUnit,
@@ -34,10 +34,10 @@ use Rattle.custard.specs.Cty.{
   zip,
   subst-cty,
 }
-use Rattle.custard.specs.Decl.{member, close}
-use Rattle.custard.specs.Resolve.{Unfold, gone, newtype, abbreviation, stays, attach, Result, ok, fault, spent, bind, resolve-checked}
-use Rattle.custard.specs.Laws.Cty.{attach-nil, subst-none}
-use Rattle.custard.specs.Laws.Resolve.{Unspent}
+use Rattle.model.specs.Decl.{member, close}
+use Rattle.model.specs.Resolve.{Unfold, gone, newtype, abbreviation, stays, attach, Result, ok, fault, spent, bind, resolve-checked}
+use Rattle.model.specs.Laws.Cty.{attach-nil, subst-none}
+use Rattle.model.specs.Laws.Resolve.{Unspent}
 use Rattle.outcomes.specs.Outcome.{
   coded,
   nodes,

@@ -4,8 +4,8 @@ use mathlib.Core.List.{List}
 use Prim.Native.Nat.{ℕ, _+_, _*_, _≤_, _<_}
 use lib.ListN.{length}
 use Rattle.sheet.specs.Sheet.{count, lines}
-use Rattle.custard.specs.Program.{param-line, ctor-line, field-line, verdict-line}
-use Rattle.custard.specs.Rows.{count-before, heads-before}
+use Rattle.meaning.specs.Program.{param-line, ctor-line, field-line, verdict-line}
+use Rattle.meaning.specs.Rows.{count-before, heads-before}
 use Rattle.tables.specs.Tables.{sizes-of, at-decls, at-begins, at-verdicts, at-params, at-ctors, at-fields, at-names, cells-of}
 use Rattle.sizing.specs.declared.Seen.{Seen}
 use Rattle.sizing.specs.Sizing.{seen-before}

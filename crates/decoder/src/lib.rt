@@ -10,7 +10,7 @@ ghost use mathlib.Core.Path.{_≡_};
 ghost use mathlib.Core.Bool.{true};
 ghost use Prim.Native.Nat.{suc, _≤_, _<_};
 ghost use Rattle.sheet.specs.Sheet as sheet;
-ghost use Rattle.custard.specs.Program as program;
+ghost use Rattle.meaning.specs.Program as program;
 ghost use Rattle.refusals.specs.Rows as refusals;
 ghost use Rattle.sizing.specs.Sizing as sizing;
 ghost use Rattle.decoder.specs.Decoding as decoding;

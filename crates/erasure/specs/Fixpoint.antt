@@ -6,11 +6,10 @@ use lib.Dec.{eqb}
 use lib.ListN.{length, getD, take}
 use Rattle.columns.specs.Column.{pick}
 use Rattle.sheet.specs.Line.{Line}
-use Rattle.model.specs.Decl.{position}
+use Rattle.model.specs.Decl.{position, bit}
 use Rattle.model.specs.Erasure.{erasure-fixpoint}
 use Rattle.meaning.specs.Program.{type-line, program}
 use Rattle.meaning.specs.Rows.{count-of}
-use Rattle.meaning.specs.Output.{bit}
 use Rattle.tables.specs.Tables.{decls-of}
 use Rattle.marks.specs.Marks.{part, marks-of, type-erased}
 use Rattle.erasure.specs.declared.Erasure.{Erasure}

@@ -10,17 +10,16 @@ use lib.Seq.{length-take-le, take-at, getD-set-same, getD-set-other, ext-getD, g
 use borrow.Author.Tests.{eq-eqb}
 use Rattle.sheet.specs.Line.{Line, number}
 use Rattle.sheet.specs.Sheet.{lines}
-use Rattle.model.specs.Decl.{Decl, TypeInfo, here, imported, no-decl, origin-at, position, close-fields}
+use Rattle.model.specs.Decl.{Decl, TypeInfo, here, imported, no-decl, origin-at, position, close-fields, bit}
 use Rattle.model.specs.Erasure.{rule, settle, start-of, start, erasure-fixpoint}
 use Rattle.meaning.specs.Program.{name-line, type-line, import-line, verdict-line, is, dtype-of, trees, info-of, verdict-of, program}
 use Rattle.meaning.specs.Rows.{count-of}
-use Rattle.meaning.specs.Output.{bit}
 use Rattle.model.specs.Laws.Lists.{trues}
 use Rattle.model.specs.Laws.Rounds.{Le, Sound, cases-eq}
 use Rattle.model.specs.Laws.Erasure.{length-start, start-at, start-sound}
 use Rattle.meaning.specs.Laws.Program.{length-program}
 use Rattle.limits.specs.Limits.{counts-of}
-use Rattle.ranges.specs.Ranges.{types-of}
+use Rattle.type_lists.specs.TypeLists.{types-of}
 use Rattle.refusals.specs.Rows.{Passed}
 use Rattle.refusals.specs.RowsLaws.{passed-kept}
 use Rattle.tables.specs.Tables.{nth, group, head-line, decls-of}

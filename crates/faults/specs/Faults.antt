@@ -10,9 +10,9 @@ use lib.ListN.{length, getD}
 use borrow.Author.Tests.{eqb-true, eqb-false}
 use Rattle.sheet.specs.Line.{Line}
 use Rattle.sheet.specs.Sheet.{lines}
-use Rattle.custard.specs.Program.{type-line}
-use Rattle.custard.specs.Rows.{count-of}
-use Rattle.custard.specs.Resolve.{Result, ok}
+use Rattle.meaning.specs.Program.{type-line}
+use Rattle.meaning.specs.Rows.{count-of}
+use Rattle.model.specs.Resolve.{Result, ok}
 use Rattle.tables.specs.Tables.{decls-of}
 use Rattle.outcomes.specs.Answer.{Told, answer}
 use Rattle.outcomes.specs.Laws.Fuel.{Leads}

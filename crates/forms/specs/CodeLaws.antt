@@ -13,11 +13,11 @@ use borrow.Author.Tests.{eqb-true, eqb-false, eq-eqb, ne-eqb, lt-ltb, le-ltb, lt
 use Rattle.columns.specs.Column.{pick}
 use Rattle.sheet.specs.Line.{Line, number}
 use Rattle.sheet.specs.Sheet.{lines}
-use Rattle.custard.specs.Cty.{Cty}
-use Rattle.custard.specs.Decl.{member, position}
-use Rattle.custard.specs.Program.{type-line, program}
-use Rattle.custard.specs.Rows.{count-of}
-use Rattle.custard.specs.Resolve.{Unfold, gone, newtype, abbreviation, stays}
+use Rattle.model.specs.Cty.{Cty}
+use Rattle.model.specs.Decl.{member, position}
+use Rattle.meaning.specs.Program.{type-line, program}
+use Rattle.meaning.specs.Rows.{count-of}
+use Rattle.model.specs.Resolve.{Unfold, gone, newtype, abbreviation, stays}
 use Rattle.refusals.specs.Rows.{Passed}
 use Rattle.kids.specs.Nodes.{y-line, kind-of, type-of, kids-of, kid-of}
 use Rattle.arguments.specs.Params.{params-of}
@@ -28,8 +28,8 @@ use Rattle.node_words.specs.Own.{y-node, label}
 use Rattle.node_words.specs.Put.{Put, put-none, put-more, put-stop}
 use Rattle.forms.specs.States.{unfold-at, lay-of}
 use Rattle.forms.specs.Emit.{run, step, filled, grown, form-words, words, kid-words, Asked}
-use Rattle.custard.specs.Laws.Names.{position-le}
-use Rattle.custard.specs.Laws.Program.{length-program}
+use Rattle.model.specs.Laws.Names.{position-le}
+use Rattle.meaning.specs.Laws.Program.{length-program}
 use Rattle.arguments.specs.ParamsLaws.{decls-few}
 use Rattle.kids.specs.NodesLaws.{node-at, kids-8, args-few}
 use Rattle.forms.specs.EmitLaws.{words-var, words-plain, words-gone, words-stays, placed-words, words-exact, words-placed}

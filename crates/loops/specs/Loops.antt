@@ -4,7 +4,7 @@ use mathlib.Core.List.{List}
 use Prim.Native.Nat.{ℕ, _<_}
 use lib.ListN.{length, getD}
 use Rattle.sheet.specs.Sheet.{first}
-use Rattle.meaning.specs.Output.{bit}
+use Rattle.model.specs.Decl.{bit}
 use Rattle.model.specs.Reach.{cyclic}
 use Rattle.model.specs.Laws.Reach.{rank}
 use Rattle.search.specs.declared.Found.{Found}

@@ -10,7 +10,7 @@ use lib.Seq.{getD-set-same, getD-set-other}
 use Rattle.sheet.specs.ListLaws.{contrary}
 use Rattle.sheet.specs.Sheet.{first}
 use Rattle.sheet.specs.FirstLaws.{place-unique, first-place, first-before, first-congr}
-use Rattle.meaning.specs.Output.{bit}
+use Rattle.model.specs.Decl.{bit}
 use Rattle.model.specs.Reach.{Reach, cyclic}
 use Rattle.model.specs.Laws.Reach.{rank, rank-less, rank-bound, cyclic-complete}
 use Rattle.search.specs.declared.Found.{Found}

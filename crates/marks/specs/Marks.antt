@@ -10,7 +10,7 @@ use Rattle.model.specs.Cty.{TUnit}
 use Rattle.model.specs.Erasure.{cty-erased, marked}
 use Rattle.meaning.specs.Program.{arg-line, type-line, trees, program}
 use Rattle.meaning.specs.Rows.{count-of}
-use Rattle.meaning.specs.Output.{bit}
+use Rattle.model.specs.Decl.{bit}
 use Rattle.tables.specs.Tables.{nth}
 
 -- number k of Y line y, and the type of A line i

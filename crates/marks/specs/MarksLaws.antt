@@ -13,15 +13,14 @@ use Rattle.sheet.specs.Line.{Line, bad, number}
 use Rattle.sheet.specs.Sheet.{lines}
 use Rattle.sheet.specs.ListLaws.{contrary}
 use Rattle.model.specs.Cty.{Cty, Ctys, TUnit, nil, cons}
-use Rattle.model.specs.Decl.{position}
+use Rattle.model.specs.Decl.{position, bit}
 use Rattle.model.specs.Erasure.{is-pure, cty-erased, ctys-erased, marked}
 use Rattle.meaning.specs.Program.{name-line, arg-line, type-line, select, list-of, tree, trees, program}
 use Rattle.meaning.specs.Rows.{count-of}
-use Rattle.meaning.specs.Output.{bit}
 use Rattle.model.specs.Laws.Rounds.{cases-eq}
 use Rattle.limits.specs.Limits.{counts-of}
-use Rattle.ranges.specs.Ranges.{types-of}
-use Rattle.ranges.specs.RangesLaws.{past}
+use Rattle.type_lists.specs.TypeLists.{types-of}
+use Rattle.type_lines.specs.TypeLinesLaws.{past}
 use Rattle.refusals.specs.Rows.{Passed}
 use Rattle.refusals.specs.RowsLaws.{passed-kept}
 use Rattle.tables.specs.Tables.{nth, decls-of}

@@ -5,11 +5,10 @@ use mathlib.Core.Bool.{Bool}
 use Prim.Native.Nat.{ℕ, suc, _+_, _<_}
 use lib.ListN.{length, getD}
 use Rattle.sheet.specs.Line.{Line}
-use Rattle.model.specs.Decl.{Decl, position}
+use Rattle.model.specs.Decl.{Decl, position, bit}
 use Rattle.model.specs.Erasure.{rule, update, Settled, settle, start}
 use Rattle.meaning.specs.Program.{type-line, program}
 use Rattle.meaning.specs.Rows.{count-of}
-use Rattle.meaning.specs.Output.{bit}
 use Rattle.model.specs.Laws.Lists.{trues}
 use Rattle.model.specs.Laws.Rounds.{Le, Sound, round}
 use Rattle.tables.specs.Tables.{decls-of}

@@ -22,7 +22,7 @@ use Rattle.meaning.specs.Laws.Rows.{Ends, is-header-line, NoHeader, no-header}
 use Rattle.order.specs.StepLaws.{count-before-step, heads-before-step, count-before-le, heads-before-le}
 use Rattle.limits.specs.Limits.{counts-of}
 use Rattle.limits.specs.LimitsLaws.{short-bytes}
-use Rattle.ranges.specs.OrderLaws.{ordered-lines, arg-at, type-before, count-of-le}
+use Rattle.header.specs.OrderLaws.{ordered-lines, arg-at, type-before, count-of-le}
 use Rattle.refusals.specs.Rows.{Passed}
 use Rattle.refusals.specs.RowsLaws.{passed-kept}
 use Rattle.tables.specs.Tables.{nth, decls-of, sizes-of, cells}

@@ -5,10 +5,9 @@ use native.Mathlib.Omega.{arith}
 use lib.ListN.{length, getD, length-set}
 use borrow.Author.Needs.{needs}
 use Rattle.sheet.specs.Sheet.{lines}
-use Rattle.model.specs.Decl.{origin-at}
+use Rattle.model.specs.Decl.{origin-at, bit}
 use Rattle.model.specs.Erasure.{start-of}
 use Rattle.meaning.specs.Program.{program}
-use Rattle.meaning.specs.Output.{bit}
 use Rattle.tables.specs.Tables.{decls-of}
 use Rattle.erasure.specs.FixpointLaws.{start-next, start-marks}
 use Rattle.erasure.proofs.start.Statement.{statement}

@@ -2,7 +2,7 @@
 -- then from a node to its parts. Assumes nothing.
 use mathlib.Core.Path.{_≡_, refl, sym, _∙_, ap, subst}
 use mathlib.Core.Bool.{Bool, true, false, not}
-use Prim.Native.Nat.{_+_, _-_, _*_, _≤_, suc}
+use Prim.Native.Nat.{_+_, _-_, _*_, _≤_, suc, ℕ, _<_}
 use native.Mathlib.Omega.{arith}
 use lib.Dec.{eqb}
 use lib.ListN.{length, getD}
@@ -17,7 +17,6 @@ use Rattle.calls.specs.CallsLaws.{Copy}
 use Rattle.memory.specs.Slots.{Slots}
 use Rattle.resolving.specs.Resolver.{evals-of, call-of, Args, Found, Done}
 use Rattle.resolving.specs.ResolverLaws.{node-var, node-stop, node-built, node-full, joined-args, node-apply, args-none, args-more, args-stop, args-full, args-done, enter-nine, enter-spent, enough, enter-ten, enter-var, enter-node, unfolded-is, unfolded-place, apply-gone, apply-stays, apply-enter, decl-least, kid-below, name-within, names-few, capped-least, apply-known, apply-kept}
-use Prim.Native.Nat.{ℕ, _<_}
 use borrow.Fn.Kinds.{In}
 use borrow.Fn.PlainCycle.{Measures, is, falls, and}
 use Rattle.resolver.proofs.apply.Reads as apply

@@ -1,7 +1,6 @@
 -- `tables::is_import` meets its contract: the cell is the D or I line's letter. Assumes nothing.
-use mathlib.Core.Path.{_∙_}
+use mathlib.Core.Path.{_∙_, ap}
 use native.Mathlib.Omega.{arith}
-use mathlib.Core.Path.{ap}
 use Prim.Native.Nat.{ℕ}
 use lib.Dec.{eqb}
 use Rattle.tables.specs.CellsLaws.{read-letter}

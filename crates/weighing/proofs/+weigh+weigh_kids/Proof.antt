@@ -1,6 +1,6 @@
 -- `weighing::weigh` and `weighing::weigh_kids` meet their contracts. The measure falls with the Y line. Assumes nothing.
 use mathlib.Core.Path.{_≡_, sym, _∙_, ap}
-use Prim.Native.Nat.{_+_, _-_, _*_, _≤_}
+use Prim.Native.Nat.{_+_, _-_, _*_, _≤_, ℕ, _<_}
 use native.Mathlib.Omega.{arith}
 use borrow.Author.Needs.{needs}
 use Rattle.sheet.specs.Sheet.{lines}
@@ -11,7 +11,6 @@ use Rattle.kids.specs.NodesLaws.{node-at}
 use Rattle.arguments.specs.Params.{params-of}
 use Rattle.weighing.specs.Weigh.{weight-of, weights-of}
 use Rattle.weighing.specs.WeighLaws.{weigh-var, weigh-node, kids-none, kids-more, kids-over}
-use Prim.Native.Nat.{ℕ, _<_}
 use borrow.Fn.Kinds.{In}
 use borrow.Fn.PlainCycle.{Measures, is, falls, and}
 use Rattle.weighing.proofs.weigh.Reads as weigh
