@@ -1,5 +1,5 @@
 -- The answer that the build owes: code, place, rounds and what is written to each output, as a
--- function of the sheet's bytes and the two outputs' lengths (document 01, "What a call returns").
+-- function of the sheet's bytes and the two outputs' lengths (FORMAT, sections 4 and 9).
 -- Assumes nothing.
 use mathlib.Core.Path.{_≡_}
 use mathlib.Core.List.{List, [], _∷_, _++_}
@@ -19,7 +19,7 @@ use Rattle.meaning.specs.Program.{is-head, program}
 use Rattle.meaning.specs.Rows.{line-at, heads-before, raws, row3, row4, row5, row6, row7}
 use Rattle.meaning.specs.Output.{verdict-lines, left-lines}
 
--- One or more rows of document 01's table that share a pass: the first number below the bound at
+-- One or more rows (FORMAT, sections 5 and 7) that share a pass: the first number below the bound at
 -- which the test holds gives the code and the place.
 pub record Row : Type 0 where
   pub bound : ℕ

@@ -1,4 +1,4 @@
--- Document 01's starred cases: what the definitions answer to these sheets, in one table under one
+-- The twelve starred cases (*): what the definitions answer to these sheets, in one table under one
 -- claim; every code with its place; further sheets; and a sheet built in units. Assumes nothing.
 use mathlib.Core.Path.{_≡_, refl}
 use mathlib.Core.List.{List, [], _∷_, _++_, map}
@@ -142,7 +142,7 @@ starred =
           ∷ "V     0     0     0     0     0"
           ∷ [];
     }
-    -- *3 `t = C of t`: kept, struct, record 1
+    -- *3 `t = C of t` is not erased: a struct, with record number 1
     ∷ record {
       number = 3;
       view = summary;
@@ -220,7 +220,7 @@ starred =
           ∷ "V     1     0     0     0     0"
           ∷ [];
     }
-    -- *6 `w = W of u`, then `u = unit`: both erased, rounds 3,
+    -- *6 `w`, which holds `u`, stands before `u = unit`: three rounds erase both;
     ∷ record {
       number = 6;
       view = summary;
@@ -268,7 +268,7 @@ starred =
           ∷ "V     1     0     0     0     0"
           ∷ [];
     }
-    -- *7 `a = A of b`, `b = B of a`: both struct
+    -- *7 `a` and `b` hold each other: two structs
     ∷ record {
       number = 7;
       view = summary;
@@ -306,7 +306,7 @@ starred =
           ∷ "V     0     0     0     0     0"
           ∷ [];
     }
-    -- *8 `t = C of ab`, `ab = t`: code 8 at `t`
+    -- *8 `t` holds an abbreviation of `t`: refused by row 8, at `t`
     ∷ record {
       number = 8;
       view = summary;
@@ -328,7 +328,7 @@ starred =
           "R     8     6     0     0     0"
           ∷ [];
     }
-    -- *9 `Realized`, one constructor, one kept field: newtype all the same
+    -- *9 `Realized` does not keep a type from being a newtype
     ∷ record {
       number = 9;
       view = summary;
@@ -350,7 +350,7 @@ starred =
           ∷ "V     0     0     0     0     0"
           ∷ [];
     }
-    -- *10 `p` binds one parameter and abbreviates it, `q = p`: code 9 at `q`
+    -- *10 `p 'a = 'a`, and `q = p` without an argument: refused by row 9, at `q`
     ∷ record {
       number = 10;
       view = summary;
@@ -370,7 +370,7 @@ starred =
           "R     9     8     0     0     0"
           ∷ [];
     }
-    -- *11 `n 'a = N of` a 32-bit integer: newtype, no left declaration
+    -- *11 a newtype whose parameter is not in its payload: nothing is left of it
     ∷ record {
       number = 11;
       view = summary;
@@ -391,7 +391,7 @@ starred =
           ∷ "V     0     1     0     0     0"
           ∷ [];
     }
-    -- *12 a record of one `unit` field, `Realized` and `SourceRecord`: struct, record 1
+    -- *12 `Realized` keeps a record whose only field is erased, and with `SourceRecord` its record number is 1
     ∷ record {
       number = 12;
       view = summary;
@@ -412,13 +412,13 @@ starred =
     }
     ∷ []
 
--- Each starred case is answered as document 01 says.
+-- Each starred case is answered as its table says.
 pub starred-cases : map given starred ≡ map expected starred
 unfolding given expected starred
 starred-cases = refl
 
 -- ---- codes
--- Document 01's format but for a few limits, so that short sheets pass them.
+-- The base format but for a few limits, so that short sheets pass them.
 abbrev pub small : Format
 small = record {
   columns = 6;
@@ -658,10 +658,10 @@ unfolding program-names dtype-names body-names names-of-cty gather
 names-mentioned = refl
 
 -- ---- further cases
--- not document 01's, and numbered on from them
+-- not starred, and numbered on from those
 unfoldable pub further : List Case
 further =
-    -- A variable that the declaration does not bind becomes `TAny`.
+    -- `TAny` takes the place of a variable that is no parameter.
     record {
       number = 13;
       view = summary;

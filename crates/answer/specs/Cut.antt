@@ -1,4 +1,4 @@
--- The cut rule (document 01): a sheet of local declarations, cut into units that are built in turn.
+-- The cut rule (FORMAT, section 10): a sheet of local declarations, cut into units that are built in turn.
 -- Assumes nothing.
 use mathlib.Core.Logic.{_⊎_}
 use mathlib.Core.Path.{_≡_}
@@ -60,7 +60,7 @@ pub record Faultless (w : ℕ) (b : List ℕ) : Type 0 where
   pub in-range : first (row5 (lines w b)) (count w b) ≡ count w b
 
 -- The sheet b is cut into its N, A and Y lines and the units. Each unit names only its own types, those of
--- earlier units and names that the whole declares nowhere. (A line that row 2 or 5 faults neither names nor
+-- earlier units and names that the whole declares nowhere. (A line faulted by row 2 or row 5 neither names nor
 -- declares: of a sheet with such a line nothing is asked.) Nothing else is asked: not that row 3 passes, nor
 -- that the declarations are local.
 pub record Cut (w : ℕ) (b header : List ℕ) (units : List (List ℕ)) : Type 0 where

@@ -1,6 +1,6 @@
 // The type that the definitions in specs/ and the contracts of the build share.
 
-// Whether a row of document 01's table applies: its code and place.
+// Whether a row applies (FORMAT, section 4): its code and place.
 pub enum Refusal {
     Accepted,
     Refused { code: u32, place: usize },

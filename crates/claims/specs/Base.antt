@@ -1,4 +1,4 @@
--- What is promised of every call of the layout build, in document 01's own format: the claims of
+-- What is promised of every call of the layout build, in the base format (FORMAT): the claims of
 -- `Claims`, in short and with nothing assumed of the format. Read this first; `Claims` has the words in full.
 --
 -- b is the sheet, v and l the lengths of the outputs for the verdict sheet and the left sheet.

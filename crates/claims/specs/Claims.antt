@@ -1,9 +1,9 @@
--- What is promised of the layout build's answer: demands 2 and 3 of document 01 and the operator's
--- checklist, as theorems about the definitions in the crates `model`, `meaning` and `answer`, where the lemmas stand.
+-- What is promised of the layout build's answer: the three demands and the operator's checklist (README,
+-- "Claims"), as theorems about the definitions of `model`, `meaning` and `answer`, where the lemmas stand.
 --
 -- A sheet b is a list of bytes. v and l are the lengths of the outputs that are lent for the verdict sheet
--- and the left sheet. f is the format; `base` is document 01's own, and `Ample f` says that its limits do
--- not outgrow its columns and the fuel, which `base-ample` of `Laws.Left` shows of it. Assumes nothing.
+-- and the left sheet. f is the format; `base` is the one of FORMAT, and `Ample f` says that its limits do
+-- not outgrow its columns and the fuel, which `base-ample` of `FormatLaws` shows of it. Assumes nothing.
 use mathlib.Core.Logic.{_↔_}
 use mathlib.Core.Path.{_≡_, refl, sym, _∙_, ap, subst}
 use mathlib.Core.List.{List, [], _∷_, _++_, map, append-nil, List·Memᴰ}
@@ -140,8 +140,8 @@ imports f b v l a i ti h o = (
 )
 
 -- COLLAPSED. A local type is a newtype exactly where its guards allow it (`Candidate`: not erased, without
--- `NoNewtype`, one constructor, one kept field, whose type less one `TInline` is the payload) and its own
--- name can't be reached from its payload through payloads of candidates, dropped ones too.
+-- `NoNewtype`, one constructor, one kept field, whose type less one `TInline` is the payload) and no steps
+-- from its payload, through payloads of candidates, also of those that are dropped, lead back to its name.
 pub collapsed : (f : Format) (b : List ℕ) (v l : ℕ) → Accepts f b v l → (i : ℕ) → i < length (decls f b) → origin-at (decls f b) i ≡ here → (nt : NewtypeLayout)
     → (layout-of-decl (decls f b) i ≡ L-newtype nt)
     ↔ (Candidate (erased (decls f b)) (dtype-at (decls f b) i) (getD (marks (decls f b)) i false) nt
@@ -248,8 +248,8 @@ written f b v l pos a old old' e e' =
     fitted w o h = record { same-length = after-length w o h; begins = List·getD-append w (drop (length w) o) 0; past = after-past w o }
 
 -- ---- locality
--- LOCALITY. Two programs that agree on a set of names closed under what their declarations name, imports
--- counting by their verdicts, give these names the same erasure, layouts, keeps, verdicts, left declarations,
+-- LOCALITY. Let two programs agree on a set of names whose declarations name nothing outside it, imports
+-- counting by their verdicts: they give these names the same erasure, layouts, keeps, verdicts, left declarations,
 -- faults and loops. Any declarations, any limit.
 pub record Same (limit fuel : ℕ) (ds ds' : List Decl) (n : ℕ) : Type 0 where
   pub same-erasure : getD (marks ds) (position ds n) false ≡ getD (marks ds') (position ds' n) false
@@ -281,9 +281,9 @@ locality-by-names = locality-renamed
 -- whole declarations, empty ones allowed, and each naming only its own types, those of earlier units and
 -- names that the whole declares nowhere: build the units in turn, the first from the N, A and Y lines and
 -- its own declarations, each later one from the verdict sheet that the build before it returned and its own
--- declarations, stopping at a refusal. Every unit is accepted exactly when one build of the whole with the
--- same output lengths is, and then the last unit's two sheets are the whole's, byte for byte. Of the sheet
--- nothing more is asked: it may break any row.
+-- declarations, stopping at a refusal. All units are accepted exactly where one build of the whole, with
+-- outputs of the same lengths, is accepted; then the last unit's two sheets and the whole's are the same
+-- bytes. Of the sheet nothing more is asked: it may break any row.
 pub cut : (f : Format) (v l : ℕ) (b header u : List ℕ) (us : List (List ℕ)) → 0 < f .columns → Cut (f .columns) b header (u ∷ us)
     → builds f v l header u us ≡ build f v l b
 cut = cut-builds

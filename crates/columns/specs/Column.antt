@@ -1,5 +1,5 @@
--- A number in columns (document 01, "Sheets"): right-justified decimal, spaces to the left, no
--- leading zero, 0 as `0`. The width is the number of columns, and any width will do.
+-- A number in columns (FORMAT, section 1): decimal digits at the right end, spaces before them; it
+-- begins with `0` only where it is 0. The width is the number of columns, and any width will do.
 -- Assumes nothing.
 use mathlib.Core.List.{List, [], _∷_, _++_}
 use mathlib.Core.Bool.{Bool, true, false, _&&_}

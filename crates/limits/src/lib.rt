@@ -4,7 +4,7 @@ ghost use mathlib.Core.Path.{_≡_};
 ghost use Rattle.sheet.specs.Format.{base};
 ghost use Rattle.limits.specs.Limits as limits;
 
-// Document 01's limits.
+// The limits (FORMAT, section 2).
 pub const NAMES: usize = 256;
 
 pub const ARGS: usize = 512;

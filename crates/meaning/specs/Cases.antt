@@ -514,7 +514,7 @@ left-cases =
     ∷ C 21 0
     ∷ V0
     ∷ [])
-    -- each kind: children before their parent, and nothing shared; a list's A lines when its owner is written
+    -- each kind: its parts, then its A lines, then its own line, and nothing shared
     ∷ left (N 0 ∷ [])
     (decl 0 0 []
     (TAbbrev

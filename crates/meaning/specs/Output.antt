@@ -1,4 +1,4 @@
--- The two sheets that an accepted build writes (document 01, "Verdict sheet" and "Left sheet"), as
+-- The two sheets that an accepted build writes (FORMAT, section 8), as
 -- lines. Assumes nothing.
 use mathlib.Core.List.{List, [], _∷_, _++_, map}
 use mathlib.Core.Bool.{not, Bool, true, false}
@@ -105,8 +105,8 @@ listed m = record { args = m .written .args ++ m .numbers; types = m .written .t
 abbrev pub first-arg : Members → ℕ
 first-arg m = pick (eqb (length (m .numbers)) 0) 0 (length (m .written .args))
 
--- Children from left to right before their parent, and nothing shared; a list's A lines are taken
--- when its owner is written.
+-- A type's parts from left to right, then its A lines if it has a list, then its own Y line; nothing is
+-- shared.
 unfoldable mutual
   pub emit : Cty → Written → Written
   emit TUnit w = put w 0 0 0 0

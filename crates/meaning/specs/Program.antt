@@ -1,4 +1,4 @@
--- From the lines of a sheet to the program that they declare (document 01, "Sheets"). Total on every
+-- From the lines of a sheet to the program that they declare (FORMAT, sections 2 and 3). Total on every
 -- list of lines, and meant for those that pass rows 2 to 7. Assumes nothing.
 use mathlib.Core.List.{List, [], _∷_, _++_, map}
 use mathlib.Core.Bool.{Bool, false, _||_, not}

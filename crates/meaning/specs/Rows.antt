@@ -1,4 +1,4 @@
--- Rows 3 to 7 of document 01's table, each a test on the lines of a sheet: a row's place is the first
+-- Rows 3 to 7 (FORMAT, section 5), each a test on the lines of a sheet: a row's place is the first
 -- line at which its test holds. Assumes nothing.
 use mathlib.Core.List.{List, [], _∷_, map}
 use mathlib.Core.Bool.{Bool, true, false, _&&_, _||_, not}
@@ -124,7 +124,7 @@ row4 f ls i =
 unfoldable pub zeros-from : ℕ → Line → Bool
 zeros-from k l = not (some-below (λ i. leb k i && not (eqb (number l i) 0)) 5)
 
--- document 01's widths: 8, 16, 32, 64, 128, and 1 for `WSizet`
+-- the widths (FORMAT, section 3): 8, 16, 32, 64, 128, and 1 for `WSizet`
 unfoldable pub is-width : ℕ → Bool
 is-width w = eqb w 8 || eqb w 16 || eqb w 32 || eqb w 64 || eqb w 128 || eqb w 1
 

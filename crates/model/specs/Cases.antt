@@ -422,7 +422,7 @@ pub inline-taken-off : Passed inline-cases
 unfolding inline-cases
 inline-taken-off = refl
 
--- a variable that the declaration does not bind becomes `TAny`, in every body
+-- `TAny` in place of a variable that is no parameter, in every body
 unfoldable pub close-cases : List (Case Body)
 unfolding closed list
 close-cases =
@@ -550,7 +550,7 @@ unfolding laid-out list
 ctor-cases =
     laid-out TAbstract gives []
     ∷ laid-out (TAbbrev int) gives []
-    -- a record is one constructor, named as its type
+    -- of a record its only constructor, with the type's name
     ∷ laid-out (TRecord (field x TUnit ∷ field y int ∷ field z (name e) ∷ []))
     gives (laid t (false ∷ true ∷ false ∷ []) (field y int ∷ []) ∷ [])
     ∷ laid-out (TVariant (ctor A (field x int ∷ field y TUnit ∷ field z (name l) ∷ []) ∷ ctor B [] ∷ []))
@@ -624,7 +624,7 @@ pub layouts-computed : Passed layout-cases
 unfolding layout-cases
 layouts-computed = refl
 
--- document 01's numbers, and the places of names
+-- the numbers of layouts (FORMAT, section 2), and the places of names
 unfoldable pub number-cases : List (Case (List ℕ))
 unfolding number-of place-in kept-at
 number-cases =

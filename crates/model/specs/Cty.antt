@@ -5,7 +5,7 @@ use Prim.Native.Nat.{ℕ, zero, suc, _+_}
 use lib.Dec.{eqb}
 use Rattle.columns.specs.Column.{pick}
 
--- A sign, a width, a float's kind, an effect and a reference's kind are document 01's numbers for them.
+-- Signs, widths, effects and the kinds of floats and references are the numbers of FORMAT, section 3.
 mutual
   pub data Cty : Type 0 where
     TUnit TAny TExn : Cty

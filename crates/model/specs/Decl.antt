@@ -52,7 +52,7 @@ SourceRecord = 16
 unfoldable pub has-flag : Dtype → ℕ → Bool
 has-flag d f = eqb (d .dt-flags / f % 2) 1
 
--- Layout's `ctors_of_tydef`: a record is one constructor named as its type
+-- Layout's `ctors_of_tydef`: of a record its only constructor, which has the type's name
 unfoldable pub ctors-of : ℕ → Body → List Ctor
 ctors-of n TAbstract = []
 ctors-of n (TAbbrev c) = []
@@ -82,7 +82,7 @@ pub data Layout : Type 0 where
   L-abbrev : Cty → Layout
   L-opaque : Layout
 
--- document 01's number of a mark, and of a layout
+-- the number of a mark, and of a layout (FORMAT, section 2)
 abbrev pub bit : Bool → ℕ
 bit true = 1
 bit false = 0
@@ -134,7 +134,7 @@ unfoldable pub member : ℕ → List ℕ → Bool
 member n [] = false
 member n (m ∷ ms) = pick (eqb m n) true (member n ms)
 
--- a variable that the declaration does not bind becomes `TAny`
+-- `TAny` in place of each variable that is no parameter
 unfoldable pub close : List ℕ → Cty → Cty
 close ps = walk (λ v. pick (member v ps) (TVar v) TAny) TApp
 

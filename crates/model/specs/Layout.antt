@@ -69,7 +69,7 @@ first-kept [] = 0
 first-kept (true ∷ bs) = 0
 first-kept (false ∷ bs) = suc (first-kept bs)
 
--- The newtype that one constructor with one kept field can become; its payload is that field's type less one outer `TInline`.
+-- The newtype that one constructor with one kept field can become: an outer `TInline` of the payload goes.
 unfoldable pub newtype-of-ctor : ℕ → List Bool → List Field → Option NewtypeLayout
 newtype-of-ctor n bs [] = none
 newtype-of-ctor n bs (f ∷ []) =

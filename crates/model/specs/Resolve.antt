@@ -1,5 +1,5 @@
--- Resolving types: `resolve` of the source's Layout file, and beside it the resolution that rows 9
--- and 10 of document 01 speak of. Assumes nothing.
+-- Resolving types: `resolve` of the source's Layout file, and beside it the one that tells the
+-- faults of rows 9 and 10 (FORMAT, section 6.7). Assumes nothing.
 use mathlib.Core.List.{List, []}
 use mathlib.Core.Bool.{Bool, true, false, _||_}
 use mathlib.Core.Option.{Option, none, some}
@@ -128,7 +128,7 @@ resolve lay zero c = c
 resolve lay (suc k) c = walk TVar (λ n us. applied (resolve lay k) n us (lay n)) c
 
 -- ---- the checked resolution
--- A type, document 01's code of the fault met first, or fuel that has run out.
+-- A type, the code of the fault met first (9 or 10), or fuel that has run out.
 pub data Result (A : Type 0) : Type 0 where
   ok : A → Result A
   fault : ℕ → Result A

@@ -1,4 +1,4 @@
-// Row 5: the numbers of each line are in range (document 01, "What a call returns"). By sections: N,
+// Row 5: the numbers of each line are in range (FORMAT, section 5). By sections: N,
 // A and Y lines, and then the declarations.
 use parts::LINE;
 ghost use mathlib.Core.Path.{_≡_};

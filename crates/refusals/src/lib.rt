@@ -1,4 +1,4 @@
-// Rows 1 to 7 of document 01's table, in the order in which they are tested, of any bytes.
+// Rows 1 to 7 (FORMAT, section 5), in the order in which they are tested, of any bytes.
 use answer::Refusal;
 use limits::Counts;
 use parts::LINE;

@@ -1,4 +1,4 @@
--- A sheet's format: the columns of a number and the limits (document 01, "Sheets"). Every other
+-- A sheet's format: the columns of a number and the limits (FORMAT, sections 1 and 2). Every other
 -- length of a line follows from the columns. Assumes nothing.
 use Prim.Native.Nat.{_^_, _<_, ℕ, _+_, _*_}
 
@@ -19,7 +19,7 @@ pub record Format : Type 0 where
   -- names that are unfolded within each other
   pub fuel : ℕ
 
--- document 01's own
+-- the one of FORMAT
 abbrev pub base : Format
 base = record {
   columns = 6;

@@ -1,4 +1,4 @@
--- One line of a sheet whose numbers have w columns (document 01, "Sheets"), its decoding and its
+-- One line of a sheet whose numbers have w columns (FORMAT, section 1), its decoding and its
 -- encoding. Assumes nothing.
 use mathlib.Core.List.{List, [], _∷_, _++_}
 use mathlib.Core.Bool.{Bool, true, false, _&&_}

@@ -1,4 +1,4 @@
--- A sheet: a run of lines (document 01, "Sheets"), rows 1 and 2, and the name leaf.
+-- A sheet: a run of lines, the name leaf (FORMAT, section 1), and rows 1 and 2 (section 5).
 -- Assumes nothing.
 use mathlib.Core.List.{List, [], _∷_, _++_}
 use mathlib.Core.Bool.{Bool, true, false, _||_, not}

@@ -1,4 +1,4 @@
-// Row 7: keep numbers and verdicts (document 01, "What a call returns").
+// Row 7: keep numbers and verdicts (FORMAT, section 5).
 use parts::LINE;
 ghost use mathlib.Core.Path.{_≡_};
 ghost use Prim.Native.Nat.{_<_};

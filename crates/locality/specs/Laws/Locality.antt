@@ -1,4 +1,4 @@
--- Locality: two programs that agree on a set of names closed under what their declarations name give
+-- Locality: let two programs agree on a set of names whose declarations name nothing outside it; they give
 -- these names the same verdicts, left declarations and faults. Over any declarations and any limit.
 -- Assumes nothing.
 use mathlib.Core.Path.{_≡_, refl, sym, _∙_, ap, ap₂, subst}

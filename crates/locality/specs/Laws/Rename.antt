@@ -1142,9 +1142,9 @@ pub record SameRenamed (ρ : ℕ → ℕ) (limit fuel : ℕ) (ds ds' : List Decl
   pub same-fault : decl-fault limit fuel ds' (layouts-of ds') (position ds' (ρ n)) ≡ decl-fault limit fuel ds (layouts-of ds) (position ds n)
   pub same-loop : returns ds' (layouts-of ds') (position ds' (ρ n)) ≡ returns ds (layouts-of ds) (position ds n)
 
--- Locality up to renaming: two programs of which one, renamed, agrees with the other on a set of names
--- closed under what is declared there give these names the same verdicts, left declarations and faults,
--- renamed.
+-- Locality up to renaming: let one program, renamed, agree with another on a set of names whose
+-- declarations name nothing outside it; both give these names the same verdicts, left declarations and
+-- faults, renamed.
 pub locality-renamed : (ρ : ℕ → ℕ) → Injective ρ → (limit fuel : ℕ) (S : ℕ → Bool) (ds ds' : List Decl) → Agree S (rename-decls ρ ds) ds' → OwnImports ds → OwnImports ds'
     → (n : ℕ) → S (ρ n) ≡ true → Declared ds n → SameRenamed ρ limit fuel ds ds' n
 locality-renamed ρ inj limit fuel S ds ds' agree own own' n h d =

@@ -959,7 +959,7 @@ pub whole-verdict : (g : Group) → Whole g → 0 < count-of verdict-line (g .re
 whole-verdict g w =
     rw (w .ends, select-append, length-append, select-yes verdict-line (w .last) [] (w .is-last)) (omega arith)
 
--- document 01's number of a body
+-- the body kind (FORMAT, section 2)
 unfoldable pub body-number : Body → ℕ
 body-number TAbstract = 0
 body-number (TAbbrev c) = 1

@@ -369,8 +369,8 @@ dropped-same S ds ds' s s' a n h d =
     (loop-same S ds ds' s s' a n h d)
     (loop-same S ds' ds s' s (alike-sym S ds ds' s s' a) n h (a .agree .declared n h .0 d))
 
--- and the same layouts: two programs that agree on a set of names closed under what is declared there,
--- and whose marks agree there, give a name of the set the same layout.
+-- and the same layouts: where two programs agree on a closed set of names, and their marks agree there,
+-- they give a name of the set the same layout.
 pub layout-same : (S : ℕ → Bool) (ds ds' : List Decl) (s s' : List Bool)
     → Alike S ds ds' s s'
     → (n : ℕ)

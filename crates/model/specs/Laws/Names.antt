@@ -1,4 +1,4 @@
--- Laws of a name's position, of programs that agree on a set of names, and of the names of a declaration's parts. Assumes nothing.
+-- Laws of a name's position, of agreement on a set of names, and of the names of a declaration's parts. Assumes nothing.
 use mathlib.Core.Logic.{_⊎_, inl, inr, ⊎-elim}
 use mathlib.Core.Path.{_≡_, refl, ap, sym}
 use mathlib.Core.List.{List, [], _∷_, _++_, List·Memᴰ, List·Memᴰ·not-nil, List·Memᴰ·append-cases, Memᴰ·append-left, Memᴰ·append-right}
