@@ -7,7 +7,7 @@ ghost use Rattle.columns.specs.Column.{pick};
 ghost use Rattle.sheet.specs.Sheet as sheet;
 ghost use Rattle.model.specs.Decl as decls;
 ghost use Rattle.model.specs.Erasure as model;
-ghost use Rattle.meaning.specs.Output as output;
+ghost use Rattle.model.specs.Decl as decls;
 ghost use Rattle.meaning.specs.Program as program;
 ghost use Rattle.meaning.specs.Rows as rows;
 ghost use Rattle.tables.specs.Tables as tables;
@@ -27,7 +27,7 @@ pub struct Erasure {
 }
 
 fn bit(b: bool) -> u8
-    ensures { λ r. ⌜ r ≡ output.bit b ⌝ }
+    ensures { λ r. ⌜ r ≡ decls.bit b ⌝ }
 {
     if b { 1 } else { 0 }
 }

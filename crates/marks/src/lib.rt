@@ -9,12 +9,12 @@ ghost use Rattle.sheet.specs.Sheet as sheet;
 ghost use Rattle.model.specs.Erasure as model;
 ghost use Rattle.meaning.specs.Program as program;
 ghost use Rattle.meaning.specs.Rows as rows;
-ghost use Rattle.meaning.specs.Output as output;
+ghost use Rattle.model.specs.Decl as decls;
 ghost use Rattle.tables.specs.Tables as tables;
 ghost use Rattle.marks.specs.Marks as marks;
 
 fn bit(b: bool) -> u8
-    ensures { λ r. ⌜ r ≡ output.bit b ⌝ }
+    ensures { λ r. ⌜ r ≡ decls.bit b ⌝ }
 {
     if b { 1 } else { 0 }
 }
