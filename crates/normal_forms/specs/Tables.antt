@@ -39,3 +39,10 @@ pub record Table (b u f : List ℕ) (pos : ℕ) (Done : ℕ → Type 0) : Type 0
   pub cells : (d : ℕ) → d < decls-of (lines 6 b) → getD f (2 * d) 0 + getD f (2 * d + 1) 0 ≤ pos
   pub above : (d : ℕ) → Done d → 2 * decls-of (lines 6 b) ≤ getD f (2 * d) 0
   pub right : (d : ℕ) → Done d → form-words f d ≡ own-words (lines 6 b) u f d
+
+-- The words ws are added to the list f as declaration d's, r the place after them; where the list, or the scratch of so
+-- many words, is too short, r is past the end.
+pub record Added (ws : List ℕ) (scratch d pos : ℕ) (f f′ : List ℕ) (r : ℕ) : Type 0 where
+  pub long : length f′ ≡ length f
+  pub room : r ≤ length f → (r ≡ pos + length ws) × (f′ ≡ with-form f d pos ws)
+  pub full : length f < r → (scratch < length ws) ⊎ (length f < pos + length ws)

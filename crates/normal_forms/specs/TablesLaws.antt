@@ -27,7 +27,8 @@ use Rattle.nodes.specs.Words.{word, node-of}
 use Rattle.node_words.specs.Own.{label}
 use Rattle.forms.specs.States.{lay-of}
 use Rattle.forms.specs.Emit.{form-words, form-of, words}
-use Rattle.normal_forms.specs.Tables.{body-of, own-words, with-form, Names, Table}
+use Rattle.normal_forms.specs.Tables.{body-of, own-words, with-form, Names, Table, Added}
+use Rattle.node_words.specs.Put.{Put}
 
 -- ---- the words of a type depend on the forms of its unfolded names alone
 alike-self : (l : Unfold) (xs ys : List Node) → (Unfolds l → xs ≡ ys) → Alike l l xs ys
@@ -179,3 +180,24 @@ module _ (b u f : List ℕ) (pos : ℕ) (Done : ℕ → Type 0) (table : Table b
           let l : e < decls-of ls = inner e k .0 in
           let n : e ≡ d → ⊥ = λ z. new (subst Done z k) in
           omega (arith, with-other f ws d pos (decls-of ls) (table .head) below inside (2 * e) (omega (arith, table .head)) (λ z. n (half e d z)) (λ z. apart e d z), table .above e k)
+
+-- ---- the code
+pub added-none : (ws out : List ℕ) (d pos n : ℕ) (f res : List ℕ) → Put ws out 0 n res → (length out < n) ⊎ ((n ≤ length out) × (length f < pos + n)) → Added ws (length out) d pos f f (length f + 1)
+added-none ws out d pos n f res x (inl q) =
+    record { long = refl; room = λ r. absurd (omega arith); full = λ r. inl (omega (arith, x .full q)) }
+added-none ws out d pos n f res x (inr q) =
+    record { long = refl; room = λ r. absurd (omega arith); full = λ r. inr (omega (arith, x .room (q .0) .0, q .1)) }
+
+pub added-some : (ws out : List ℕ) (d pos n : ℕ) (f g res : List ℕ) → Put ws out 0 n res → n ≤ length out → pos + n ≤ length f → 2 * d + 1 < pos
+    → g ≡ take pos f ++ (take n res ++ drop (pos + n) f) → Added ws (length out) d pos f (set (set g (2 * d) pos) (2 * d + 1) n) (pos + n)
+unfolding with-form
+added-some ws out d pos n f g res x q i h e =
+    let m : n ≡ length ws = omega (arith, x .room q .0) in
+    let w : take n res ≡ ws = ap (take n) (x .room q .1) ∙ take-at ws (drop n out) n (sym m) in
+    let k : g ≡ take pos f ++ (ws ++ drop (pos + length ws) f) = e ∙ ap₂ (λ (a : List ℕ) (j : ℕ). take pos f ++ (a ++ drop (pos + j) f)) w m in
+    let z : set (set g (2 * d) pos) (2 * d + 1) n ≡ with-form f d pos ws = ap₂ (λ (l : List ℕ) (j : ℕ). set (set l (2 * d) pos) (2 * d + 1) j) k m in
+    record {
+      long = length-set (set g (2 * d) pos) (2 * d + 1) n ∙ (length-set g (2 * d) pos ∙ (ap length k ∙ (length-append (take pos f) (ws ++ drop (pos + length ws) f) ∙ omega (arith, length-take-le pos f (omega arith), length-append ws (drop (pos + length ws) f), length-drop (pos + length ws) f))));
+      room = λ r. (ap (λ (j : ℕ). pos + j) m, z);
+      full = λ r. absurd (omega arith);
+    }
