@@ -5,3 +5,4 @@ pub mod NodesLaws
 pub mod Forms
 pub mod FormsLaws
 pub mod TableLaws
+pub mod BoundLaws

@@ -1,0 +1,4 @@
+pub mod Tables
+pub mod TablesLaws
+pub mod Ranks
+pub mod RanksLaws

@@ -1,0 +1,168 @@
+-- One declaration after the other, rank by rank. Assumes nothing.
+use mathlib.Core.Logic.{_⊎_, inl, inr, ⊎-elim}
+use mathlib.Core.Path.{_≡_, refl, ap, sym, _∙_, subst}
+use mathlib.Core.List.{List, [], _∷_}
+use mathlib.Core.Bool.{Bool, true, false}
+use Prim.Native.Nat.{ℕ, zero, suc, _+_, _*_, _≤_, _<_}
+use native.Mathlib.Omega.{arith}
+use lib.Dec.{eqb, ltb}
+use lib.ListN.{length, getD, set}
+use lib.Seq.{getD-set-same, getD-set-other}
+use borrow.Author.Tests.{eqb-true, eqb-false, ltb-true, ltb-false}
+use Rattle.columns.specs.Column.{pick}
+use Rattle.sheet.specs.Line.{Line}
+use Rattle.sheet.specs.Sheet.{lines}
+use Rattle.custard.specs.Cty.{Cty}
+use Rattle.custard.specs.Decl.{position}
+use Rattle.custard.specs.Program.{program}
+use Rattle.custard.specs.Resolve.{Unfold, gone, newtype, abbreviation, stays}
+use Rattle.custard.specs.Laws.Cty.{All, all-map}
+use Rattle.custard.specs.Laws.Resolve.{Unfolds}
+use Rattle.tables.specs.Tables.{decls-of}
+use Rattle.kids.specs.Nodes.{type-of}
+use Rattle.arguments.specs.Params.{params-of}
+use Rattle.forms.specs.States.{unfold-at, lay-of}
+use Rattle.forms.specs.Emit.{Asked, Forms}
+use Rattle.forms.specs.CodeLaws.{state-below}
+use Rattle.normal_forms.specs.Tables.{body-of, own-words, with-form, Names, Table, Added}
+use Rattle.normal_forms.specs.TablesLaws.{table-more}
+use Rattle.normal_forms.specs.Ranks.{Open, Ranked, Done, Short, Reached, Formed}
+
+-- less is done
+pub table-less : (b u f : List ℕ) (pos : ℕ) (P Q : ℕ → Type 0) → ((d : ℕ) → Q d → P d) → Table b u f pos P → Table b u f pos Q
+table-less b u f pos P Q g t =
+    record { head = t .head; room = t .room; cells = t .cells; above = λ d q. t .above d (g d q); right = λ d q. t .right d (g d q) }
+
+-- a name that is unfolded is that of an unfolded declaration
+unfolds-open : (ls : List Line) (u : List ℕ) (d : ℕ) → Unfolds (unfold-at ls u d) → Open u d
+unfolding unfold-at
+unfolds-open ls u d h = go (getD u (2 * d) 3) refl (eqb (getD u (2 * d) 3) 0) refl (eqb (getD u (2 * d) 3) 1) refl (eqb (getD u (2 * d) 3) 2) refl h
+  where
+    go : (x : ℕ) → getD u (2 * d) 3 ≡ x → (x0 : Bool) → eqb (getD u (2 * d) 3) 0 ≡ x0 → (x1 : Bool) → eqb (getD u (2 * d) 3) 1 ≡ x1 → (x2 : Bool) → eqb (getD u (2 * d) 3) 2 ≡ x2
+        → Unfolds (pick x0 gone (pick x1 (newtype (params-of ls d) (type-of ls (getD u (2 * d + 1) 0))) (pick x2 (abbreviation (params-of ls d) (type-of ls (getD u (2 * d + 1) 0))) stays))) → Open u d
+    go x e true e0 x1 e1 x2 e2 k = absurd k
+    go x e false e0 true e1 x2 e2 k = let z : getD u (2 * d) 3 ≡ 1 = eqb-true (getD u (2 * d) 3) 1 e1 in (omega arith, omega arith)
+    go x e false e0 false e1 true e2 k = let z : getD u (2 * d) 3 ≡ 2 = eqb-true (getD u (2 * d) 3) 2 e2 in (omega arith, omega arith)
+    go x e false e0 false e1 false e2 k = absurd k
+
+module _ (b t u rank : List ℕ) (ranked : Ranked b t u rank) where
+  abbrev ls : List Line
+  ls = lines 6 b
+
+  abbrev n : ℕ
+  n = decls-of ls
+
+  open-below : (d : ℕ) → Open u d → d < n
+  open-below d o = state-below u d (getD u (2 * d) 3) n refl (o .1) (omega (arith, ranked .long))
+
+  -- the unfolded names in a body are done, at a rank that is not below its own
+  names-done : (r i d : ℕ) → d < n → Open u d → getD rank d 0 ≤ r → Names ls u (Done b u rank r i) d
+  names-done r i d l o q =
+      all-map (λ m. Unfolds (lay-of ls u m) → getD rank (position (program ls) m) 0 < getD rank d 0) (λ m. Unfolds (lay-of ls u m) → Done b u rank r i (position (program ls) m))
+      (λ m k v. let o′ : Open u (position (program ls) m) = unfolds-open ls u (position (program ls) m) v in (open-below (position (program ls) m) o′, o′, omega (arith, k v), λ e. absurd (omega (arith, k v)))) (type-of ls (body-of u d)) (ranked .lower d l o)
+
+  pub asked-body : (f : List ℕ) (pos : ℕ) (P : ℕ → Type 0) (d : ℕ) → Table b u f pos P → d < n → Open u d → Asked b t u f (body-of u d) d
+  asked-body f pos P d t l o =
+      record {
+        tabled = ranked .tabled;
+        states = omega (arith, ranked .long);
+        forms = record { cells = omega (arith, t .head, t .room); inside = λ e q. omega (arith, t .cells e q, t .room) };
+        type = ranked .bodies d l o;
+        decl = l;
+      }
+
+  module _ (r d : ℕ) (l : d < n) where
+    -- a declaration that is not of this rank, or not unfolded
+    pub reached-same : (f : List ℕ) (pos scratch : ℕ) → (Open u d → getD rank d 0 ≡ r → ⊥) → Table b u f pos (Done b u rank r d) → Reached b u rank r (d + 1) scratch f f pos
+    reached-same f pos scratch other t =
+        record {
+          same = refl;
+          table = λ q. table-less b u f pos (Done b u rank r d) (Done b u rank r (d + 1)) (λ e h. (h .0, h .1, h .2, λ z. below e (h .3 z) (λ y. other (subst (Open u) y (h .1)) (subst (λ (j : ℕ). getD rank j 0 ≡ r) y z)))) t;
+          short = λ q. absurd (omega (arith, t .room));
+        }
+      where
+        below : (e : ℕ) → e < d + 1 → (e ≡ d → ⊥) → e < d
+        below e h ne = omega arith
+
+    -- one that is
+    pub reached-more : (f f′ : List ℕ) (pos scratch e : ℕ) → Open u d → getD rank d 0 ≡ r → Table b u f pos (Done b u rank r d) → Added (own-words ls u f d) scratch d pos f f′ e → Reached b u rank r (d + 1) scratch f f′ e
+    reached-more f f′ pos scratch e o q t x =
+        record {
+          same = x .long;
+          table = λ k. let z = x .room k in
+              subst (λ (g : List ℕ). Table b u g e (Done b u rank r (d + 1))) (sym (z .1))
+              (subst (λ (j : ℕ). Table b u (with-form f d pos (own-words ls u f d)) j (Done b u rank r (d + 1))) (sym (z .0))
+              (table-less b u (with-form f d pos (own-words ls u f d)) (pos + length (own-words ls u f d)) (λ i. Done b u rank r d i ⊎ (i ≡ d)) (Done b u rank r (d + 1)) (λ i h. split i h (eqb i d) refl)
+              (table-more b u f pos (Done b u rank r d) t d l (λ h. absurd (never (h .3 q))) (λ i h. (h .0, names-done r d i (h .0) (h .1) (h .2))) (names-done r d d l o (omega (arith, q))) (omega (arith, z .0, k)))));
+          short = λ k. record { level = r; decl = d; list = f; place = pos; table = t; fits = x .full k };
+        }
+      where
+        never : d < d → ⊥
+        never h = omega arith
+
+        split : (i : ℕ) → Done b u rank r (d + 1) i → (c : Bool) → eqb i d ≡ c → Done b u rank r d i ⊎ (i ≡ d)
+        split i h true z = inr (eqb-true i d z)
+        split i h false z = inl (h .0, h .1, h .2, λ y. omega (arith, h .3 y, eqb-false i d z))
+
+  -- ---- loops
+  -- what was reached on the way
+  pub reached-stop : (r i j k sc sc₀ : ℕ) (f₀ g g′ : List ℕ) (e : ℕ) → length g ≡ length f₀ → sc ≡ sc₀ → length f₀ < e → Reached b u rank r i sc g g′ e → Reached b u rank j k sc₀ f₀ g′ e
+  reached-stop r i j k sc sc₀ f₀ g g′ e l m q x =
+      record {
+        same = x .same ∙ l;
+        table = λ z. absurd (omega arith);
+        short = λ z. subst (λ (y : ℕ). Short b u rank y (length f₀)) m (subst (λ (y : ℕ). Short b u rank sc y) l (x .short (omega (arith, l))));
+      }
+
+  pub reached-done : (r i sc : ℕ) (f₀ f : List ℕ) (p : ℕ) → length f ≡ length f₀ → Table b u f p (Done b u rank r i) → Reached b u rank r i sc f₀ f p
+  reached-done r i sc f₀ f p l t = record { same = l; table = λ z. t; short = λ z. absurd (omega (arith, t .room, l)) }
+
+  -- the next rank
+  pub next-rank : (r : ℕ) (f : List ℕ) (p : ℕ) → Table b u f p (Done b u rank r n) → Table b u f p (Done b u rank (r + 1) 0)
+  next-rank r f p t =
+      table-less b u f p (Done b u rank r n) (Done b u rank (r + 1) 0) (λ e h. (h .0, h .1, lower-rank (getD rank e 0) (h .2) (λ z. none e (h .3 z)), λ z. h .0)) t
+    where
+      none : (e : ℕ) → e < 0 → ⊥
+      none e h = omega arith
+
+      lower-rank : (x : ℕ) → x ≤ r + 1 → (x ≡ r + 1 → ⊥) → x ≤ r
+      lower-rank x h ne = omega arith
+
+  -- nothing is done
+  pub first-table : (f : List ℕ) → 2 * n ≤ length f → ((i : ℕ) → i < 2 * n → getD f i 0 ≡ 0) → Table b u f (2 * n) (Done b u rank 0 0)
+  first-table f h z =
+      record {
+        head = omega arith;
+        room = h;
+        cells = λ d l. omega (arith, z (2 * d) (omega arith), z (2 * d + 1) (omega arith));
+        above = λ d k. absurd (none d (k .3 (zeroth (getD rank d 0) (k .2))));
+        right = λ d k. absurd (none d (k .3 (zeroth (getD rank d 0) (k .2))));
+      }
+    where
+      none : (e : ℕ) → e < 0 → ⊥
+      none e k = omega arith
+
+      zeroth : (x : ℕ) → x ≤ 0 → x ≡ 0
+      zeroth x k = omega arith
+
+  -- every rank is done
+  pub formed-done : (sc : ℕ) (f₀ f : List ℕ) (r p : ℕ) → n ≤ r → length f ≡ length f₀ → Table b u f p (Done b u rank r 0) → Formed b u rank sc f₀ f p
+  formed-done sc f₀ f r p q l t =
+      record {
+        same = l;
+        table = λ z. table-less b u f p (Done b u rank r 0) (λ d. (d < n) × Open u d) (λ d h. (h .0, h .1, omega (arith, ranked .few d (h .0) (h .1)), λ e. absurd (omega (arith, ranked .few d (h .0) (h .1))))) t;
+        short = λ z. absurd (omega (arith, t .room, l));
+      }
+
+  pub formed-stop : (r i sc sc₀ : ℕ) (f₀ g g′ : List ℕ) (e : ℕ) → length g ≡ length f₀ → sc ≡ sc₀ → length f₀ < e → Reached b u rank r i sc g g′ e → Formed b u rank sc₀ f₀ g′ e
+  formed-stop r i sc sc₀ f₀ g g′ e l m q x =
+      let y = reached-stop r i r i sc sc₀ f₀ g g′ e l m q x in
+      record { same = y .same; table = λ z. absurd (omega arith); short = y .short }
+
+-- one zero more
+pub zeros-more : (f : List ℕ) (i : ℕ) → i < length f → ((j : ℕ) → j < i → getD f j 0 ≡ 0) → (j : ℕ) → j < i + 1 → getD (set f i 0) j 0 ≡ 0
+zeros-more f i h z j k = go (eqb j i) refl
+  where
+    go : (c : Bool) → eqb j i ≡ c → getD (set f i 0) j 0 ≡ 0
+    go true e = ap (λ (m : ℕ). getD (set f i 0) m 0) (eqb-true j i e) ∙ getD-set-same f i 0 0 h
+    go false e = getD-set-other f i j 0 0 (eqb-false j i e) ∙ z j (omega (arith, eqb-false j i e))

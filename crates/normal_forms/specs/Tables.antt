@@ -1,0 +1,48 @@
+-- The table of normal forms while it is made, callees first. Assumes nothing.
+use mathlib.Core.Logic.{_⊎_}
+use mathlib.Core.Path.{_≡_}
+use mathlib.Core.List.{List, _++_}
+use mathlib.Core.Bool.{true}
+use Prim.Native.Nat.{ℕ, _+_, _*_, _≤_, _<_}
+use lib.ListN.{length, getD, take, drop, set}
+use Rattle.sheet.specs.Line.{Line}
+use Rattle.sheet.specs.Sheet.{lines}
+use Rattle.custard.specs.Decl.{position}
+use Rattle.custard.specs.Program.{program}
+use Rattle.tables.specs.Tables.{decls-of}
+use Rattle.kids.specs.Nodes.{type-of}
+use Rattle.custard.specs.Laws.Cty.{All}
+use Rattle.custard.specs.Laws.Resolve.{Unfolds}
+use Rattle.forms.specs.States.{lay-of}
+use Rattle.forms.specs.Emit.{form-words, words}
+
+-- the Y line of an unfolded declaration's body
+abbrev pub body-of : List ℕ → ℕ → ℕ
+body-of u d = getD u (2 * d + 1) 0
+
+-- the words of its normal form, from the forms that are there
+abbrev pub own-words : List Line → List ℕ → List ℕ → ℕ → List ℕ
+own-words ls u f d = words ls u f d true (body-of u d)
+
+-- the list with a form at place pos, and its two cells
+unfoldable pub with-form : List ℕ → ℕ → ℕ → List ℕ → List ℕ
+with-form f d pos ws = set (set (take pos f ++ (ws ++ drop (pos + length ws) f)) (2 * d) pos) (2 * d + 1) (length ws)
+
+-- what is asked of the unfolded names in a declaration's body
+abbrev pub Names : List Line → List ℕ → (ℕ → Type 0) → ℕ → Type 0
+Names ls u Done d = All (λ n. Unfolds (lay-of ls u n) → Done (position (program ls) n)) (type-of ls (body-of u d))
+
+-- The forms of the declarations that are done are there, below place pos and above the cells.
+pub record Table (b u f : List ℕ) (pos : ℕ) (Done : ℕ → Type 0) : Type 0 where
+  pub head : 2 * decls-of (lines 6 b) ≤ pos
+  pub room : pos ≤ length f
+  pub cells : (d : ℕ) → d < decls-of (lines 6 b) → getD f (2 * d) 0 + getD f (2 * d + 1) 0 ≤ pos
+  pub above : (d : ℕ) → Done d → 2 * decls-of (lines 6 b) ≤ getD f (2 * d) 0
+  pub right : (d : ℕ) → Done d → form-words f d ≡ own-words (lines 6 b) u f d
+
+-- The words ws are added to the list f as declaration d's, r the place after them; where the list, or the scratch of so
+-- many words, is too short, r is past the end.
+pub record Added (ws : List ℕ) (scratch d pos : ℕ) (f f′ : List ℕ) (r : ℕ) : Type 0 where
+  pub long : length f′ ≡ length f
+  pub room : r ≤ length f → (r ≡ pos + length ws) × (f′ ≡ with-form f d pos ws)
+  pub full : length f < r → (scratch < length ws) ⊎ (length f < pos + length ws)
