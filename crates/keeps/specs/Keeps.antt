@@ -7,12 +7,12 @@ use lib.Dec.{eqb}
 use lib.ListN.{length, getD}
 use Rattle.columns.specs.Column.{pick}
 use Rattle.sheet.specs.Line.{Line, number}
-use Rattle.custard.specs.Decl.{Dtype, Origin, here, imported, Decl, dtype-at, origin-at}
-use Rattle.custard.specs.Erasure.{marked, erasure-fixpoint}
-use Rattle.custard.specs.Layout.{ctor-layouts}
-use Rattle.custard.specs.Output.{bit, all-slots}
-use Rattle.custard.specs.Program.{type-line, field-line, import-line, is, program}
-use Rattle.custard.specs.Rows.{count-of}
+use Rattle.model.specs.Decl.{Dtype, Origin, here, imported, Decl, dtype-at, origin-at, bit}
+use Rattle.model.specs.Erasure.{marked, erasure-fixpoint}
+use Rattle.model.specs.Layout.{ctor-layouts}
+use Rattle.meaning.specs.Output.{all-slots}
+use Rattle.meaning.specs.Program.{type-line, field-line, import-line, is, program}
+use Rattle.meaning.specs.Rows.{count-of}
 use Rattle.tables.specs.Tables.{nth, head-line, decls-of, first-of}
 use Rattle.marks.specs.Marks.{type-erased}
 use Rattle.bodies.specs.Bodies.{field-type}

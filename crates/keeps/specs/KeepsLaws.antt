@@ -12,16 +12,16 @@ use Rattle.columns.specs.Column.{pick, _⇒_∥_}
 use Rattle.sheet.specs.Line.{Line, bad, number}
 use Rattle.sheet.specs.Sheet.{lines}
 use Rattle.sheet.specs.ListLaws.{length-nil}
-use Rattle.custard.specs.Cty.{Cty, TUnit}
-use Rattle.custard.specs.Decl.{Field, Ctor, Body, TAbstract, TAbbrev, TRecord, TVariant, Dtype, Origin, here, imported, Decl, dtype-at, origin-at, ctors-of, CtorLayout, close-field, close-body, close-fields}
-use Rattle.custard.specs.Erasure.{cty-erased, marked, erasure-fixpoint}
-use Rattle.custard.specs.Layout.{slots, ctor-layout, ctor-layouts}
-use Rattle.custard.specs.Output.{bit, all-slots}
-use Rattle.custard.specs.Program.{type-line, param-line, ctor-line, field-line, import-line, is, select, before, Group, groups, trees, type-at, field-of, ctor-of, body-of, dtype-of, keeps, keeps-of, ctor-layouts-by, info-of, verdict-of, program}
-use Rattle.custard.specs.Rows.{count-of}
-use Rattle.custard.specs.Laws.Lists.{getD-map}
-use Rattle.custard.specs.Laws.Program.{Whole}
-use Rattle.custard.specs.Laws.Rounds.{cases-eq}
+use Rattle.model.specs.Cty.{Cty, TUnit}
+use Rattle.model.specs.Decl.{Field, Ctor, Body, TAbstract, TAbbrev, TRecord, TVariant, Dtype, Origin, here, imported, Decl, dtype-at, origin-at, ctors-of, CtorLayout, close-field, close-body, close-fields, bit}
+use Rattle.model.specs.Erasure.{cty-erased, marked, erasure-fixpoint}
+use Rattle.model.specs.Layout.{slots, ctor-layout, ctor-layouts}
+use Rattle.meaning.specs.Output.{all-slots}
+use Rattle.meaning.specs.Program.{type-line, param-line, ctor-line, field-line, import-line, is, select, before, Group, groups, trees, type-at, field-of, ctor-of, body-of, dtype-of, keeps, keeps-of, ctor-layouts-by, info-of, verdict-of, program}
+use Rattle.meaning.specs.Rows.{count-of}
+use Rattle.model.specs.Laws.Lists.{getD-map}
+use Rattle.meaning.specs.Laws.Program.{Whole}
+use Rattle.model.specs.Laws.Rounds.{cases-eq}
 use Rattle.limits.specs.Limits.{counts-of}
 use Rattle.refusals.specs.Rows.{Passed}
 use Rattle.refusals.specs.RowsLaws.{passed-kept}

@@ -4,9 +4,9 @@ ghost use mathlib.Core.Path.{_≡_};
 ghost use Prim.Native.Nat.{suc, _≤_, _<_};
 ghost use lib.ListN.{length};
 ghost use Rattle.sheet.specs.Sheet as sheet;
-ghost use Rattle.custard.specs.Output as output;
-ghost use Rattle.custard.specs.Program as program;
-ghost use Rattle.custard.specs.Rows as rows;
+ghost use Rattle.meaning.specs.Output as output;
+ghost use Rattle.meaning.specs.Program as program;
+ghost use Rattle.meaning.specs.Rows as rows;
 ghost use Rattle.tables.specs.Tables as tables;
 ghost use Rattle.keeps.specs.Keeps as keeps;
 

@@ -12,8 +12,8 @@ use lib.ListN.{length, getD}
 use Rattle.columns.specs.Column.{pick, _⇒_∥_}
 use Rattle.sheet.specs.Line.{Line}
 use Rattle.sheet.specs.ListLaws.{Every, every-at, every-over}
-use Rattle.custard.specs.Cty.{Cty, TUnit, TAny, TExn, TVar, TInt, TFloat, TConst, TArrow, TApp, TTuple, TBuf, TRef, TInline, uninline}
-use Rattle.custard.specs.Decl.{
+use Rattle.model.specs.Cty.{Cty, TUnit, TAny, TExn, TVar, TInt, TFloat, TConst, TArrow, TApp, TTuple, TBuf, TRef, TInline, uninline}
+use Rattle.model.specs.Decl.{
   Field,
   Ctor,
   Body,
@@ -50,17 +50,16 @@ use Rattle.custard.specs.Decl.{
   close-body,
   close-fields,
 }
-use Rattle.custard.specs.Erasure.{marked, erasure-fixpoint}
-use Rattle.custard.specs.Layout.{slots, kept, ctor-layout, ctor-layouts, newtype-of-ctor, newtype-of, candidate, dropped, collapse, layout-of-body, layout-of}
-use Rattle.custard.specs.Program.{import-line, is, is-head, Group, groups, keeps-of, ctor-layouts-by, abbreviated, or-struct, layout-by, info-of, verdict-of, dtype-of, decl-of, trees, program}
-use Rattle.custard.specs.Resolve.{Unfold, gone, newtype, abbreviation, stays, unfold-body, unfold-dtype, unfold-of}
-use Rattle.custard.specs.Run.{layouts-of}
-use Rattle.custard.specs.Laws.Cty.{Each, Any, all-of, close-each}
-use Rattle.custard.specs.Laws.Layout.{candidates-of, getD-layouts, getD-candidates}
-use Rattle.custard.specs.Laws.Locality.{lay-declared, lay-foreign}
-use Rattle.custard.specs.Laws.Names.{declared-cases}
-use Rattle.custard.specs.Laws.Resolve.{Fields, Kept, Ctors, BodyTypes}
-use Rattle.custard.specs.Laws.Run.{lay, layout-of-decl}
+use Rattle.model.specs.Erasure.{marked, erasure-fixpoint}
+use Rattle.model.specs.Layout.{slots, kept, ctor-layout, ctor-layouts, newtype-of-ctor, newtype-of, candidate, dropped, collapse, layout-of-body, layout-of, candidates-of}
+use Rattle.meaning.specs.Program.{import-line, is, is-head, Group, groups, keeps-of, ctor-layouts-by, abbreviated, or-struct, layout-by, info-of, verdict-of, dtype-of, decl-of, trees, program}
+use Rattle.model.specs.Resolve.{Unfold, gone, newtype, abbreviation, stays, unfold-body, unfold-dtype, unfold-of}
+use Rattle.model.specs.Run.{layouts-of, lay, layout-of-decl}
+use Rattle.model.specs.Laws.Cty.{Each, Any, all-of, close-each}
+use Rattle.model.specs.Laws.Layout.{getD-layouts, getD-candidates}
+use Rattle.locality.specs.Laws.Locality.{lay-declared, lay-foreign}
+use Rattle.model.specs.Laws.Names.{declared-cases}
+use Rattle.model.specs.Laws.Resolve.{Fields, Kept, Ctors, BodyTypes}
 use Rattle.normal.specs.FormLaws.{BodyBound, Bound}
 
 -- ---- layouts are made of their declarations' types

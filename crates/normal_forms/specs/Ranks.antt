@@ -5,11 +5,11 @@ use mathlib.Core.List.{List}
 use Prim.Native.Nat.{ℕ, _+_, _*_, _≤_, _<_}
 use lib.ListN.{length, getD}
 use Rattle.sheet.specs.Sheet.{lines}
-use Rattle.custard.specs.Decl.{position}
-use Rattle.custard.specs.Program.{program, type-line}
-use Rattle.custard.specs.Rows.{count-of}
-use Rattle.custard.specs.Laws.Cty.{All}
-use Rattle.custard.specs.Laws.Resolve.{Unfolds}
+use Rattle.model.specs.Decl.{position}
+use Rattle.meaning.specs.Program.{program, type-line}
+use Rattle.meaning.specs.Rows.{count-of}
+use Rattle.model.specs.Laws.Cty.{All}
+use Rattle.model.specs.Laws.Resolve.{Unfolds}
 use Rattle.tables.specs.Tables.{decls-of, Tabled}
 use Rattle.kids.specs.Nodes.{type-of}
 use Rattle.forms.specs.States.{lay-of}

@@ -12,12 +12,12 @@ use borrow.Author.Tests.{eqb-true, eqb-false, ltb-true, ltb-false}
 use Rattle.columns.specs.Column.{pick}
 use Rattle.sheet.specs.Line.{Line}
 use Rattle.sheet.specs.Sheet.{lines}
-use Rattle.custard.specs.Cty.{Cty}
-use Rattle.custard.specs.Decl.{position}
-use Rattle.custard.specs.Program.{program}
-use Rattle.custard.specs.Resolve.{Unfold, gone, newtype, abbreviation, stays}
-use Rattle.custard.specs.Laws.Cty.{All, all-map}
-use Rattle.custard.specs.Laws.Resolve.{Unfolds}
+use Rattle.model.specs.Cty.{Cty}
+use Rattle.model.specs.Decl.{position}
+use Rattle.meaning.specs.Program.{program}
+use Rattle.model.specs.Resolve.{Unfold, gone, newtype, abbreviation, stays}
+use Rattle.model.specs.Laws.Cty.{All, all-map}
+use Rattle.model.specs.Laws.Resolve.{Unfolds}
 use Rattle.tables.specs.Tables.{decls-of}
 use Rattle.kids.specs.Nodes.{type-of}
 use Rattle.arguments.specs.Params.{params-of}

@@ -7,12 +7,12 @@ use Prim.Native.Nat.{ℕ, _+_, _*_, _≤_, _<_}
 use lib.ListN.{length, getD, take, drop, set}
 use Rattle.sheet.specs.Line.{Line}
 use Rattle.sheet.specs.Sheet.{lines}
-use Rattle.custard.specs.Decl.{position}
-use Rattle.custard.specs.Program.{program}
+use Rattle.model.specs.Decl.{position}
+use Rattle.meaning.specs.Program.{program}
 use Rattle.tables.specs.Tables.{decls-of}
 use Rattle.kids.specs.Nodes.{type-of}
-use Rattle.custard.specs.Laws.Cty.{All}
-use Rattle.custard.specs.Laws.Resolve.{Unfolds}
+use Rattle.model.specs.Laws.Cty.{All}
+use Rattle.model.specs.Laws.Resolve.{Unfolds}
 use Rattle.forms.specs.States.{lay-of}
 use Rattle.forms.specs.Emit.{form-words, words}
 

@@ -6,9 +6,9 @@ use lib.Dec.{ltb}
 use lib.ListN.{length, getD}
 use Rattle.columns.specs.Column.{pick}
 use Rattle.sheet.specs.Sheet.{lines}
-use Rattle.custard.specs.Decl.{position}
-use Rattle.custard.specs.Program.{name-line, program}
-use Rattle.custard.specs.Rows.{count-of}
+use Rattle.model.specs.Decl.{position}
+use Rattle.meaning.specs.Program.{name-line, program}
+use Rattle.meaning.specs.Rows.{count-of}
 use Rattle.tables.specs.Tables.{decls-of, sizes-of, at-names, cells-of}
 use Rattle.filler.specs.Filling.{Agree}
 

@@ -7,8 +7,8 @@ use native.Mathlib.Numerals.{add-one}
 use lib.ListN.{length, length-set}
 use borrow.Author.Needs.{needs}
 use Rattle.sheet.specs.Sheet.{lines}
-use Rattle.custard.specs.Output.{bit}
-use Rattle.custard.specs.Program.{field-line, import-line, is}
+use Rattle.model.specs.Decl.{bit}
+use Rattle.meaning.specs.Program.{field-line, import-line, is}
 use Rattle.tables.specs.Tables.{head-line, first-of}
 use Rattle.bodies.specs.BodiesLaws.{first-rises, first-le}
 use Rattle.keeps.specs.Keeps.{field-kept}

@@ -5,8 +5,8 @@ use native.Mathlib.Omega.{arith}
 use lib.ListN.{getD}
 use borrow.Author.Needs.{needs}
 use Rattle.sheet.specs.Sheet.{lines}
-use Rattle.custard.specs.Program.{name-line, arg-line, type-line}
-use Rattle.custard.specs.Rows.{count-of}
+use Rattle.meaning.specs.Program.{name-line, arg-line, type-line}
+use Rattle.meaning.specs.Rows.{count-of}
 use Rattle.tables.specs.Tables.{decls-of, header, cells-of}
 use Rattle.filler.specs.Filling.{Put, Toward}
 use Rattle.tabler.specs.Naming.{all}
