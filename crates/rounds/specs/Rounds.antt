@@ -6,11 +6,11 @@ use Prim.Native.Nat.{ℕ, suc, _+_, _<_}
 use lib.ListN.{length, getD}
 use Rattle.sheet.specs.Line.{Line}
 use Rattle.model.specs.Decl.{Decl, position, bit}
-use Rattle.model.specs.Erasure.{rule, update, Settled, settle, start}
+use Rattle.model.specs.Erasure.{rule, update, Settled, settle, start, round}
 use Rattle.meaning.specs.Program.{type-line, program}
 use Rattle.meaning.specs.Rows.{count-of}
 use Rattle.model.specs.Laws.Lists.{trues}
-use Rattle.model.specs.Laws.Rounds.{Le, Sound, round}
+use Rattle.model.specs.Laws.Rounds.{Le, Sound}
 use Rattle.tables.specs.Tables.{decls-of}
 use Rattle.marks.specs.Marks.{part, marks-of, type-erased}
 use Rattle.bodies.specs.Bodies.{State}

@@ -8,10 +8,10 @@ use lib.ListN.{length, length-map}
 use lib.Dec.{eqb}
 use borrow.Author.Needs.{needs}
 use Rattle.sheet.specs.Sheet.{lines}
-use Rattle.model.specs.Erasure.{rule, settle}
+use Rattle.model.specs.Erasure.{rule, settle, round}
 use Rattle.meaning.specs.Program.{program}
 use Rattle.model.specs.Laws.Lists.{trues}
-use Rattle.model.specs.Laws.Rounds.{round, trues-le}
+use Rattle.model.specs.Laws.Rounds.{trues-le}
 use Rattle.tables.specs.Tables.{decls-of}
 use Rattle.marks.specs.Marks.{marks-of}
 use Rattle.rounds.specs.Rounds.{Running, ends-in}
