@@ -13,7 +13,7 @@ use Rattle.columns.specs.Column.{pick, _⇒_∥_}
 use Rattle.sheet.specs.Line.{Line}
 use Rattle.sheet.specs.ListLaws.{Every, every-at, every-over}
 use Rattle.model.specs.Cty.{Cty, TUnit, TAny, TExn, TVar, TInt, TFloat, TConst, TArrow, TApp, TTuple, TBuf, TRef, TInline, uninline}
-use Rattle.model.specs.Decl.{
+use Rattle.model.specs.Decl.{table, 
   Field,
   Ctor,
   Body,
@@ -31,6 +31,7 @@ use Rattle.model.specs.Decl.{
   CtorLayout,
   Layout,
   L-erased,
+  NewtypeLayout,
   L-newtype,
   L-struct,
   L-abbrev,
@@ -51,8 +52,8 @@ use Rattle.model.specs.Decl.{
   close-fields,
 }
 use Rattle.model.specs.Erasure.{marked, erasure-fixpoint}
-use Rattle.model.specs.Layout.{slots, kept, ctor-layout, ctor-layouts, newtype-of-ctor, newtype-of, candidate, dropped, collapse, layout-of-body, layout-of, candidates-of}
-use Rattle.meaning.specs.Program.{import-line, is, is-head, Group, groups, keeps-of, ctor-layouts-by, abbreviated, or-struct, layout-by, info-of, verdict-of, dtype-of, decl-of, trees, program}
+use Rattle.model.specs.Layout.{layouts-of-ctors, slots, kept, ctor-layout, ctor-layouts, newtype-of-ctor, newtype-of, candidate, dropped, collapse, layout-of-body, layout-of, candidates-of}
+use Rattle.meaning.specs.Program.{import-line, is, is-head, Group, groups, keeps-of, ctor-layouts-by, abbreviated, layout-by, info-of, verdict-of, dtype-of, decl-of, trees, program}
 use Rattle.model.specs.Resolve.{Unfold, gone, newtype, abbreviation, stays, unfold-body, unfold-dtype, unfold-of}
 use Rattle.model.specs.Run.{layouts-of, lay, layout-of-decl}
 use Rattle.model.specs.Laws.Cty.{Each, Any, all-of, close-each}
@@ -72,9 +73,9 @@ module _ (Q : Cty → Type 0) (up : (c : Cty) → Q c → Q (uninline c)) where
   Payload (L-abbrev c) = Unit {0}
   Payload L-opaque = Unit {0}
 
-  abbrev Payloads : Option Layout → Type 0
+  abbrev Payloads : Option NewtypeLayout → Type 0
   Payloads none = Unit {0}
-  Payloads (some l) = Payload l
+  Payloads (some nt) = Q (nt .nt-ty)
 
   kept-types : (bs : List Bool) (fs : List Field) → Fields Q fs → Fields Q (kept bs fs)
   unfolding kept
@@ -93,8 +94,8 @@ module _ (Q : Cty → Type 0) (up : (c : Cty) → Q c → Q (uninline c)) where
   ctors-types n (TRecord fs) h = (h, tt)
   ctors-types n (TVariant cs) h = h
 
-  layouts-types : (er : ℕ → Bool) (cs : List Ctor) → Ctors Q cs → Kept Q (map (λ c. ctor-layout c (slots er (c .ct-fields))) cs)
-  unfolding ctor-layout
+  layouts-types : (er : ℕ → Bool) (cs : List Ctor) → Ctors Q cs → Kept Q (layouts-of-ctors er cs)
+  unfolding table ctor-layout
   layouts-types er [] h = tt
   layouts-types er (c ∷ cs) h = (kept-types (slots er (c .ct-fields)) (c .ct-fields) (h .0), layouts-types er cs (h .1))
 
@@ -125,13 +126,13 @@ module _ (Q : Cty → Type 0) (up : (c : Cty) → Q c → Q (uninline c)) where
       go true = tt
       go false = newtype-payload cls h
 
-  collapse-payload : (drop : Bool) (cand : Option Layout) (cls : List CtorLayout) → Payloads cand → Payload (collapse drop cand cls)
+  collapse-payload : (drop : Bool) (cand : Option NewtypeLayout) (cls : List CtorLayout) → Payloads cand → Payload (collapse drop cand cls)
   unfolding collapse
   collapse-payload true cand cls h = tt
   collapse-payload false none cls h = tt
-  collapse-payload false (some l) cls h = h
+  collapse-payload false (some nt) cls h = h
 
-  local-payload : (d : Dtype) (e drop : Bool) (cand : Option Layout) (cls : List CtorLayout) → Payloads cand → Payload (layout-of d here e drop cand cls)
+  local-payload : (d : Dtype) (e drop : Bool) (cand : Option NewtypeLayout) (cls : List CtorLayout) → Payloads cand → Payload (layout-of d here e drop cand cls)
   unfolding layout-of layout-of-body
   local-payload d true drop cand cls h = tt
   local-payload d false drop cand cls h = go (d .dt-body)
@@ -141,10 +142,6 @@ module _ (Q : Cty → Type 0) (up : (c : Cty) → Q c → Q (uninline c)) where
       go (TAbbrev c) = tt
       go (TRecord fs) = collapse-payload drop cand cls h
       go (TVariant cs) = collapse-payload drop cand cls h
-
-  struct-payload : (o : Option Layout) (cls : List CtorLayout) → Payloads o → Payload (or-struct o cls)
-  struct-payload none cls h = tt
-  struct-payload (some l) cls h = h
 
   abbreviated-payload : (b : Body) → Payload (abbreviated b)
   abbreviated-payload TAbstract = tt
@@ -156,9 +153,9 @@ module _ (Q : Cty → Type 0) (up : (c : Cty) → Q c → Q (uninline c)) where
   unfolding layout-by
   by-payload k b cls h = go0 (eqb k 0) (eqb k 1) (eqb k 2) (eqb k 3)
     where
-      go0 : (x0 x1 x2 x3 : Bool) → Payload (x0 ⇒ L-erased ∥ x1 ⇒ or-struct (newtype-of cls) cls ∥ x2 ⇒ L-struct cls ∥ x3 ⇒ abbreviated b ∥ L-opaque)
+      go0 : (x0 x1 x2 x3 : Bool) → Payload (x0 ⇒ L-erased ∥ x1 ⇒ collapse false (newtype-of cls) cls ∥ x2 ⇒ L-struct cls ∥ x3 ⇒ abbreviated b ∥ L-opaque)
       go0 true x1 x2 x3 = tt
-      go0 false true x2 x3 = struct-payload (newtype-of cls) cls (newtype-payload cls h)
+      go0 false true x2 x3 = collapse-payload false (newtype-of cls) cls (newtype-payload cls h)
       go0 false false true x3 = tt
       go0 false false false true = abbreviated-payload b
       go0 false false false false = tt
@@ -255,7 +252,7 @@ module _ (ds : List Decl) (closed : Every Closed ds) where
       up : (c : Cty) → Bounded ps c → Bounded ps (uninline c)
       up c k = uninline-each (λ v. T (member v ps)) c k
 
-      cand : Option Layout
+      cand : Option NewtypeLayout
       cand = getD (candidates-of ds s) i none
 
       cls : List CtorLayout
