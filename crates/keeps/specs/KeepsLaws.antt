@@ -53,8 +53,8 @@ module _ (er : ℕ → Bool) (ps : List ℕ) (ts : List Cty) where
   closed-ctor : Ctor → Ctor
   closed-ctor c = record { ct-name = c .ct-name; ct-fields = map (close-field ps) (c .ct-fields) }
 
-  variant-slots : (gs : List Group) → all-slots (map (λ c. ctor-layout c (slots er (c .ct-fields))) (map (λ c. record { ct-name = c .ct-name; ct-fields = map (close-field ps) (c .ct-fields) }) (map (ctor-of ts) gs))) ≡ local-slots (fields-of gs)
-  unfolding all-slots ctor-layout ctor-of fields-of local-slots
+  variant-slots : (gs : List Group) → all-slots (layouts-of-ctors er (map (λ c. record { ct-name = c .ct-name; ct-fields = map (close-field ps) (c .ct-fields) }) (map (ctor-of ts) gs))) ≡ local-slots (fields-of gs)
+  unfolding table all-slots ctor-layout ctor-of fields-of local-slots
   variant-slots [] = refl
   variant-slots (g ∷ gs) =
       ap₂ _++_ (slots-closed (select field-line (g .rest))) (variant-slots gs) ∙ sym (local-append (select field-line (g .rest)) (fields-of gs))
@@ -82,12 +82,12 @@ module _ (er : ℕ → Bool) (ps : List ℕ) (ts : List Cty) (n kind last : ℕ)
   none-there : kind ≤ 1 → select field-line ls ≡ []
   none-there h = length-nil (select field-line ls) (bare h)
 
-  body-slots : all-slots (map (λ c. ctor-layout c (slots er (c .ct-fields))) (ctors-of n (close-body ps (body-of ts kind last ls)))) ≡ local-slots er ps ts (select field-line ls)
-  unfolding body-of close-body ctors-of all-slots ctor-layout local-slots
+  body-slots : all-slots (layouts-of-ctors er (ctors-of n (close-body ps (body-of ts kind last ls)))) ≡ local-slots er ps ts (select field-line ls)
+  unfolding table body-of close-body ctors-of all-slots ctor-layout local-slots
   body-slots = go (eqb kind 1) (eqb kind 2) (eqb kind 3) refl refl refl
     where
       go : (x y z : Bool) → eqb kind 1 ≡ x → eqb kind 2 ≡ y → eqb kind 3 ≡ z
-          → all-slots (map (λ c. ctor-layout c (slots er (c .ct-fields))) (ctors-of n (close-body ps (
+          → all-slots (layouts-of-ctors er (ctors-of n (close-body ps (
           x ⇒ TAbbrev (type-at ts last) ∥
           y ⇒ TRecord (map (field-of ts) (select field-line ls)) ∥
           z ⇒ TVariant (map (ctor-of ts) (groups (is ctor-line) ls)) ∥

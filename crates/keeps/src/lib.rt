@@ -4,14 +4,14 @@ ghost use mathlib.Core.Path.{_≡_};
 ghost use Prim.Native.Nat.{suc, _≤_, _<_};
 ghost use lib.ListN.{length};
 ghost use Rattle.sheet.specs.Sheet as sheet;
-ghost use Rattle.meaning.specs.Output as output;
+ghost use Rattle.model.specs.Decl as decls;
 ghost use Rattle.meaning.specs.Program as program;
 ghost use Rattle.meaning.specs.Rows as rows;
 ghost use Rattle.tables.specs.Tables as tables;
 ghost use Rattle.keeps.specs.Keeps as keeps;
 
 fn bit(b: bool) -> u8
-    ensures { λ r. ⌜ r ≡ output.bit b ⌝ }
+    ensures { λ r. ⌜ r ≡ decls.bit b ⌝ }
 {
     if b { 1 } else { 0 }
 }
