@@ -53,6 +53,15 @@ module _ (er : ℕ → Bool) (ts : List Cty) (xs : List ℕ) where
       go true = refl
       go false = refl
 
+-- lists whose members are erased alike
+list-same : (er er' : ℕ → Bool) (ts : List Cty) (xs : List ℕ) (i k : ℕ) → ((j : ℕ) → j < k → cty-erased er' (getD ts (getD xs (i + j) 0) TUnit) ≡ cty-erased er (getD ts (getD xs (i + j) 0) TUnit))
+    → ctys-erased er' (list-of ts xs i k) ≡ ctys-erased er (list-of ts xs i k)
+unfolding list-of ctys-erased
+list-same er er' ts xs i zero h = refl
+list-same er er' ts xs i (suc k) h =
+    let z : i + 0 ≡ i = omega arith in
+    ap₂ _&&_ (rw z at (h 0 (omega arith))) (list-same er er' ts xs (suc i) k (λ j l. let e : i + suc j ≡ suc i + j = omega arith in rw e at (h (suc j) (omega arith))))
+
 -- the type of an A line
 pub arg-is : (ls : List Line) (i : ℕ) → getD (types-of ls) i 0 ≡ arg-of ls i
 arg-is ls i = List·getD-map (λ (l : Line). number l 0) (select arg-line ls) i bad
@@ -248,6 +257,16 @@ module _ (b : List ℕ) (p : Passed b) (m : List Bool) (y : ℕ) (h : y < count-
               let l : getD member' y 0 < part (lines 6 b) y 2 = omega (arith, u .within) in
               let a : ℕ = arg-of (lines 6 b) (part (lines 6 b) y 1 + getD member' y 0) in
               sym (tuple-some e (getD member' y 0) l (bit-zero (getD node a 0) (type-erased (lines 6 b) m a) (s .right a (member-lower e (getD member' y 0) l .1)) (u .stops l)))
+
+-- a tuple is erased alike where its members are
+pub tuple-same : (b : List ℕ) → Passed b → (m n : List Bool) (y : ℕ) → y < count-of type-line (lines 6 b) → part (lines 6 b) y 0 ≡ 9
+    → ((j : ℕ) → j < part (lines 6 b) y 2 → type-erased (lines 6 b) n (arg-of (lines 6 b) (part (lines 6 b) y 1 + j)) ≡ type-erased (lines 6 b) m (arg-of (lines 6 b) (part (lines 6 b) y 1 + j)))
+    → type-erased (lines 6 b) n y ≡ type-erased (lines 6 b) m y
+unfolding type-erased er
+tuple-same b p m n y h e f =
+    erased-tuple b p n y h e
+    ∙ list-same (marked (program (lines 6 b)) m) (marked (program (lines 6 b)) n) (trees (lines 6 b)) (types-of (lines 6 b)) (part (lines 6 b) y 1) (part (lines 6 b) y 2) (λ j l. rw (arg-is (lines 6 b) (part (lines 6 b) y 1 + j)) (f j l))
+    ∙ sym (erased-tuple b p m y h e)
 
 -- one type more
 pub marks-next : (ls : List Line) (m : List Bool) (node member : List ℕ) (y : ℕ) (r : Bool) → y < count-of type-line ls → Marked ls m node member y r → Marks ls m (set node y (bit r)) member (suc y)
