@@ -3,3 +3,4 @@ pub mod TablesLaws
 pub mod Ranks
 pub mod RanksLaws
 pub mod LeftLaws
+pub mod HeldLaws
