@@ -6,7 +6,7 @@ use mathlib.Core.List.{List, [], _∷_, _++_, List·Memᴰ}
 use Prim.Native.Nat.{ℕ, zero, suc, _≤_, _<_}
 use native.Mathlib.Omega.{arith}
 use lib.ListN.{length}
-use Rattle.model.specs.Cty.{
+use Rattle.custard.specs.Cty.{
   Cty,
   Ctys,
   TUnit,
@@ -27,21 +27,22 @@ use Rattle.model.specs.Cty.{
   lengths,
   names-of-cty,
 }
-use Rattle.model.specs.Decl.{close}
-use Rattle.model.specs.Resolve.{Unfold, gone, newtype, abbreviation, stays, Result, ok, resolve-checked}
-use Rattle.model.specs.Laws.Cty.{All, Alls, all-map, all-names, names-all, close-names}
-use Rattle.model.specs.Laws.Resolve.{Unfolds, BodyAll, Under, Ranked}
-use Rattle.normal.specs.Nodes.{Node, node}
-use Rattle.normal.specs.Forms.{place, joined, placed, named, nodes, nodes-each}
+use Rattle.custard.specs.Decl.{close}
+use Rattle.custard.specs.Resolve.{Unfold, gone, newtype, abbreviation, stays, Result, ok, resolve-checked}
+use Rattle.custard.specs.Laws.Cty.{All, Alls, all-map, all-names, names-all, close-names}
+use Rattle.custard.specs.Laws.Resolve.{Unfolds, BodyAll, Under, Ranked}
+use Rattle.normal.specs.Nodes.{Node, node, post}
+use Rattle.normal.specs.Forms.{place, renamed, joined, placed, named, nodes, nodes-each}
 use Rattle.normal.specs.FormLaws.{Bound}
-use Rattle.normal.specs.FormsLaws.{Form, Formed, nodes-form}
+use Rattle.normal.specs.FormsLaws.{Form, Formed, nodes-post}
 
 -- the names of a type before it is closed
 pub open-all : (P : ℕ → Type 0) (ps : List ℕ) (c : Cty) → All P (close ps c) → All P c
 open-all P ps c h =
     names-all P c (λ x m. all-names P (close ps c) h x (subst (λ (l : List ℕ). List·Memᴰ x l) (sym (close-names ps c)) m))
 
-module _ (limit : ℕ) (lay : ℕ → Unfold) (bound : Bound lay) (form : ℕ → List Node) where
+-- `held` is how nodes are held, which keeps those of the types in question
+module _ (limit : ℕ) (lay : ℕ → Unfold) (bound : Bound lay) (form : ℕ → List Node) (held : List Node → List Node) where
   -- the body c resolves, and the form is what is put together from it, before it is closed
   pub record Made (ps : List ℕ) (c : Cty) (xs : List Node) : Type 0 where
     pub source : Cty
@@ -49,7 +50,8 @@ module _ (limit : ℕ) (lay : ℕ → Unfold) (bound : Bound lay) (form : ℕ �
     pub fuel : ℕ
     pub type : Cty
     pub answers : resolve-checked limit lay fuel c ≡ ok type
-    pub are : xs ≡ nodes lay form ps (place ps) source
+    pub kept : held (post (renamed (place ps) type)) ≡ post (renamed (place ps) type)
+    pub are : xs ≡ held (nodes lay form ps (place ps) source)
 
   abbrev pub MadeOf : Unfold → List Node → Type 0
   MadeOf gone xs = Unit {0}
@@ -66,8 +68,8 @@ module _ (limit : ℕ) (lay : ℕ → Unfold) (bound : Bound lay) (form : ℕ �
         let a : All (Under lay rank r) (close ps (m .source)) = subst (All (Under lay rank r)) (sym (m .closed)) h in
         let g : All Good (m .source) = all-map (Under lay rank r) Good ih (m .source) (open-all (Under lay rank r) ps (m .source) a) in
         let e : resolve-checked limit lay (m .fuel) (close ps (m .source)) ≡ ok (m .type) = ap (resolve-checked limit lay (m .fuel)) (m .closed) ∙ m .answers in
-        subst (λ (l : List Node). Form limit lay bound ps c l) (sym (m .are))
-        (subst (λ (t : Cty). Form limit lay bound ps t (nodes lay form ps (place ps) (m .source))) (m .closed) (nodes-form limit lay bound ps form (m .fuel) (m .source) (m .type) g e))
+        let q : nodes lay form ps (place ps) (m .source) ≡ post (renamed (place ps) (m .type)) = nodes-post limit lay bound ps (place ps) form (m .fuel) (m .source) (m .type) g e in
+        record { fuel = m .fuel; type = m .type; answers = m .answers; are = m .are ∙ (ap held q ∙ m .kept) }
 
     -- by rank
     forms-below : (k n : ℕ) → Under lay rank k n → Good n

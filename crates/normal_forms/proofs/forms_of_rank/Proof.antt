@@ -1,63 +1,56 @@
+-- `normal_forms::forms_of_rank` meets its contract: after d turns the forms of rank r below declaration d are there. Assumes nothing.
+use mathlib.Core.Path.{_≡_, refl, subst, _∙_}
+use Prim.Native.Nat.{ℕ, _+_, _-_, _≤_}
+use native.Mathlib.Omega.{arith}
+use lib.ListN.{length}
+use Rattle.sheet.specs.Sheet.{lines}
+use Rattle.tables.specs.Tables.{decls-of}
+use Rattle.normal_forms.specs.Tables.{Table}
+use Rattle.normal_forms.specs.Ranks.{Done}
+use Rattle.normal_forms.specs.RanksLaws.{reached-stop, reached-done}
+use borrow.Author.Needs.{needs}
 use Rattle.normal_forms.proofs.forms_of_rank.Statement.{statement}
 use Rattle.normal_forms.proofs.forms_of_rank.Tie as tie
-use Rattle.normal_forms.proofs.forms_of_rank.Reads as reads
-use Rattle.normal_forms.proofs.forms_of_rank.Lts as lts
-use Rattle.normal_forms.proofs.form_at.Reads as form-at-reads
-use Rattle.tables.proofs.decls.Reads as decls-reads
 
 abbrev Inv-loop : tie.InvT-loop
-Inv-loop s t u rank f₀ scratch₀ r pos n p₀ d₀ f scratch p d = ?
+Inv-loop s t u rank f₀ scratch₀ r pos n p₀ d₀ f scratch p d =
+    (d ≤ n) × (length f ≡ length f₀) × (length scratch ≡ length scratch₀) × Table s u f p (Done s u rank r d)
 
 abbrev μ-loop : tie.MeasureT-loop
-μ-loop s t u rank f₀ scratch₀ r pos n p₀ d₀ f scratch p d = ?
+μ-loop s t u rank f₀ scratch₀ r pos n p₀ d₀ f scratch p d = n - d
 
--- src/lib.rt:92:9
 decls-requires : tie.Need-decls-requires Inv-loop μ-loop
-decls-requires c κs = ?
+decls-requires c κs = c .before .before .before .before .before .before .pre .0 .tabled
 
--- src/lib.rt:94:5
 loop-holds : tie.Need-loop-holds Inv-loop μ-loop
-loop-holds c = ?
+loop-holds c = (omega arith, refl, refl, c .before .before .before .before .before .before .before .pre .1)
 
--- src/lib.rt:95:9
 form-at-requires : tie.Need-form-at-requires Inv-loop μ-loop
-form-at-requires c κs = ?
+form-at-requires c κs =
+    let p = c .before .before .before .before .before .before .before .before .before .before .before .pre in
+    (p .0, omega (arith, c .before .before .loop-test .taken, c .before .before .before .before .decls .ensures), c .before .before .before .loop .inv .3)
 
--- src/lib.rt:97:13
-same-length : tie.Need-same-length Inv-loop μ-loop
-same-length c = ?
-
--- src/lib.rt:97:13
-same-length-2 : tie.Need-same-length-2 Inv-loop μ-loop
-same-length-2 c = ?
-
--- src/lib.rt:97:13
 returns : tie.Need-returns Inv-loop μ-loop
-returns c = ?
+returns c =
+    let a = c .before .before .before .before .before .before .before .before .before .before .before .before .before .before .before .before .before .args in
+    let p = c .before .before .before .before .before .before .before .before .before .before .before .before .before .before .before .before .before .pre in
+    let s = c .before .before .before .before .before .before .before .before .before .loop in
+    let x = c .before .before .before .before .before .form-at .ensures in
+    reached-stop (a .s .now) (a .t .now) (a .u .now) (a .rank .now) (p .0) (a .r) (s .d + 1) (a .r) _ _ _ (a .f .now) _ _ _ (s .inv .1) (s .inv .2) (omega (arith, c .if1 .taken, x .same, s .inv .1)) x
 
--- src/lib.rt:94:9
-add-d : tie.Need-add-d Inv-loop μ-loop
-add-d c = ?
-
--- src/lib.rt:94:5
-loop-less : tie.Need-loop-less Inv-loop μ-loop
-loop-less c = ?
-
--- src/lib.rt:94:5
 loop-again : tie.Need-loop-again Inv-loop μ-loop
-loop-again c = ?
+loop-again c =
+    let s = c .before .before .before .before .before .before .before .before .before .loop in
+    let x = c .before .before .before .before .before .form-at .ensures in
+    (omega (arith, c .before .before .before .before .before .before .before .before .loop-test .taken), x .same ∙ s .inv .1, search needs, x .table (omega (arith, c .if1 .left, x .same)))
 
--- src/lib.rt:79:1
-same-length-3 : tie.Need-same-length-3 Inv-loop μ-loop
-same-length-3 c = ?
-
--- src/lib.rt:79:1
-same-length-4 : tie.Need-same-length-4 Inv-loop μ-loop
-same-length-4 c = ?
-
--- src/lib.rt:79:1
 returns-2 : tie.Need-returns-2 Inv-loop μ-loop
-returns-2 c = ?
+returns-2 c =
+    let a = c .before .before .before .before .before .before .before .before .before .args in
+    let p = c .before .before .before .before .before .before .before .before .before .pre in
+    let s = c .before .loop in
+    let e : s .d ≡ decls-of (lines 6 (a .s .now)) = omega (arith, c .loop-test .left, s .inv .0, c .before .before .decls .ensures) in
+    reached-done (a .s .now) (a .t .now) (a .u .now) (a .rank .now) (p .0) (a .r) _ _ (a .f .now) (s .f) (s .p) (s .inv .1) (subst (λ (i : ℕ). Table (a .s .now) (a .u .now) (s .f) (s .p) (Done (a .s .now) (a .u .now) (a .rank .now) (a .r) i)) e (s .inv .3))
 
 pub forms-of-rank-spec : {M : Type 1} → statement M
 forms-of-rank-spec =
@@ -68,12 +61,12 @@ forms-of-rank-spec =
     decls-requires
     loop-holds
     form-at-requires
-    same-length
-    same-length-2
+    (λ c. search needs)
+    (λ c. search needs)
     returns
-    add-d
-    loop-less
+    (λ c. search needs)
+    (λ c. omega (arith, c .before .before .before .before .before .before .before .before .loop-test .taken))
     loop-again
-    same-length-3
-    same-length-4
+    (λ c. search needs)
+    (λ c. search needs)
     returns-2)
