@@ -6,7 +6,7 @@ use mathlib.Core.List.{List, [], _∷_, _++_, List·Memᴰ}
 use Prim.Native.Nat.{ℕ, zero, suc, _≤_, _<_}
 use native.Mathlib.Omega.{arith}
 use lib.ListN.{length}
-use Rattle.custard.specs.Cty.{
+use Rattle.model.specs.Cty.{
   Cty,
   Ctys,
   TUnit,
@@ -27,10 +27,10 @@ use Rattle.custard.specs.Cty.{
   lengths,
   names-of-cty,
 }
-use Rattle.custard.specs.Decl.{close}
-use Rattle.custard.specs.Resolve.{Unfold, gone, newtype, abbreviation, stays, Result, ok, resolve-checked}
-use Rattle.custard.specs.Laws.Cty.{All, Alls, all-map, all-names, names-all, close-names}
-use Rattle.custard.specs.Laws.Resolve.{Unfolds, BodyAll, Under, Ranked}
+use Rattle.model.specs.Decl.{close}
+use Rattle.model.specs.Resolve.{Unfold, gone, newtype, abbreviation, stays, Result, ok, resolve-checked}
+use Rattle.model.specs.Laws.Cty.{All, Alls, all-map, all-names, names-all, close-names}
+use Rattle.model.specs.Laws.Resolve.{Unfolds, BodyAll, Under, Ranked}
 use Rattle.normal.specs.Nodes.{Node, node, post}
 use Rattle.normal.specs.Forms.{place, renamed, joined, placed, named, nodes, nodes-each}
 use Rattle.normal.specs.FormLaws.{Bound}

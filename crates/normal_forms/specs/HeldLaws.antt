@@ -4,7 +4,7 @@ use mathlib.Core.List.{List, [], _∷_, _++_}
 use Prim.Native.Nat.{ℕ, suc, _+_, _≤_, _<_}
 use native.Mathlib.Omega.{arith}
 use Rattle.sheet.specs.ListLaws.{Every, every-append}
-use Rattle.custard.specs.Cty.{
+use Rattle.model.specs.Cty.{
   Cty,
   Ctys,
   TUnit,
@@ -28,7 +28,7 @@ use Rattle.custard.specs.Cty.{
   size,
   sizes,
 }
-use Rattle.custard.specs.Laws.Cty.{size-positive}
+use Rattle.model.specs.Laws.Cty.{size-positive}
 use Rattle.normal.specs.Nodes.{Node, node, post, posts}
 use Rattle.normal.specs.Forms.{renamed}
 use Rattle.nodes.specs.WordsLaws.{Room, nodes-words}

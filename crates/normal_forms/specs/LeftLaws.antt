@@ -12,13 +12,13 @@ use borrow.Author.Tests.{eqb-true}
 use Rattle.columns.specs.Column.{pick}
 use Rattle.sheet.specs.Line.{Line}
 use Rattle.sheet.specs.Sheet.{lines}
-use Rattle.custard.specs.Cty.{Cty}
-use Rattle.custard.specs.Decl.{Decl, position, close}
-use Rattle.custard.specs.Program.{program}
-use Rattle.custard.specs.Resolve.{Unfold, gone, newtype, abbreviation, stays, ok, resolve-checked}
-use Rattle.custard.specs.Laws.Cty.{All, all-of}
-use Rattle.custard.specs.Laws.Resolve as resolve
-use Rattle.custard.specs.Laws.Run.{lay}
+use Rattle.model.specs.Cty.{Cty}
+use Rattle.model.specs.Decl.{Decl, position, close}
+use Rattle.meaning.specs.Program.{program}
+use Rattle.model.specs.Resolve.{Unfold, gone, newtype, abbreviation, stays, ok, resolve-checked}
+use Rattle.model.specs.Laws.Cty.{All, all-of}
+use Rattle.model.specs.Laws.Resolve as resolve
+use Rattle.model.specs.Run.{lay}
 use Rattle.tables.specs.Tables.{decls-of}
 use Rattle.kids.specs.Nodes.{type-of}
 use Rattle.arguments.specs.Params.{params-of}
