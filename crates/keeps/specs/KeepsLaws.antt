@@ -13,9 +13,9 @@ use Rattle.sheet.specs.Line.{Line, bad, number}
 use Rattle.sheet.specs.Sheet.{lines}
 use Rattle.sheet.specs.ListLaws.{length-nil}
 use Rattle.model.specs.Cty.{Cty, TUnit}
-use Rattle.model.specs.Decl.{Field, Ctor, Body, TAbstract, TAbbrev, TRecord, TVariant, Dtype, Origin, here, imported, Decl, dtype-at, origin-at, ctors-of, CtorLayout, close-field, close-body, close-fields, bit}
+use Rattle.model.specs.Decl.{table, Field, Ctor, Body, TAbstract, TAbbrev, TRecord, TVariant, Dtype, Origin, here, imported, Decl, dtype-at, origin-at, ctors-of, CtorLayout, close-field, close-body, close-fields, bit}
 use Rattle.model.specs.Erasure.{cty-erased, marked, erasure-fixpoint}
-use Rattle.model.specs.Layout.{slots, ctor-layout, ctor-layouts}
+use Rattle.model.specs.Layout.{layouts-of-ctors, slots, ctor-layout, ctor-layouts}
 use Rattle.meaning.specs.Output.{all-slots}
 use Rattle.meaning.specs.Program.{type-line, param-line, ctor-line, field-line, import-line, is, select, before, Group, groups, trees, type-at, field-of, ctor-of, body-of, dtype-of, keeps, keeps-of, ctor-layouts-by, info-of, verdict-of, program}
 use Rattle.meaning.specs.Rows.{count-of}
