@@ -13,7 +13,8 @@ use Rattle.columns.specs.Column.{pick, _⇒_∥_}
 use Rattle.sheet.specs.Line.{Line}
 use Rattle.sheet.specs.ListLaws.{Every, every-at, every-over}
 use Rattle.model.specs.Cty.{Cty, TUnit, TAny, TExn, TVar, TInt, TFloat, TConst, TArrow, TApp, TTuple, TBuf, TRef, TInline, uninline}
-use Rattle.model.specs.Decl.{table, 
+use Rattle.model.specs.Decl.{
+  table,
   Field,
   Ctor,
   Body,

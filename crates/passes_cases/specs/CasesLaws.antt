@@ -7,15 +7,15 @@ use lib.ListN.{length, take, replicate, length-replicate}
 use lib.Seq.{length-take-le}
 use Rattle.sheet.specs.Sheet.{lines}
 use Rattle.sheet.specs.SheetLaws.{length-lines}
-use Rattle.custard.specs.declared.Refusal.{Refusal}
-use Rattle.custard.specs.declared.Refusal.the-variants.{Accepted, Refused}
-use Rattle.custard.specs.Answer.{refusal}
-use Rattle.custard.specs.Program.{type-line, param-line, ctor-line, field-line}
-use Rattle.custard.specs.Rows.{count-of}
+use Rattle.answer.specs.declared.Refusal.{Refusal}
+use Rattle.answer.specs.declared.Refusal.the-variants.{Accepted, Refused}
+use Rattle.answer.specs.Answer.{refusal}
+use Rattle.meaning.specs.Program.{type-line, param-line, ctor-line, field-line}
+use Rattle.meaning.specs.Rows.{count-of}
 use Rattle.sheet.specs.Format.{base}
 use Rattle.limits.specs.declared.Counts.{Counts}
 use Rattle.limits.specs.Limits.{counts-of}
-use Rattle.ranges.specs.OrderLaws.{count-of-le}
+use Rattle.header.specs.OrderLaws.{count-of-le}
 use Rattle.refusals.specs.declared.Checked.{Checked}
 use Rattle.refusals.specs.Rows.{first-rows, answered, checked-of, Passed}
 use Rattle.refusals.specs.RowsLaws.{accepted-passed, passed-checked, passed-kept}

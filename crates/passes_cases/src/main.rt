@@ -1,6 +1,6 @@
 // Runs erasure and the kept fields on each sheet that an argument names, and writes a line R: the code and the place where one of
 // rows 1 to 7 applies, else the rounds, and then a line V with its mark for each declaration and a line F with its keep for each field.
-use custard::Refusal;
+use answer::Refusal;
 use libc::STDOUT_FILENO;
 use tables::Sizes;
 ghost use mathlib.Core.Path.{_≡_};
