@@ -7,7 +7,6 @@ ghost use Rattle.columns.specs.Column.{pick};
 ghost use Rattle.sheet.specs.Sheet as sheet;
 ghost use Rattle.model.specs.Decl as decls;
 ghost use Rattle.model.specs.Erasure as model;
-ghost use Rattle.model.specs.Decl as decls;
 ghost use Rattle.meaning.specs.Program as program;
 ghost use Rattle.meaning.specs.Rows as rows;
 ghost use Rattle.tables.specs.Tables as tables;
