@@ -19,3 +19,9 @@ fn the_example_of_the_page() {
     let printed = reference::program(sheet);
     assert_eq!(String::from_utf8(printed).unwrap(), String::from_utf8(expected).unwrap());
 }
+
+#[test]
+fn the_example_is_a_file_too() {
+    let file = std::fs::read(concat!(env!("CARGO_MANIFEST_DIR"), "/../race.sheet")).unwrap();
+    assert!(blocks()[0] == file, "tests/race.sheet is not the sheet of the page");
+}
