@@ -107,7 +107,7 @@ pub fn program(sheet: &[u8]) -> Vec<u8> {
         Err(refusal) => (refusal.code, refusal.place, 0),
     };
     let numbers = [code as u32, place.min(999_999) as u32, rounds as u32, 0, 0];
-    let mut out = line::write_line(&line::Line::row(b'R', numbers));
+    let mut out = line::write_line(&line::Line::row(b'R', numbers)).to_vec();
     if let Ok(written) = built {
         out.extend(written.verdict);
         out.extend(written.left);

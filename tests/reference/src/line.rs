@@ -33,9 +33,16 @@ pub fn read_number(columns: &[u8]) -> Option<u32> {
 
 /// The six columns of a number.
 pub fn write_number(n: u32) -> [u8; COLUMNS] {
-    let text = format!("{n:6}");
-    assert_eq!(text.len(), COLUMNS, "{n} has more than six digits");
-    text.into_bytes().try_into().unwrap()
+    let mut columns = [b' '; COLUMNS];
+    let mut rest = n;
+    for column in columns.iter_mut().rev() {
+        *column = b'0' + (rest % 10) as u8;
+        rest /= 10;
+        if rest == 0 {
+            return columns;
+        }
+    }
+    panic!("{n} has more than six digits")
 }
 
 /// A text without the spaces after it.
@@ -82,18 +89,17 @@ pub fn raw_line(bytes: &[u8]) -> Line {
 }
 
 /// The 32 bytes of a line.
-pub fn write_line(line: &Line) -> Vec<u8> {
-    let mut bytes = vec![line.letter];
-    if line.letter == b'N' {
-        bytes.extend(write_number(line.numbers[0]));
-        bytes.extend(&line.text);
-        bytes.resize(LINE - 1, b' ');
-    } else {
-        for n in line.numbers {
-            bytes.extend(write_number(n));
-        }
+pub fn write_line(line: &Line) -> [u8; LINE] {
+    let mut bytes = [b' '; LINE];
+    bytes[0] = line.letter;
+    bytes[LINE - 1] = b'\n';
+    let numbers = if line.letter == b'N' { 1 } else { 5 };
+    for (k, &n) in line.numbers[..numbers].iter().enumerate() {
+        bytes[1 + k * COLUMNS..][..COLUMNS].copy_from_slice(&write_number(n));
     }
-    bytes.push(b'\n');
+    if line.letter == b'N' {
+        bytes[1 + COLUMNS..][..line.text.len()].copy_from_slice(&line.text);
+    }
     bytes
 }
 
