@@ -99,7 +99,7 @@ fn change_number(random: &mut Random, sheet: &mut [u8], at: usize) {
 /// Bytes of any kind, mostly no sheet at all.
 pub fn noise(random: &mut Random) -> Vec<u8> {
     let length = if random.percent(50) { random.below(200) } else { LINE * random.below(9) };
-    let mut bytes: Vec<u8> = (0..length).map(|_| random.next() as u8).collect();
+    let mut bytes: Vec<u8> = (0..length).map(|_| random.number() as u8).collect();
     match random.below(3) {
         0 => {}
         1 => bytes.iter_mut().for_each(|b| *b = b" 0123456789NAYDIPCFV\n"[*b as usize % 21]),

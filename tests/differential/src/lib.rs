@@ -2,6 +2,7 @@
 
 pub mod cut;
 pub mod damage;
+pub mod family;
 pub mod generate;
 pub mod planted;
 pub mod random;
@@ -148,7 +149,8 @@ pub fn sheet(seed: u64, index: u64) -> Vec<u8> {
         0..=1 => damage::long(&mut random),
         2..=5 => damage::limit(&mut random),
         6..=21 => damage::noise(&mut random),
-        22..=321 => {
+        22..=121 => generate::bytes(&family::family(&mut random)),
+        122..=371 => {
             let plan = generate::Plan::any(&mut random);
             let mut sheet = generate::bytes(&generate::generate(&mut random, plan));
             for _ in 0..random.between(1, 2) {
@@ -169,5 +171,5 @@ pub fn call(seed: u64, index: u64, sheet: Vec<u8>, said: &Result<Sheets, Refusal
     let left = said.as_ref().map_or(200, |s| s.left.len());
     let verdict_length = near(&mut random, sheet.len());
     let left_length = near(&mut random, left);
-    Call { sheet, verdict_length, left_length, old: random.next() as u8 }
+    Call { sheet, verdict_length, left_length, old: random.number() as u8 }
 }
