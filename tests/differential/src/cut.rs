@@ -1,8 +1,8 @@
 //! Units: FORMAT, section 10. A sheet is cut where it may be, its units are built in turn, and the
-//! last unit's sheets are compared with those of the whole.
+//! last unit's sheets are compared with those of the whole, and every unit with the reference.
 
 use crate::random::Random;
-use crate::Build;
+use crate::{expected, After, Build, Call};
 use reference::cty::Name;
 use reference::line::LINE;
 use reference::program::{Body, Field, Program};
@@ -61,47 +61,49 @@ pub fn some_cuts(random: &mut Random, cuts: &[usize]) -> Vec<usize> {
     chosen
 }
 
-/// The two sheets of an accepted build.
-type Two = Option<(Vec<u8>, Vec<u8>)>;
-
-fn two(build: &dyn Build, sheet: &[u8], verdict_length: usize, left_length: usize) -> Two {
-    let (mut verdict, mut left) = (vec![7; verdict_length], vec![7; left_length]);
-    if build.build(sheet, &mut verdict, &mut left).answer.code != 0 {
-        return None;
-    }
-    verdict.truncate(sheet.len());
-    Some((verdict, left))
+/// Output lengths, the same for every build of a cut.
+#[derive(Clone, Copy)]
+pub struct Lengths {
+    pub verdict: usize,
+    pub left: usize,
 }
 
-/// Builds the units in turn; the last unit's sheets, or nothing where one is refused.
-pub fn in_turn(build: &dyn Build, sheet: &[u8], chosen: &[usize], verdict_length: usize, left_length: usize) -> Two {
+/// What an accepted build hands on: the verdict sheet, and the whole left output.
+type Two = Option<(Vec<u8>, Vec<u8>)>;
+
+/// One build, compared with the reference: what it hands on, or where it differs in words.
+fn two(build: &dyn Build, sheet: &[u8], lengths: Lengths) -> Result<Two, String> {
+    let call = Call { sheet: sheet.to_vec(), verdict_length: lengths.verdict, left_length: lengths.left, old: 7 };
+    if let Some(words) = call.difference(build, &expected(sheet)) {
+        return Err(words);
+    }
+    let After { said, mut verdict, left } = call.made(build);
+    verdict.truncate(sheet.len());
+    Ok((said.answer.code == 0).then_some((verdict, left)))
+}
+
+/// Builds the units in turn; what the last one hands on, or nothing where one is refused.
+fn in_turn(build: &dyn Build, sheet: &[u8], chosen: &[usize], lengths: Lengths) -> Result<Two, String> {
     let mut before = sheet[..chosen[0] * LINE].to_vec();
     let mut last = None;
     for unit in chosen.windows(2) {
         let sheet = [&before[..], &sheet[unit[0] * LINE..unit[1] * LINE]].concat();
-        let (verdict, left) = two(build, &sheet, verdict_length, left_length)?;
+        let Some((verdict, left)) = two(build, &sheet, lengths)? else { return Ok(None) };
         before = verdict.clone();
         last = Some((verdict, left));
     }
-    last
+    Ok(last)
 }
 
-/// Where the units and the whole differ, in words. The left output is compared over its whole length,
-/// which shows nothing past the left sheet, since the bytes there are what they were.
-pub fn difference(
-    build: &dyn Build,
-    sheet: &[u8],
-    chosen: &[usize],
-    verdict_length: usize,
-    left_length: usize,
-) -> Option<String> {
-    let whole = two(build, sheet, verdict_length, left_length);
-    let units = in_turn(build, sheet, chosen, verdict_length, left_length);
-    match (whole, units) {
-        (None, None) => None,
-        (Some(_), None) => Some("the whole is accepted, a unit is refused".to_string()),
-        (None, Some(_)) => Some("the whole is refused, every unit is accepted".to_string()),
-        (Some(whole), Some(units)) if whole == units => None,
-        (Some(_), Some(_)) => Some("the last unit's sheets are not those of the whole".to_string()),
+/// Where a unit differs from the reference, or the units from the whole, in words.
+pub fn difference(build: &dyn Build, sheet: &[u8], chosen: &[usize], lengths: Lengths) -> Option<String> {
+    let both = two(build, sheet, lengths).and_then(|whole| Ok((whole, in_turn(build, sheet, chosen, lengths)?)));
+    match both {
+        Err(words) => Some(words),
+        Ok((None, None)) => None,
+        Ok((Some(_), None)) => Some("the whole is accepted, a unit is refused".to_string()),
+        Ok((None, Some(_))) => Some("the whole is refused, every unit is accepted".to_string()),
+        Ok((Some(whole), Some(units))) if whole == units => None,
+        Ok((Some(_), Some(_))) => Some("the last unit's sheets are not those of the whole".to_string()),
     }
 }

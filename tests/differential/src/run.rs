@@ -42,13 +42,12 @@ pub fn compare(build: &dyn Build, seed: u64, index: u64, counts: &Counts) -> Opt
     let cuts = cut::cuts(&one.sheet)?;
     let mut random = Random::new(seed ^ !index);
     let chosen = cut::some_cuts(&mut random, &cuts);
-    let (verdict_length, left_length) = (one.verdict_length, one.left_length);
+    let lengths = cut::Lengths { verdict: one.verdict_length, left: one.left_length };
     counts.cut.fetch_add(1, Ordering::Relaxed);
     counts.units.fetch_add(chosen.len() as u64 - 1, Ordering::Relaxed);
-    let words = cut::difference(build, &one.sheet, &chosen, verdict_length, left_length)?;
-    let fails = |sheet: &[u8]| {
-        cut::cuts(sheet).is_some_and(|cuts| cut::difference(build, sheet, &cuts, verdict_length, left_length).is_some())
-    };
+    let words = cut::difference(build, &one.sheet, &chosen, lengths)?;
+    let fails =
+        |sheet: &[u8]| cut::cuts(sheet).is_some_and(|cuts| cut::difference(build, sheet, &cuts, lengths).is_some());
     let small = if fails(&one.sheet) { shrink::shrink(&one.sheet, &fails) } else { one.sheet.clone() };
     Some(Found { index, words: format!("cut at lines {chosen:?}: {words}"), small, bytes: one.sheet.len() })
 }
