@@ -1,0 +1,91 @@
+/* example SHEET VERDICT LEFT: builds the sheet in one file and writes the two sheets to two others.
+ * Ends with 0 if the sheet is accepted, with 1 if it is refused, and with 2 if a file fails. */
+#include "layout.h"
+
+#include <inttypes.h>
+#include <stdio.h>
+#include <stdlib.h>
+
+/* One byte more than a sheet may have, so that a longer file is refused as one. */
+static uint8_t sheet[LAYOUT_SHEET_BYTES + 1];
+static uint8_t verdict[LAYOUT_SHEET_BYTES];
+
+static const char *const MEANING[13] = {
+    "accepted",
+    "too long, or not whole lines",
+    "not a line",
+    "a line out of order",
+    "too many lines of this letter",
+    "a number out of its range",
+    "a name used twice",
+    "a verdict that cannot be",
+    "a name that leads back to itself",
+    "a wrong count of type arguments",
+    "a type of more than 1,024 nodes",
+    "the verdict output is too short",
+    "the left output is too short",
+};
+
+static int put(const char *path, const uint8_t *bytes, size_t length)
+{
+    FILE *file = fopen(path, "wb");
+    if (file == NULL)
+        return -1;
+    size_t written = fwrite(bytes, 1, length, file);
+    return fclose(file) == 0 && written == length ? 0 : -1;
+}
+
+int main(int argc, char **argv)
+{
+    if (argc != 4) {
+        fprintf(stderr, "usage: %s SHEET VERDICT LEFT\n", argv[0]);
+        return 2;
+    }
+    FILE *file = fopen(argv[1], "rb");
+    if (file == NULL) {
+        perror(argv[1]);
+        return 2;
+    }
+    size_t length = fread(sheet, 1, sizeof sheet, file);
+    int failed = ferror(file);
+    fclose(file);
+    if (failed) {
+        fprintf(stderr, "%s: cannot be read\n", argv[1]);
+        return 2;
+    }
+
+    /* Resolved types are written out, so the left sheet can be longer than the sheet. Where an
+     * output is too short the place is the length needed: try again with that. */
+    size_t left_length = LAYOUT_SHEET_BYTES;
+    uint8_t *left = malloc(left_length);
+    uint64_t answer[5];
+    for (;;) {
+        if (left == NULL) {
+            fprintf(stderr, "no memory\n");
+            return 2;
+        }
+        layout_build_sized(sheet, length, verdict, sizeof verdict, left, left_length, answer);
+        if (answer[0] != LAYOUT_LEFT_SHORT)
+            break;
+        left_length = (size_t)answer[1];
+        free(left);
+        left = malloc(left_length);
+    }
+
+    if (answer[0] != LAYOUT_ACCEPTED) {
+        printf("refused: code %" PRIu64 ", place %" PRIu64 ": %s\n", answer[0], answer[1], MEANING[answer[0]]);
+        if (answer[0] >= LAYOUT_FORM && answer[0] <= LAYOUT_SIZE && (answer[1] + 1) * LAYOUT_LINE_BYTES <= length)
+            printf("%.31s\n", (const char *)sheet + answer[1] * LAYOUT_LINE_BYTES);
+        free(left);
+        return 1;
+    }
+    printf("accepted after %" PRIu64 " rounds: %" PRIu64 " bytes of verdicts, %" PRIu64 " bytes left\n",
+           answer[2], answer[3], answer[4]);
+    failed = put(argv[2], verdict, (size_t)answer[3]) | put(argv[3], left, (size_t)answer[4]);
+    free(left);
+    if (failed) {
+        fprintf(stderr, "the sheets cannot be written\n");
+        return 2;
+    }
+    return 0;
+}

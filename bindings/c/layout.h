@@ -1,0 +1,64 @@
+/* The layout pass for types, for callers in C. Link the static library that `rt staticlib` writes
+ * (README.md in this folder). What a sheet is, what each code means and what is written is said in
+ * docs/FORMAT.md; sections are cited here as [4].
+ *
+ * Both calls are the same build and differ only in what they say about it. They take any bytes and
+ * any lengths, allocate nothing, keep nothing between calls and may be called from many threads.
+ *
+ * What a caller owes: `sheet` points to `sheet_len` bytes, `verdict` to `verdict_len` and `left` to
+ * `left_len`, the last two writable; neither output overlaps the other, the sheet or `answer`. A
+ * length may be 0; its pointer is then not read, but must not be null.
+ */
+#ifndef LAYOUT_H
+#define LAYOUT_H
+
+#include <stddef.h>
+#include <stdint.h>
+
+#ifdef __cplusplus
+extern "C" {
+#endif
+
+/* A sheet has at most this many bytes, in lines of this many [1, 2]. */
+#define LAYOUT_SHEET_BYTES 65536
+#define LAYOUT_LINE_BYTES 32
+
+/* Codes [4, 5, 7]. "Line" is the place, counted from 0 over all lines of the sheet. */
+enum layout_code {
+    LAYOUT_ACCEPTED = 0,        /* place 0; both sheets are written */
+    LAYOUT_LENGTH = 1,          /* over 65,536 bytes, or not whole lines; place 0 */
+    LAYOUT_FORM = 2,            /* line: not a line: letter, number, text or last byte */
+    LAYOUT_ORDER = 3,           /* line: does not belong there; the count of lines: ends too early */
+    LAYOUT_LIMIT = 4,           /* line: one more than allowed of its letter */
+    LAYOUT_RANGE = 5,           /* line: a number out of its range */
+    LAYOUT_REPEATED = 6,        /* line: a name that stands on an earlier line where it may not */
+    LAYOUT_VERDICT = 7,         /* line: a keep or verdict number that cannot be */
+    LAYOUT_LOOP = 8,            /* D or I line: an unfolded name that leads back to itself */
+    LAYOUT_ARGUMENTS = 9,       /* D or I line: a wrong count of type arguments */
+    LAYOUT_SIZE = 10,           /* D or I line: a type of more than 1,024 nodes */
+    LAYOUT_VERDICT_SHORT = 11,  /* the verdict output is too short; place: the length needed */
+    LAYOUT_LEFT_SHORT = 12      /* the left output is too short; place: the length needed */
+};
+
+/* Builds a sheet [9]. `answer` gets three numbers: code, place, rounds (0 on a refusal).
+ *
+ * On code 0, `verdict` begins with the verdict sheet, which is as long as the sheet, and `left` with
+ * the left sheet; every byte after those is as it was. On any other code both outputs are as they
+ * were, every byte. */
+void layout_build(const uint8_t *sheet, size_t sheet_len,
+                  uint8_t *verdict, size_t verdict_len,
+                  uint8_t *left, size_t left_len,
+                  uint64_t answer[3]);
+
+/* The same build. `answer` gets five numbers: code, place, rounds, and how many bytes of `verdict`
+ * and of `left` were written (both 0 on a refusal). */
+void layout_build_sized(const uint8_t *sheet, size_t sheet_len,
+                        uint8_t *verdict, size_t verdict_len,
+                        uint8_t *left, size_t left_len,
+                        uint64_t answer[5]);
+
+#ifdef __cplusplus
+}
+#endif
+
+#endif

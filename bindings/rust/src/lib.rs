@@ -1,0 +1,281 @@
+//! The layout pass for types: a sheet of declarations is refused by code and place, or answered by a
+//! verdict sheet and a left sheet. docs/FORMAT.md says what all of these are. The pass itself is proved
+//! and linked as a static library; this crate only calls it.
+//!
+//! ```
+//! let lines = [
+//!     "N     0ms", "N     1Ms", "N     2raw",
+//!     "Y     4     0    32     0     0",
+//!     "D     0     0     3     0     1",
+//!     "C     1     1     0     0     0",
+//!     "F     2     0     0     0     0",
+//!     "V     0     0     0     0     0",
+//! ];
+//! let sheet: String = lines.iter().map(|l| format!("{l:31}\n")).collect();
+//!
+//! let mut verdict = vec![0; sheet.len()];
+//! let mut left = vec![0; layout::SHEET_BYTES];
+//! let built = layout::build(sheet.as_bytes(), &mut verdict, &mut left).unwrap();
+//! assert_eq!(built.rounds, 1);
+//! // a newtype: its one field is kept, and what is left is an abbreviation
+//! assert!(verdict.ends_with(b"V     0     1     0     0     0\n"));
+//! assert!(left[..built.left].ends_with(b"D     0     0     1     0     0\nV     0     0     0     0     0\n"));
+//!
+//! let twice = sheet.replace("1Ms", "1ms");
+//! let refusal = layout::build(twice.as_bytes(), &mut verdict, &mut left).unwrap_err();
+//! assert_eq!(refusal.code(), 6);
+//! assert_eq!(refusal.to_string(), "line 1 repeats a name of an earlier line: N     1ms");
+//! ```
+
+use std::fmt;
+
+/// The most bytes that a sheet may have, and the bytes of a line.
+pub const SHEET_BYTES: usize = 65_536;
+pub const LINE_BYTES: usize = 32;
+
+mod calls {
+    extern "C" {
+        pub fn layout_build(
+            sheet: *const u8,
+            sheet_len: usize,
+            verdict: *mut u8,
+            verdict_len: usize,
+            left: *mut u8,
+            left_len: usize,
+            answer: *mut [u64; 3],
+        );
+        pub fn layout_build_sized(
+            sheet: *const u8,
+            sheet_len: usize,
+            verdict: *mut u8,
+            verdict_len: usize,
+            left: *mut u8,
+            left_len: usize,
+            answer: *mut [u64; 5],
+        );
+    }
+}
+
+/// An accepted sheet: how many rounds erasure took, and how many bytes of the outputs were written.
+#[derive(Clone, Copy, Debug, PartialEq, Eq)]
+pub struct Built {
+    pub rounds: u64,
+    pub verdict: usize,
+    pub left: usize,
+}
+
+/// What a build answers.
+pub type Answer = Result<Built, Refusal>;
+
+/// A line of the sheet, by its number from 0, and its bytes. There are none where the place is the
+/// count of lines.
+#[derive(Clone, Copy, Debug, PartialEq, Eq)]
+pub struct Place {
+    pub line: u64,
+    pub bytes: Option<[u8; LINE_BYTES]>,
+}
+
+/// Why a sheet is refused, one case for each code from 1 to 12.
+#[derive(Clone, Copy, Debug, PartialEq, Eq)]
+pub enum Refusal {
+    /// 1: too long, or not whole lines.
+    Length { bytes: usize },
+    /// 2: not a line: its letter, a number, a name's text or the last byte.
+    Form(Place),
+    /// 3: a line out of order, a count that is not kept, or a body kind over 3.
+    Order(Place),
+    /// 4: one line more than allowed of its letter.
+    Limit(Place),
+    /// 5: a number out of its range.
+    Range(Place),
+    /// 6: a name of an earlier line where it may not stand again.
+    Repeated(Place),
+    /// 7: a keep or verdict number that cannot be.
+    Verdict(Place),
+    /// 8: an unfolded name that leads back to itself.
+    Loop(Place),
+    /// 9: a wrong count of type arguments.
+    Arguments(Place),
+    /// 10: a type of more than 1,024 nodes.
+    Size(Place),
+    /// 11: the verdict output is too short.
+    VerdictShort { needed: u64 },
+    /// 12: the left output is too short.
+    LeftShort { needed: u64 },
+}
+
+impl Refusal {
+    /// The case of a code from 1 to 12.
+    fn new(code: u64, place: u64, sheet: &[u8]) -> Refusal {
+        let line = || {
+            let bytes = sheet.chunks_exact(LINE_BYTES).nth(place as usize).map(|l| l.try_into().unwrap());
+            Place { line: place, bytes }
+        };
+        match code {
+            1 => Refusal::Length { bytes: sheet.len() },
+            2 => Refusal::Form(line()),
+            3 => Refusal::Order(line()),
+            4 => Refusal::Limit(line()),
+            5 => Refusal::Range(line()),
+            6 => Refusal::Repeated(line()),
+            7 => Refusal::Verdict(line()),
+            8 => Refusal::Loop(line()),
+            9 => Refusal::Arguments(line()),
+            10 => Refusal::Size(line()),
+            11 => Refusal::VerdictShort { needed: place },
+            12 => Refusal::LeftShort { needed: place },
+            _ => unreachable!("the build has codes 0 to 12"),
+        }
+    }
+
+    /// Its number.
+    pub fn code(&self) -> u64 {
+        match self {
+            Refusal::Length { .. } => 1,
+            Refusal::Form(_) => 2,
+            Refusal::Order(_) => 3,
+            Refusal::Limit(_) => 4,
+            Refusal::Range(_) => 5,
+            Refusal::Repeated(_) => 6,
+            Refusal::Verdict(_) => 7,
+            Refusal::Loop(_) => 8,
+            Refusal::Arguments(_) => 9,
+            Refusal::Size(_) => 10,
+            Refusal::VerdictShort { .. } => 11,
+            Refusal::LeftShort { .. } => 12,
+        }
+    }
+
+    /// The line that is at fault, where one is.
+    pub fn place(&self) -> Option<Place> {
+        match *self {
+            Refusal::Form(p) | Refusal::Order(p) | Refusal::Limit(p) | Refusal::Range(p) | Refusal::Repeated(p) => {
+                Some(p)
+            }
+            Refusal::Verdict(p) | Refusal::Loop(p) | Refusal::Arguments(p) | Refusal::Size(p) => Some(p),
+            Refusal::Length { .. } | Refusal::VerdictShort { .. } | Refusal::LeftShort { .. } => None,
+        }
+    }
+}
+
+impl fmt::Display for Refusal {
+    fn fmt(&self, f: &mut fmt::Formatter<'_>) -> fmt::Result {
+        let fault = match self {
+            Refusal::Length { bytes } => {
+                return write!(f, "a sheet has at most 65,536 bytes, in lines of 32; this one has {bytes}")
+            }
+            Refusal::VerdictShort { needed } => {
+                return write!(f, "the verdict output is too short: it needs {needed} bytes")
+            }
+            Refusal::LeftShort { needed } => return write!(f, "the left output is too short: it needs {needed} bytes"),
+            Refusal::Order(Place { line, bytes: None }) => {
+                return write!(f, "the sheet ends within a declaration, after {line} lines")
+            }
+            Refusal::Form(_) => "is no line: its letter, a number, a name's text or its last byte is wrong",
+            Refusal::Order(_) => "does not belong there, or its body kind is over 3",
+            Refusal::Limit(_) => "is one more than a sheet may have of its letter",
+            Refusal::Range(_) => "has a number out of its range",
+            Refusal::Repeated(_) => "repeats a name of an earlier line",
+            Refusal::Verdict(_) => "has a keep or verdict number that its declaration does not allow",
+            Refusal::Loop(_) => "declares a name that leads back to itself when it is unfolded",
+            Refusal::Arguments(_) => "declares a type in which a name has a wrong count of arguments",
+            Refusal::Size(_) => "declares a type of more than 1,024 nodes",
+        };
+        let place = self.place().expect("all others have a line");
+        write!(f, "line {} {fault}", place.line)?;
+        match place.bytes {
+            Some(bytes) => write!(f, ": {}", bytes.trim_ascii_end().escape_ascii()),
+            None => Ok(()),
+        }
+    }
+}
+
+impl std::error::Error for Refusal {}
+
+/// Builds a sheet. On acceptance `verdict` begins with the verdict sheet and `left` with the left
+/// sheet, and every byte after those is as it was. On a refusal both outputs are as they were.
+/// Outputs may have any length: one that is too short is a refusal that says how many bytes it needs.
+pub fn build(sheet: &[u8], verdict: &mut [u8], left: &mut [u8]) -> Answer {
+    match call_sized(sheet, verdict, left) {
+        [0, _, rounds, verdict, left] => Ok(Built { rounds, verdict: verdict as usize, left: left as usize }),
+        [code, place, ..] => Err(Refusal::new(code, place, sheet)),
+    }
+}
+
+/// The same build by the library's `layout_build`: code, place and rounds.
+pub fn call(sheet: &[u8], verdict: &mut [u8], left: &mut [u8]) -> [u64; 3] {
+    let mut answer = [0; 3];
+    // The three slices and the answer are valid for their lengths and, being borrowed so, apart.
+    unsafe {
+        calls::layout_build(
+            sheet.as_ptr(),
+            sheet.len(),
+            verdict.as_mut_ptr(),
+            verdict.len(),
+            left.as_mut_ptr(),
+            left.len(),
+            &mut answer,
+        )
+    };
+    answer
+}
+
+/// The same build by the library's `layout_build_sized`: code, place, rounds, and how many bytes of
+/// the two outputs were written.
+pub fn call_sized(sheet: &[u8], verdict: &mut [u8], left: &mut [u8]) -> [u64; 5] {
+    let mut answer = [0; 5];
+    // As in `call`.
+    unsafe {
+        calls::layout_build_sized(
+            sheet.as_ptr(),
+            sheet.len(),
+            verdict.as_mut_ptr(),
+            verdict.len(),
+            left.as_mut_ptr(),
+            left.len(),
+            &mut answer,
+        )
+    };
+    answer
+}
+
+#[cfg(test)]
+mod tests {
+    use super::*;
+
+    #[test]
+    fn every_code_has_its_case() {
+        let sheet = [b'V'; 2 * LINE_BYTES];
+        for code in 1..=12 {
+            let refusal = Refusal::new(code, 1, &sheet);
+            assert_eq!(refusal.code(), code);
+            assert_eq!(refusal.place().is_some(), (2..=10).contains(&code));
+            assert!(!refusal.to_string().is_empty());
+        }
+    }
+
+    #[test]
+    fn a_sheet_that_ends_early() {
+        let refusal = Refusal::new(3, 2, &[b'V'; 2 * LINE_BYTES]);
+        assert_eq!(refusal.to_string(), "the sheet ends within a declaration, after 2 lines");
+    }
+
+    #[test]
+    fn outputs_of_any_length() {
+        let (mut verdict, mut left) = ([7; 3], [8; 3]);
+        assert_eq!(build(&[], &mut [], &mut []), Ok(Built { rounds: 1, verdict: 0, left: 0 }));
+        let abstract_type = [
+            format!("{:31}\n", "N     0box"),
+            "D     0     0     0     0     0\n".into(),
+            "V     0     0     0     0     0\n".into(),
+        ]
+        .concat();
+        let needed = abstract_type.len() as u64;
+        assert_eq!(build(abstract_type.as_bytes(), &mut verdict, &mut left), Err(Refusal::VerdictShort { needed }));
+        let mut room = [9; 96];
+        assert_eq!(build(abstract_type.as_bytes(), &mut room, &mut left), Err(Refusal::LeftShort { needed }));
+        assert_eq!((verdict, room, left), ([7; 3], [9; 96], [8; 3]));
+        assert_eq!(call(abstract_type.as_bytes(), &mut room, &mut left), [12, needed, 0]);
+        assert_eq!(call_sized(abstract_type.as_bytes(), &mut room, &mut left), [12, needed, 0, 0, 0]);
+    }
+}

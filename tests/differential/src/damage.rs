@@ -1,0 +1,181 @@
+//! Sheets that are damaged, and bytes that are no sheets.
+
+use crate::random::Random;
+use reference::line::LINE;
+
+const LETTERS: &[u8] = b"NAYDIPCFVR n\0";
+
+/// One damage, somewhere.
+pub fn damage(random: &mut Random, sheet: &mut Vec<u8>) {
+    let lines = sheet.len() / LINE;
+    if lines == 0 {
+        sheet.extend_from_slice(b"V     0     0     0     0     0\n");
+        return;
+    }
+    let mut at = random.below(lines) * LINE;
+    if random.percent(30) {
+        // fields and verdicts more often
+        let these: Vec<usize> = (0..lines).map(|i| i * LINE).filter(|&i| matches!(sheet[i], b'F' | b'V')).collect();
+        if !these.is_empty() {
+            at = *random.pick(&these);
+        }
+    }
+    let other = random.below(lines) * LINE;
+    match random.weighted(&[6, 6, 6, 12, 8, 8, 4, 6, 34, 10]) {
+        0 => {
+            let i = random.below(sheet.len());
+            sheet[i] ^= 1 << random.below(8);
+        }
+        1 => {
+            let i = random.below(sheet.len());
+            sheet[i] = *random.pick(b" 0123456789\n!~\x7f\xff");
+        }
+        2 => {
+            for k in 0..LINE {
+                sheet.swap(at + k, other + k);
+            }
+        }
+        3 => {
+            sheet.drain(at..at + LINE);
+        }
+        4 => {
+            let line = sheet[at..at + LINE].to_vec();
+            sheet.splice(other..other, line);
+        }
+        5 => sheet[at] = *random.pick(LETTERS),
+        6 => {
+            let cut = random.below(LINE);
+            let length = if random.percent(50) { sheet.len().saturating_sub(cut) } else { sheet.len() + cut };
+            sheet.resize(length, b' ');
+        }
+        7 => {
+            // a line of names or of the same letter, its content that of another
+            if let Some(same) = other_of_letter(random, sheet, at) {
+                for k in 7..LINE {
+                    sheet[at + k] = sheet[same + k];
+                }
+            }
+        }
+        8 => change_number(random, sheet, at),
+        _ => {
+            // the first number of another line of the letter: a name that stands twice
+            if let Some(same) = other_of_letter(random, sheet, at) {
+                for k in 1..7 {
+                    sheet[at + k] = sheet[same + k];
+                }
+            }
+        }
+    }
+}
+
+/// Another line of the letter of the line at `at`.
+fn other_of_letter(random: &mut Random, sheet: &[u8], at: usize) -> Option<usize> {
+    let same: Vec<usize> =
+        (0..sheet.len() / LINE).map(|i| i * LINE).filter(|&i| i != at && sheet[i] == sheet[at]).collect();
+    if same.is_empty() {
+        None
+    } else {
+        Some(*random.pick(&same))
+    }
+}
+
+/// Another number in one of a line's columns.
+fn change_number(random: &mut Random, sheet: &mut [u8], at: usize) {
+    // an N line has one number
+    let columns = at + 1 + 6 * random.weighted(if sheet[at] == b'N' { &[1] } else { &[3, 3, 3, 1, 1] });
+    let old: usize =
+        std::str::from_utf8(&sheet[columns..columns + 6]).ok().and_then(|s| s.trim().parse().ok()).unwrap_or(0);
+    let new = match random.below(6) {
+        0 => old + 1,
+        1 => old.saturating_sub(1),
+        2 => random.below(5),
+        3 => random.below(40),
+        4 => *random.pick(&[0, 1, 8, 9, 12, 13, 31, 32, 96, 97, 128, 256, 512, 513, 1024, 1025, 999_999]),
+        _ => random.below(1_000_000),
+    };
+    sheet[columns..columns + 6].copy_from_slice(format!("{new:6}").as_bytes()[..6].as_ref());
+}
+
+/// Bytes of any kind, mostly no sheet at all.
+pub fn noise(random: &mut Random) -> Vec<u8> {
+    let length = if random.percent(50) { random.below(200) } else { LINE * random.below(9) };
+    let mut bytes: Vec<u8> = (0..length).map(|_| random.number() as u8).collect();
+    match random.below(3) {
+        0 => {}
+        1 => bytes.iter_mut().for_each(|b| *b = b" 0123456789NAYDIPCFV\n"[*b as usize % 21]),
+        _ => {
+            for line in bytes.chunks_exact_mut(LINE) {
+                line.fill(b' ');
+                line[0] = *random.pick(b"NAYDIPCFV");
+                (6..31).step_by(6).for_each(|k| line[k] = b'0' + random.below(10) as u8);
+                line[31] = b'\n';
+            }
+        }
+    }
+    bytes
+}
+
+/// A sheet of a length near the limit: N lines, then others, then what is over.
+pub fn long(random: &mut Random) -> Vec<u8> {
+    let lines = random.between(2_040, 2_050);
+    let mut sheet = Vec::new();
+    for i in 0..lines {
+        let line = match i {
+            0..=255 => format!("N{i:6}n{i:<23}\n"),
+            256..=767 => format!("A{:6}     0     0     0     0\n", i - 256),
+            768..=1791 => "Y     0     0     0     0     0\n".to_string(),
+            _ if i % 2 == 0 => format!("D{:6}     0     0     0     0\n", (i - 1792) / 2),
+            _ => "V     0     0     0     0     0\n".to_string(),
+        };
+        sheet.extend(line.into_bytes());
+    }
+    let over = *random.pick(&[0, 0, 0, 1, 31, 32, 33]);
+    sheet.resize(sheet.len() + over, b' ');
+    sheet
+}
+
+/// A sheet at one of the limits, or one line past it.
+pub fn limit(random: &mut Random) -> Vec<u8> {
+    let row = |letter: char, n: [usize; 5]| format!("{letter}{:6}{:6}{:6}{:6}{:6}\n", n[0], n[1], n[2], n[3], n[4]);
+    let names = |count: usize| (0..count).map(|i| format!("N{i:6}{:<24}\n", format!("n{i}"))).collect::<Vec<String>>();
+    let over = random.below(2);
+    let mut lines = Vec::new();
+    match random.below(7) {
+        0 => lines.extend(names(256 + over)),
+        1 => {
+            lines.extend((0..512 + over).map(|_| row('A', [0; 5])));
+            lines.push(row('Y', [0; 5]));
+        }
+        2 => lines.extend((0..1024 + over).map(|_| row('Y', [1, 0, 0, 0, 0]))),
+        3 => {
+            lines.extend(names(100));
+            for i in 0..96 + over {
+                let (letter, layout) = if i % 3 == 0 { ('I', 4) } else { ('D', 0) };
+                lines.extend([row(letter, [i, 0, 0, 0, 0]), row('V', [0, layout, 0, 0, 0])]);
+            }
+        }
+        4 => {
+            lines.extend(names(12));
+            lines.push(row('D', [0, 0, 0, 8 + over, 0]));
+            lines.extend((0..8 + over).map(|i| row('P', [i, 0, 0, 0, 0])));
+            lines.push(row('V', [0; 5]));
+        }
+        5 => {
+            lines.extend(names(256));
+            lines.push(row('D', [0, 0, 3, 0, 256 + over]));
+            lines.extend((0..256 + over).map(|i| row('C', [i, 0, 0, 0, 0])));
+            lines.push(row('V', [0; 5]));
+        }
+        _ => {
+            lines.extend(names(256));
+            lines.push(row('Y', [0; 5]));
+            lines.push(row('D', [0, 0, 3, 0, 3]));
+            for (ctor, fields) in [(1, 256), (2, 256), (3, over)] {
+                lines.push(row('C', [ctor, fields, 0, 0, 0]));
+                lines.extend((0..fields).map(|i| row('F', [i, 0, 0, 0, 0])));
+            }
+            lines.push(row('V', [0; 5]));
+        }
+    }
+    lines.concat().into_bytes()
+}

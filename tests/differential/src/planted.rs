@@ -1,0 +1,78 @@
+//! Builds with a fault planted, to see that the tests find it: the reference's answer changed where
+//! a slip in the product would change it.
+
+use crate::{Answer, Build, Said};
+use reference::pass::Way;
+
+/// The faults, by name.
+pub const FAULTS: &[&str] =
+    &["record", "rounds", "keep", "place12", "code10", "spill", "import", "list", "code9", "refusal"];
+
+pub struct Planted {
+    pub fault: String,
+}
+
+impl Build for Planted {
+    fn build(&self, sheet: &[u8], verdict: &mut [u8], left: &mut [u8]) -> Said {
+        let (old_verdict, old_left) = (verdict.to_vec(), left.to_vec());
+        let mut answer = reference::build_in(Way::Steps(reference::STEPS), sheet, verdict, left);
+        let accepted = answer.code == 0;
+        let lines = |out: &[u8], letter: u8| -> Vec<usize> {
+            (0..sheet.len().min(out.len()) / 32).map(|i| i * 32).filter(|&i| out[i] == letter).collect()
+        };
+        match self.fault.as_str() {
+            // a record number of a type with a `Realized` and a `SourceRecord` flag is forgotten
+            "record" if accepted => {
+                for head in lines(verdict, b'I') {
+                    if sheet[head] == b'D' && verdict[head + 1..][..12].ends_with(b"    18") {
+                        if let Some(&v) = lines(verdict, b'V').iter().find(|&&v| v > head) {
+                            verdict[v + 18] = b'0';
+                        }
+                    }
+                }
+            }
+            "rounds" if answer.rounds > 3 => answer.rounds = 3,
+            // the keep number of the last field, where there are more than four
+            "keep" if accepted => {
+                let fields = lines(verdict, b'F');
+                if fields.len() > 4 {
+                    verdict[fields[fields.len() - 1] + 18] = b'1';
+                }
+            }
+            "place12" if answer.code == 12 => answer.place -= 32,
+            "code10" if answer.code == 10 => answer.code = 9,
+            // one byte past the left sheet
+            "spill" if accepted && answer.rounds > 1 => {
+                let at = left.iter().zip(&old_left).rposition(|(a, b)| a != b).map_or(0, |i| i + 1);
+                if at < left.len() {
+                    left[at] ^= 1;
+                }
+            }
+            // an import's V line is written again
+            "import" if accepted => {
+                for (head, v) in lines(sheet, b'I').into_iter().zip(lines(sheet, b'V')) {
+                    if head < v && sheet[v + 18] == b'1' {
+                        verdict[v + 18] = b'0';
+                    }
+                }
+            }
+            // an empty list begins where the next A line would
+            "list" if accepted => {
+                for y in (0..left.len() / 32).map(|i| i * 32) {
+                    if left[y] == b'Y' && left[y + 6] == b'9' && left[y + 18] == b'0' {
+                        left[y + 12] = b'1';
+                        break;
+                    }
+                }
+            }
+            "code9" if answer.code == 9 => answer = Answer { code: 0, place: 0, rounds: 1 },
+            // outputs are touched before the sheet is refused
+            "refusal" if answer.code == 12 && !verdict.is_empty() => {
+                verdict.copy_from_slice(&old_verdict);
+                verdict[0] ^= 1;
+            }
+            _ => {}
+        }
+        Said { answer, written: None }
+    }
+}

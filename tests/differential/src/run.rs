@@ -1,0 +1,53 @@
+//! One generated sheet, built and compared.
+
+use crate::random::Random;
+use crate::{call, cut, expected, sheet, shrink, Build, Call};
+use std::sync::atomic::{AtomicU64, Ordering};
+
+/// What was counted: sheets by code, and sheets that were cut.
+#[derive(Default)]
+pub struct Counts {
+    pub codes: [AtomicU64; 13],
+    pub cut: AtomicU64,
+    pub units: AtomicU64,
+}
+
+/// A difference found.
+pub struct Found {
+    pub index: u64,
+    pub words: String,
+    /// The sheet shrunk, and how many bytes it had.
+    pub small: Vec<u8>,
+    pub bytes: usize,
+}
+
+/// Sheet number `index`, built and compared.
+pub fn compare(build: &dyn Build, seed: u64, index: u64, counts: &Counts) -> Option<Found> {
+    let bytes = sheet(seed, index);
+    let said = expected(&bytes);
+    let one = call(seed, index, bytes, &said);
+    counts.codes[one.owed(&said).said.answer.code as usize].fetch_add(1, Ordering::Relaxed);
+    if let Some(words) = one.difference(build, &said) {
+        let fails = |sheet: &[u8]| {
+            let said = expected(sheet);
+            let verdict_length = (sheet.len() + one.verdict_length).saturating_sub(one.sheet.len());
+            Call { sheet: sheet.to_vec(), verdict_length, ..one.clone() }.difference(build, &said).is_some()
+                || call(seed, index, sheet.to_vec(), &said).difference(build, &said).is_some()
+        };
+        return Some(Found { index, words, small: shrink::shrink(&one.sheet, &fails), bytes: one.sheet.len() });
+    }
+    if index % 5 != 0 {
+        return None;
+    }
+    let cuts = cut::cuts(&one.sheet)?;
+    let mut random = Random::new(seed ^ !index);
+    let chosen = cut::some_cuts(&mut random, &cuts);
+    let lengths = cut::Lengths { verdict: one.verdict_length, left: one.left_length };
+    counts.cut.fetch_add(1, Ordering::Relaxed);
+    counts.units.fetch_add(chosen.len() as u64 - 1, Ordering::Relaxed);
+    let words = cut::difference(build, &one.sheet, &chosen, lengths)?;
+    let fails =
+        |sheet: &[u8]| cut::cuts(sheet).is_some_and(|cuts| cut::difference(build, sheet, &cuts, lengths).is_some());
+    let small = if fails(&one.sheet) { shrink::shrink(&one.sheet, &fails) } else { one.sheet.clone() };
+    Some(Found { index, words: format!("cut at lines {chosen:?}: {words}"), small, bytes: one.sheet.len() })
+}

@@ -1,0 +1,116 @@
+//! The layout pass written a second time, for tests: from docs/FORMAT.md, not from the proved
+//! code, and to be read rather than to be fast. One function for each row and for each function of
+//! the source.
+
+pub mod cty;
+pub mod erasure;
+pub mod layout;
+pub mod left;
+pub mod line;
+pub mod outcome;
+pub mod output;
+pub mod pass;
+pub mod program;
+pub mod resolve;
+pub mod rows;
+pub mod table;
+
+use pass::{Pass, Way};
+use program::Decl;
+
+/// What a call returns: FORMAT, section 4.
+#[derive(Clone, Copy, Debug, PartialEq, Eq)]
+pub struct Answer {
+    pub code: u64,
+    pub place: u64,
+    pub rounds: u64,
+}
+
+/// A code that is not 0, and its place.
+#[derive(Clone, Copy, Debug, PartialEq, Eq)]
+pub struct Refusal {
+    pub code: u64,
+    pub place: u64,
+}
+
+/// What an accepted sheet gives.
+#[derive(Clone, Debug, PartialEq, Eq)]
+pub struct Sheets {
+    pub rounds: u64,
+    pub verdict: Vec<u8>,
+    pub left: Vec<u8>,
+}
+
+/// Steps of resolution that are tried before types are resolved by outcomes.
+pub const STEPS: u64 = 200_000;
+
+/// The rows in their order, and the two sheets.
+pub fn sheets(sheet: &[u8], verdict_length: usize, left_length: usize, way: Way) -> Result<Sheets, Refusal> {
+    let refuse = |code: u64| move |place: usize| Err(Refusal { code, place: place as u64 });
+    if rows::row1(sheet) {
+        return refuse(1)(0);
+    }
+    let lines = match rows::row2(sheet) {
+        Ok(lines) => lines,
+        Err(place) => return refuse(2)(place),
+    };
+    let line_rows = [rows::row3, rows::row4, rows::row5, rows::row6, rows::row7];
+    for (row, code) in line_rows.iter().zip(3..) {
+        if let Some(place) = row(&lines) {
+            return refuse(code)(place);
+        }
+    }
+    let pass = Pass::new(&lines);
+    if let Some(refusal) = pass.row8() {
+        return Err(refusal);
+    }
+    let resolved = pass.rows9and10(way)?;
+    let Pass { program, erasure, kept, layouts, .. } = &pass;
+    let left_of =
+        |i: usize| left::rw_decl(&resolved.types, &program.decls[i], layouts[i], &kept[i], &resolved.decls[i]);
+    let left: Vec<Option<Decl>> = (0..program.decls.len()).map(left_of).collect();
+    let records: Vec<bool> = left.iter().map(|d| left::record_verdict(d.as_ref())).collect();
+    if verdict_length < sheet.len() {
+        return refuse(11)(sheet.len());
+    }
+    let left: Vec<Decl> = left.into_iter().flatten().collect();
+    let left = output::left_sheet(&lines, &resolved.types, &left);
+    if left_length < left.len() {
+        return refuse(12)(left.len());
+    }
+    let verdict = output::verdict_sheet(&lines, &program.decls, layouts, kept, &records);
+    Ok(Sheets { rounds: erasure.rounds, verdict, left })
+}
+
+/// A call: FORMAT, section 9.
+pub fn build(sheet: &[u8], verdict: &mut [u8], left: &mut [u8]) -> Answer {
+    build_in(Way::Steps(STEPS), sheet, verdict, left)
+}
+
+/// A call, types resolved in one way or the other.
+pub fn build_in(way: Way, sheet: &[u8], verdict: &mut [u8], left: &mut [u8]) -> Answer {
+    match sheets(sheet, verdict.len(), left.len(), way) {
+        Ok(written) => {
+            verdict[..written.verdict.len()].copy_from_slice(&written.verdict);
+            left[..written.left.len()].copy_from_slice(&written.left);
+            Answer { code: 0, place: 0, rounds: written.rounds }
+        }
+        Err(Refusal { code, place }) => Answer { code, place, rounds: 0 },
+    }
+}
+
+/// What the program prints: FORMAT, section 9.
+pub fn program(sheet: &[u8]) -> Vec<u8> {
+    let built = sheets(sheet, rows::BYTES, rows::BYTES, Way::Steps(STEPS));
+    let (code, place, rounds) = match &built {
+        Ok(written) => (0, 0, written.rounds),
+        Err(refusal) => (refusal.code, refusal.place, 0),
+    };
+    let numbers = [code as u32, place.min(999_999) as u32, rounds as u32, 0, 0];
+    let mut out = line::write_line(&line::Line::row(b'R', numbers)).to_vec();
+    if let Ok(written) = built {
+        out.extend(written.verdict);
+        out.extend(written.left);
+    }
+    out
+}

@@ -1,0 +1,27 @@
+//! The example of docs/FORMAT.md, section 11, read from the page itself.
+
+use reference::line::LINE;
+
+/// The blocks of lines of the page's last section, each line filled up to 32 bytes.
+fn blocks() -> Vec<Vec<u8>> {
+    let page = std::fs::read_to_string(concat!(env!("CARGO_MANIFEST_DIR"), "/../../docs/FORMAT.md")).unwrap();
+    let example = page.split("## 11.").nth(1).expect("section 11");
+    let block = |text: &str| text.lines().skip(1).flat_map(|l| format!("{l:31}\n").into_bytes()).collect();
+    example.split("```").skip(1).step_by(2).map(block).collect()
+}
+
+#[test]
+fn the_example_of_the_page() {
+    let [sheet, verdict, left] = &blocks()[..] else { panic!("three blocks") };
+    let names: Vec<u8> = sheet.chunks(LINE).filter(|l| l[0] == b'N').flatten().copied().collect();
+    let header = sheet.chunks(LINE).take_while(|l| l[0] != b'D').count() * LINE;
+    let expected = [&b"R     0     0     2     0     0\n"[..], &sheet[..header], verdict, &names, left].concat();
+    let printed = reference::program(sheet);
+    assert_eq!(String::from_utf8(printed).unwrap(), String::from_utf8(expected).unwrap());
+}
+
+#[test]
+fn the_example_is_a_file_too() {
+    let file = std::fs::read(concat!(env!("CARGO_MANIFEST_DIR"), "/../race.sheet")).unwrap();
+    assert!(blocks()[0] == file, "tests/race.sheet is not the sheet of the page");
+}
