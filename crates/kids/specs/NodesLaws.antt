@@ -410,7 +410,7 @@ module _ (b : List ℕ) (passed : Passed b) (y : ℕ) (h : y < count-of type-lin
   pub list9-within : kind-of all y ≡ 9 → (i : ℕ) → i < kids-of all y → number line 1 + i < count-of arg-line all
   list9-within k i q = omega (arith, node-at b passed y h .listed9 k, kids-9 all y k)
 
--- document 01's limits
+-- the limits (FORMAT, section 2)
 module _ (b : List ℕ) (passed : Passed b) where
   pub args-few : count-of arg-line (lines 6 b) ≤ 512
   unfolding counts-of

@@ -1,4 +1,4 @@
--- Outcomes: rows 9 and 10 of document 01 without building a type. The outcome of a type is its size
+-- Outcomes: rows 9 and 10 without building a type. The outcome of a type is its size
 -- and its head in one number; the evaluation follows the checked resolution with outcomes for types,
 -- from the outcomes of a declaration's arguments. Numbers are unbounded here. Assumes nothing.
 use mathlib.Core.List.{List, [], _∷_, _++_}

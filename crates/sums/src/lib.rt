@@ -1,11 +1,11 @@
-// Sizes of outcomes added up, never past one more than document 01's limit.
+// Sizes of outcomes added up, never past one more than the limit (FORMAT, section 2).
 ghost use mathlib.Core.Path.{_≡_};
 ghost use Prim.Native.Nat.{_+_, _≤_, _<_};
 ghost use lib.ListN.{length};
 ghost use Rattle.outcomes.specs.Outcome as outcome;
 ghost use Rattle.outcomes.specs.Scratch as scratch;
 
-// Document 01's limit on the nodes of a type.
+// The limit on the nodes of a type (FORMAT, section 2).
 pub const LIMIT: usize = 1024;
 
 // Code 10 as an answer.
