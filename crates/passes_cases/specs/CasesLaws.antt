@@ -9,7 +9,7 @@ use Rattle.sheet.specs.Sheet.{lines}
 use Rattle.sheet.specs.SheetLaws.{length-lines}
 use Rattle.answer.specs.declared.Refusal.{Refusal}
 use Rattle.answer.specs.declared.Refusal.the-variants.{Accepted, Refused}
-use Rattle.answer.specs.Answer.{refusal}
+use Rattle.answer.specs.Answer.{sheet-rows, refusal}
 use Rattle.meaning.specs.Program.{type-line, param-line, ctor-line, field-line}
 use Rattle.meaning.specs.Rows.{count-of}
 use Rattle.sheet.specs.Format.{base}
@@ -17,7 +17,7 @@ use Rattle.limits.specs.declared.Counts.{Counts}
 use Rattle.limits.specs.Limits.{counts-of}
 use Rattle.header.specs.OrderLaws.{count-of-le}
 use Rattle.refusals.specs.declared.Checked.{Checked}
-use Rattle.refusals.specs.Rows.{first-rows, answered, checked-of, Passed}
+use Rattle.refusals.specs.Rows.{with-counts, checked-of, Passed}
 use Rattle.refusals.specs.RowsLaws.{accepted-passed, passed-checked, passed-kept}
 use Rattle.tables.specs.declared.Sizes.{Sizes}
 use Rattle.tables.specs.Tables.{decls-of, sizes-of, cells}
@@ -39,13 +39,13 @@ unfolding counts-of
 erased-of b p r f n = record { marks = f .types; size = omega (arith, passed-kept b p .types) }
 
 -- where no row applies
-passed-of : (b : List ℕ) (q : Refusal) (k : Counts) → refusal (first-rows base b) ≡ q → answered q k .refusal ≡ Accepted → refusal (first-rows base b) ≡ Accepted
+passed-of : (b : List ℕ) (q : Refusal) (k : Counts) → refusal (sheet-rows base b) ≡ q → with-counts q k .refusal ≡ Accepted → refusal (sheet-rows base b) ≡ Accepted
 passed-of b Accepted k e h = e
 passed-of b (Refused code place) k e h = let z : _≡_ {A = ℕ} 0 1 = cc in absurd (omega arith)
 
 pub checked-passed : (b : List ℕ) → checked-of b .refusal ≡ Accepted → Passed b
 unfolding checked-of
-checked-passed b e = accepted-passed b (passed-of b (refusal (first-rows base b)) (counts-of (lines 6 b)) refl e)
+checked-passed b e = accepted-passed b (passed-of b (refusal (sheet-rows base b)) (counts-of (lines 6 b)) refl e)
 
 pub checked-counted : (b : List ℕ) (r : Checked) → r ≡ checked-of b → Passed b → Counted (lines 6 b) (r .counts .names) (r .counts .args) (r .counts .types) (r .counts .decls)
 unfolding counts-of
