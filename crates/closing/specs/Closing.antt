@@ -68,13 +68,7 @@ use Rattle.outcomes.specs.Outcome.{
 use Rattle.outcomes.specs.Answer.{nine, answer, Told}
 use Rattle.outcomes.specs.Laws.Ev.{ev-law}
 use Rattle.outcomes.specs.Laws.Fuel.{Leads, leads-unspent}
-
--- the type that stands for a name, closed by its parameters
-unfoldable pub closed : Unfold → Unfold
-closed gone = gone
-closed (newtype ps c) = newtype ps (close ps c)
-closed (abbreviation ps c) = abbreviation ps (close ps c)
-closed stays = stays
+use Rattle.states.specs.States.{closed}
 
 argument-unbound : (ps os : List ℕ) (v : ℕ) → member v ps ≡ false → argument ps os v ≡ one
 unfolding member argument

@@ -26,7 +26,7 @@ use Rattle.normal.specs.Forms.{variable}
 use Rattle.nodes.specs.Words.{word, node-of}
 use Rattle.node_words.specs.Own.{y-node, label}
 use Rattle.node_words.specs.Put.{Put, put-none, put-more, put-stop}
-use Rattle.forms.specs.States.{unfold-at, lay-of}
+use Rattle.states.specs.States.{unfold-at, lay-of}
 use Rattle.forms.specs.Emit.{run, step, filled, grown, form-words, words, kid-words, Asked}
 use Rattle.model.specs.Laws.Names.{position-le}
 use Rattle.meaning.specs.Laws.Program.{length-program}

@@ -19,7 +19,7 @@ use Rattle.normal.specs.Nodes.{Node, node}
 use Rattle.normal.specs.Forms.{nodes}
 use Rattle.node_words.specs.Own.{label}
 use Rattle.nodes.specs.Words.{word, node-of}
-use Rattle.forms.specs.States.{lay-of}
+use Rattle.states.specs.States.{lay-of}
 
 -- ---- words one after the other
 -- what g gives for n numbers from a on

@@ -50,7 +50,7 @@ use Rattle.normal.specs.Nodes.{Node, node, spread, attached}
 use Rattle.normal.specs.Forms.{joined, argument, placed, named, variable, nodes, nodes-each}
 use Rattle.nodes.specs.Words.{word, node-of}
 use Rattle.nodes.specs.WordsLaws.{node-cut, word-grown, node-small}
-use Rattle.forms.specs.States.{unfold-at, lay-of}
+use Rattle.states.specs.States.{unfold-at, lay-of}
 use Rattle.forms.specs.Emit.{run, step, filled, grown, form-words, form-of, words, kid-words}
 
 -- ---- lists of lists

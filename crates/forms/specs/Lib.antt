@@ -1,4 +1,3 @@
-pub mod States
 pub mod Emit
 pub mod EmitLaws
 pub mod CodeLaws

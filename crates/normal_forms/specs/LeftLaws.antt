@@ -30,11 +30,10 @@ use Rattle.normal.specs.TableLaws.{MadeOf, Made, forms-are, Alike, nodes-alike}
 use Rattle.normal.specs.BoundLaws.{program-bound}
 use Rattle.nodes.specs.Words.{word, node-of}
 use Rattle.node_words.specs.Own.{label}
-use Rattle.forms.specs.States.{unfold-at, lay-of}
+use Rattle.states.specs.States.{body-of, unfold-at, lay-of, Open}
 use Rattle.forms.specs.Emit.{form-words, form-of, words}
 use Rattle.forms.specs.CodeLaws.{state-below}
-use Rattle.normal_forms.specs.Tables.{body-of, own-words, Table}
-use Rattle.normal_forms.specs.Ranks.{Open}
+use Rattle.normal_forms.specs.Tables.{own-words, Table}
 
 -- how nodes are held: as words
 unfoldable pub held : List Node → List Node

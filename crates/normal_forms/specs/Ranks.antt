@@ -12,12 +12,8 @@ use Rattle.model.specs.Laws.Cty.{All}
 use Rattle.model.specs.Laws.Resolve.{Unfolds}
 use Rattle.tables.specs.Tables.{decls-of, Tabled}
 use Rattle.kids.specs.Nodes.{type-of}
-use Rattle.forms.specs.States.{lay-of}
-use Rattle.normal_forms.specs.Tables.{body-of, own-words, Table}
-
--- declaration d is unfolded
-abbrev pub Open : List ℕ → ℕ → Type 0
-Open u d = (0 < getD u (2 * d) 3) × (getD u (2 * d) 3 ≤ 2)
+use Rattle.states.specs.States.{body-of, lay-of, Open}
+use Rattle.normal_forms.specs.Tables.{own-words, Table}
 
 -- An unfolded name in an unfolded declaration's body has a lower rank.
 pub record Ranked (b t u rank : List ℕ) : Type 0 where

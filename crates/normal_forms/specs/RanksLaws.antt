@@ -21,12 +21,12 @@ use Rattle.model.specs.Laws.Resolve.{Unfolds}
 use Rattle.tables.specs.Tables.{decls-of}
 use Rattle.kids.specs.Nodes.{type-of}
 use Rattle.arguments.specs.Params.{params-of}
-use Rattle.forms.specs.States.{unfold-at, lay-of}
+use Rattle.states.specs.States.{body-of, unfold-at, lay-of, Open}
 use Rattle.forms.specs.Emit.{Asked, Forms}
 use Rattle.forms.specs.CodeLaws.{state-below}
-use Rattle.normal_forms.specs.Tables.{body-of, own-words, with-form, Names, Table, Added}
+use Rattle.normal_forms.specs.Tables.{own-words, with-form, Names, Table, Added}
 use Rattle.normal_forms.specs.TablesLaws.{table-more}
-use Rattle.normal_forms.specs.Ranks.{Open, Ranked, Done, Short, Reached, Formed}
+use Rattle.normal_forms.specs.Ranks.{Ranked, Done, Short, Reached, Formed}
 
 -- less is done
 pub table-less : (b u f : List ℕ) (pos : ℕ) (P Q : ℕ → Type 0) → ((d : ℕ) → Q d → P d) → Table b u f pos P → Table b u f pos Q

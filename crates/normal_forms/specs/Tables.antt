@@ -13,12 +13,8 @@ use Rattle.tables.specs.Tables.{decls-of}
 use Rattle.kids.specs.Nodes.{type-of}
 use Rattle.model.specs.Laws.Cty.{All}
 use Rattle.model.specs.Laws.Resolve.{Unfolds}
-use Rattle.forms.specs.States.{lay-of}
+use Rattle.states.specs.States.{body-of, lay-of}
 use Rattle.forms.specs.Emit.{form-words, words}
-
--- the Y line of an unfolded declaration's body
-abbrev pub body-of : List ℕ → ℕ → ℕ
-body-of u d = getD u (2 * d + 1) 0
 
 -- the words of its normal form, from the forms that are there
 abbrev pub own-words : List Line → List ℕ → List ℕ → ℕ → List ℕ

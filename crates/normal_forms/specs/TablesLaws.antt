@@ -25,9 +25,9 @@ use Rattle.normal.specs.Forms.{nodes}
 use Rattle.normal.specs.TableLaws.{Alike, nodes-alike}
 use Rattle.nodes.specs.Words.{word, node-of}
 use Rattle.node_words.specs.Own.{label}
-use Rattle.forms.specs.States.{lay-of}
+use Rattle.states.specs.States.{body-of, lay-of}
 use Rattle.forms.specs.Emit.{form-words, form-of, words}
-use Rattle.normal_forms.specs.Tables.{body-of, own-words, with-form, Names, Table, Added}
+use Rattle.normal_forms.specs.Tables.{own-words, with-form, Names, Table, Added}
 use Rattle.node_words.specs.Put.{Put}
 
 -- ---- the words of a type depend on the forms of its unfolded names alone

@@ -6,7 +6,8 @@ ghost use lib.ListN.{length, getD, take, drop};
 ghost use Rattle.sheet.specs.Sheet.{lines};
 ghost use Rattle.tables.specs.Tables.{decls-of};
 ghost use Rattle.forms.specs.Emit.{Asked};
-ghost use Rattle.normal_forms.specs.Tables.{body-of, own-words, Added, Table};
+ghost use Rattle.normal_forms.specs.Tables.{own-words, Added, Table};
+ghost use Rattle.states.specs.States.{body-of};
 ghost use Rattle.normal_forms.specs.Ranks.{Ranked, Done, Reached, Formed};
 
 // Copies the first n words of ws to place `at`.

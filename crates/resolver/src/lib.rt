@@ -15,6 +15,7 @@ ghost use Rattle.kids.specs.Nodes as nodes;
 ghost use Rattle.weighing.specs.Weigh as weigh;
 ghost use Rattle.memory.specs.Slots.{Slots};
 ghost use Rattle.resolving.specs.Resolver as resolver;
+ghost use Rattle.states.specs.States as states;
 
 // The fuel is spent; the scratch is full; codes 9 and 10. Every greater number is an outcome.
 pub const NO_FUEL: usize = 0;
@@ -170,7 +171,7 @@ fn enter(
     at: usize,
     count: usize,
 ) -> usize
-    requires { ⌜ resolver.Place (now s) (now t) (now u) (getD (now u) (2 * d + 1) 0) d × (resolver.unfold-at (sheet.lines 6 (now s)) (now u) d ≡ call.unfolded newtype (params.params-of (sheet.lines 6 (now s)) d) (nodes.type-of (sheet.lines 6 (now s)) (getD (now u) (2 * d + 1) 0))) ⌝ }
+    requires { ⌜ resolver.Place (now s) (now t) (now u) (getD (now u) (2 * d + 1) 0) d × (states.unfold-at (sheet.lines 6 (now s)) (now u) d ≡ call.unfolded newtype (params.params-of (sheet.lines 6 (now s)) d) (nodes.type-of (sheet.lines 6 (now s)) (getD (now u) (2 * d + 1) 0))) ⌝ }
     requires { ⌜ resolver.Args (now out) at count (at + count) ⌝ }
     requires { ⌜ Slots (resolver.call-of (sheet.lines 6 (now s)) (now u)) (now slots) ⌝ }
     ensures { λ r. ⌜ resolver.Found (resolver.enter-of (sheet.lines 6 (now (s .entry))) (now (u .entry)) d (scratch.part at count (now (out .entry)))) k (at + count) (at + count) (now (out .entry)) (now (out .exit)) (resolver.call-of (sheet.lines 6 (now (s .entry))) (now (u .entry))) (now (slots .exit)) r ⌝ }

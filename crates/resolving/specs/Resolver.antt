@@ -1,20 +1,15 @@
--- What becomes of each declaration, in two cells: how its name is replaced (0 by `TUnit`, 1 by its payload,
--- 2 by the type that it abbreviates, else it is left), and the Y line of that payload or type. And what the
--- functions of the resolution by outcomes answer. Assumes nothing.
+-- What the functions of the resolution by outcomes ask and answer. Assumes nothing.
 use mathlib.Core.Logic.{_⊎_}
 use mathlib.Core.Path.{_≡_}
 use mathlib.Core.List.{List, []}
 use Prim.Native.Nat.{ℕ, suc, _+_, _-_, _*_, _≤_, _<_}
-use lib.Dec.{eqb}
 use lib.ListN.{length, getD, drop}
-use Rattle.columns.specs.Column.{_⇒_∥_}
 use Rattle.sheet.specs.Line.{Line}
 use Rattle.sheet.specs.Sheet.{lines}
 use Rattle.model.specs.Cty.{size, sizes}
-use Rattle.model.specs.Decl.{position}
-use Rattle.meaning.specs.Program.{name-line, type-line, program}
+use Rattle.meaning.specs.Program.{type-line}
 use Rattle.meaning.specs.Rows.{count-of}
-use Rattle.model.specs.Resolve.{Unfold, gone, newtype, abbreviation, stays, Result, ok}
+use Rattle.model.specs.Resolve.{Result, ok}
 use Rattle.tables.specs.Tables.{decls-of, Tabled}
 use Rattle.outcomes.specs.Outcome.{called, eval, evals, ev}
 use Rattle.outcomes.specs.Answer.{Told}
@@ -22,19 +17,9 @@ use Rattle.outcomes.specs.Laws.Fuel.{Leads}
 use Rattle.outcomes.specs.Scratch.{part, Same, Nodes}
 use Rattle.kids.specs.Nodes.{kind-of, type-of}
 use Rattle.arguments.specs.Params.{params-of}
+use Rattle.states.specs.States.{unfold-at, lay-of}
 use Rattle.weighing.specs.Weigh.{kid-types}
 use Rattle.memory.specs.Slots.{Slots}
-
--- ---- what becomes of a name
-unfoldable pub unfold-at : List Line → List ℕ → ℕ → Unfold
-unfold-at ls u d =
-    eqb (getD u (2 * d) 3) 0 ⇒ gone ∥
-    eqb (getD u (2 * d) 3) 1 ⇒ newtype (params-of ls d) (type-of ls (getD u (2 * d + 1) 0)) ∥
-    eqb (getD u (2 * d) 3) 2 ⇒ abbreviation (params-of ls d) (type-of ls (getD u (2 * d + 1) 0)) ∥
-    stays
-
-abbrev pub lay-of : List Line → List ℕ → ℕ → Unfold
-lay-of ls u n = unfold-at ls u (position (program ls) n)
 
 -- two cells for each declaration, and a Y line where a name is unfolded
 pub record States (b u : List ℕ) : Type 0 where

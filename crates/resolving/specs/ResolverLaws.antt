@@ -39,7 +39,8 @@ use Rattle.arguments.specs.ParamsLaws.{decls-few}
 use Rattle.weighing.specs.Weigh.{kid-types, weight-of}
 use Rattle.calls.specs.CallsLaws.{Copied}
 use Rattle.memory.specs.Slots.{Slots, Written, Recalled, slots-written}
-use Rattle.resolving.specs.Resolver.{unfold-at, lay-of, States, Setup, call-of, enter-of, eval-of, evals-of, type-of-decl, last-of, Args, Place, Short, Found, FoundAll, Done}
+use Rattle.states.specs.States.{unfold-at, lay-of}
+use Rattle.resolving.specs.Resolver.{States, Setup, call-of, enter-of, eval-of, evals-of, type-of-decl, last-of, Args, Place, Short, Found, FoundAll, Done}
 
 -- a cell past the end
 pub getD-past : (xs : List ℕ) (i v : ℕ) → length xs ≤ i → getD xs i v ≡ v

@@ -4,7 +4,7 @@ use Prim.Native.Nat.{ℕ, _+_, _*_, _≤_, _<_}
 use native.Mathlib.Omega.{arith}
 use lib.ListN.{length, getD}
 use Rattle.sheet.specs.ListLaws.{getD-within}
-use Rattle.normal_forms.specs.Ranks.{Open}
+use Rattle.states.specs.States.{Open}
 use Rattle.normal_forms.specs.RanksLaws.{asked-body, reached-same, reached-more}
 use borrow.Author.Needs.{needs}
 use Rattle.normal_forms.proofs.form_at.Statement.{statement}

@@ -1,0 +1,1 @@
+// What becomes of each declaration, in cells: the definitions are in specs/.
