@@ -1,22 +1,22 @@
 -- What becomes of each declaration, in two cells: how its name is replaced (0 by `TUnit`, 1 by its payload,
 -- 2 by the type that it abbreviates, else it is left), and the Y line of that payload or type. Assumes nothing.
 use mathlib.Core.Path.{_≡_}
-use mathlib.Core.List.{List}
-use Prim.Native.Nat.{ℕ, _+_, _*_, _≤_, _<_}
+use mathlib.Core.List.{List, [], _∷_}
+use Prim.Native.Nat.{ℕ, zero, suc, _+_, _-_, _*_, _≤_, _<_}
 use lib.Dec.{eqb}
 use lib.ListN.{length, getD}
-use Rattle.columns.specs.Column.{_⇒_∥_}
+use Rattle.columns.specs.Column.{pick, _⇒_∥_}
 use Rattle.sheet.specs.Line.{Line}
 use Rattle.sheet.specs.Sheet.{lines}
 use Rattle.model.specs.Decl.{close, Layout, L-erased, L-newtype, L-struct, L-abbrev, L-opaque, position}
 use Rattle.model.specs.Resolve.{Unfold, gone, newtype, abbreviation, stays}
 use Rattle.model.specs.Run.{lay, layout-of-decl}
-use Rattle.meaning.specs.Program.{program, type-line}
+use Rattle.meaning.specs.Program.{program, type-line, field-line}
 use Rattle.meaning.specs.Rows.{count-of}
-use Rattle.tables.specs.Tables.{decls-of}
+use Rattle.tables.specs.Tables.{decls-of, first-of}
 use Rattle.kids.specs.Nodes.{type-of}
 use Rattle.arguments.specs.Params.{params-of}
-use Rattle.kept.specs.Kept.{ctors-at, body-kind, body-last}
+use Rattle.kept.specs.Kept.{ctors-at, body-kind, body-last, field-type}
 
 -- the cells of declaration d
 abbrev pub state : List ℕ → ℕ → ℕ
@@ -56,6 +56,20 @@ Shape ls u d (L-struct cls) = (state u d ≡ 3) × (2 ≤ body-kind ls d) × (bo
 Shape ls u d (L-abbrev c) =
     (2 ≤ state u d) × (state u d ≤ 3) × (body-kind ls d ≡ 1) × (state u d ≡ 2 → body-of u d ≡ body-last ls d) × (c ≡ close (params-of ls d) (type-of ls (body-last ls d)))
 Shape ls u d L-opaque = (state u d ≡ 3) × (body-kind ls d ≡ 0)
+
+-- the types of those of the n F lines from line f on that are kept, as Y lines
+unfoldable pub kept-types : List Line → List ℕ → ℕ → ℕ → List ℕ
+kept-types ls keep f zero = []
+kept-types ls keep f (suc n) = let r : List ℕ = kept-types ls keep (suc f) n in pick (eqb (getD keep f 0) 1) (field-type ls f ∷ r) r
+
+-- what `rw_decl` resolves of declaration d, as Y lines: a payload, an abbreviated type, or the kept fields
+unfoldable pub resolves-of : List Line → List ℕ → List ℕ → ℕ → List ℕ
+resolves-of ls u keep d =
+    eqb (state u d) 0 ⇒ [] ∥
+    eqb (state u d) 1 ⇒ body-of u d ∷ [] ∥
+    eqb (body-kind ls d) 0 ⇒ [] ∥
+    eqb (body-kind ls d) 1 ⇒ body-last ls d ∷ [] ∥
+    kept-types ls keep (first-of field-line ls d) (first-of field-line ls (d + 1) - first-of field-line ls d)
 
 -- The cells say what becomes of every declaration of a sheet, and so of every name.
 pub record Settled (b u : List ℕ) : Type 0 where
