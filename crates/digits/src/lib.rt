@@ -27,3 +27,25 @@ pub fn write_number(out: &mut [u8], n: u32)
         m = m / 10;
     }
 }
+
+// The same for six columns, where most numbers have one or two digits.
+pub fn write_six(out: &mut [u8], n: u32)
+    requires { ⌜ length (now out) ≡ 6 ⌝ }
+    ensures { λ _. ⌜ now (out .exit) ≡ col.write 6 n ⌝ }
+{
+    if n > 99 {
+        write_number(out, n);
+        return;
+    }
+    out[0] = 32;
+    out[1] = 32;
+    out[2] = 32;
+    out[3] = 32;
+    if n > 9 {
+        out[4] = 48 + (n / 10) as u8;
+        out[5] = 48 + (n % 10) as u8;
+        return;
+    }
+    out[4] = 32;
+    out[5] = 48 + n as u8;
+}

@@ -4,9 +4,9 @@ use mathlib.Core.List.{List, [], _∷_, _++_, append-assoc, append-nil}
 use Prim.Native.Nat.{ℕ, _+_, _*_, _-_, _≤_, _<_}
 use native.Mathlib.Omega.{arith}
 use native.Mathlib.Numerals.{add-one}
-use lib.ListN.{length, take, drop, getD, set, length-take, length-drop}
+use lib.ListN.{length, take, drop, getD, set, length-drop}
 use lib.Seq.{set-at, take-suc, take-all}
-use borrow.Rule.Slice.PartMut.{putMid, midOf}
+use borrow.Rule.Slice.PartMut.{putMid}
 use Rattle.columns.specs.Column.{write}
 use Rattle.columns.specs.ColumnLaws.{write-length}
 use Rattle.sheet.specs.Format.{lineBytes}
@@ -39,11 +39,9 @@ row-start w x ns (y ∷ d) h = refl
 
 -- The number i has been written into its columns, from a on.
 pub row-more : (w x : ℕ) (ns out q d : List ℕ) (i a : ℕ) → i < length ns → out ≡ (x ∷ writes w (take i ns)) ++ drop a d → length out ≡ length d → a + w ≤ length d →
-    q ≡ write (length (midOf a (a + w - a) out)) (getD ns i 0) →
+    q ≡ write w (getD ns i 0) →
     (putMid a (a + w - a) out q ≡ (x ∷ writes w (take (i + 1) ns)) ++ drop (a + w) d) × (length (putMid a (a + w - a) out q) ≡ length d)
-row-more w x ns out q d i a h o l g e =
-    let m : length (midOf a (a + w - a) out) ≡ w = simp (length-take, length-drop) (omega arith) in
-    let v : q ≡ write w (getD ns i 0) = rw m at e in
+row-more w x ns out q d i a h o l g v =
     let k : length q ≡ a + w - a = rw (v, write-length) (omega arith) in
     let r = part-more out (x ∷ writes w (take i ns)) q d a (a + w) o l (omega arith) g k in
     (r .0 ∙ rw (writes-take w ns i h, v), r .1)

@@ -4,7 +4,7 @@ ghost use Prim.Native.Nat.{suc, _*_, _≤_};
 ghost use lib.ListN.{length};
 ghost use Rattle.sheet.specs.Line.{row, encode};
 ghost use Rattle.sheet.specs.Output.{putAt};
-use digits::write_number;
+use digits::write_six;
 use parts::COLUMNS;
 use parts::LAST;
 use parts::LINE;
@@ -19,7 +19,7 @@ pub fn put_row(out: &mut [u8], letter: u8, numbers: [u32; 5])
     let mut at: usize = 1;
     for i in 0..NUMBERS {
         let end = at + COLUMNS;
-        write_number(&mut out[at..end], numbers[i]);
+        write_six(&mut out[at..end], numbers[i]);
         at = end;
     }
     out[LAST] = 10;

@@ -24,7 +24,7 @@ loop-again : tie.Need-loop-again Inv-loop μ-loop
 loop-again c =
     let s = c .before .before .before .before .before .loop in
     let a = c .before .before .before .before .before .before .before .args in
-    let r = row-more 6 (a .letter) (a .t3) (s .out) _ (set (a .out .now) 0 (a .letter)) (s .i) (s .at) (omega arith) (s .inv .5) (s .inv .4) (omega arith) (c .before .before .write-number .ensures) in
+    let r = row-more 6 (a .letter) (a .t3) (s .out) _ (set (a .out .now) 0 (a .letter)) (s .i) (s .at) (omega arith) (s .inv .5) (s .inv .4) (omega arith) (c .before .before .write-six .ensures) in
     (search needs, omega arith, s .inv .2, s .inv .3, r .1, r .0)
 
 same-length : tie.Need-same-length Inv-loop μ-loop
