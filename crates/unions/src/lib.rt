@@ -1,4 +1,5 @@
 // Unions of sets as bits in words (`bits`).
+ghost use mathlib.Core.Logic.{_⊎_};
 ghost use mathlib.Core.Path.{_≡_};
 ghost use Prim.Native.Nat.{_+_, _≤_};
 ghost use lib.ListN.{length};
@@ -16,10 +17,10 @@ pub fn unite(s: &mut [u64], to: usize, t: &[u64], from: usize, words: usize)
     }
 }
 
-// Puts the members of the set at `from` into a later set of the same slice.
-pub fn unite_earlier(s: &mut [u64], to: usize, from: usize, words: usize)
-    requires { ⌜ to + words ≤ length (now s) ⌝ }
-    requires { ⌜ from + words ≤ to ⌝ }
+// Puts the members of the set at `from` into another set of the same slice, of words that do not lie across.
+pub fn unite_within(s: &mut [u64], to: usize, from: usize, words: usize)
+    requires { ⌜ (to + words ≤ length (now s)) × (from + words ≤ length (now s)) ⌝ }
+    requires { ⌜ (to ≤ from) ⊎ (from + words ≤ to) ⌝ }
     ensures { λ _. ⌜ now (s .exit) ≡ bits.united (now (s .entry)) to (now (s .entry)) from words ⌝ }
 {
     for w in 0..words {
