@@ -10,7 +10,7 @@ ghost use Rattle.ranks.specs.Ones.{ones-of, Ranks};
 // How many bits of the words at `at` are set.
 pub fn ones(rows: &[u64], at: usize, words: usize) -> usize
     requires { ⌜ (at + words ≤ length (now rows)) × (words ≤ 1024) ⌝ }
-    ensures { λ r. ⌜ r ≡ ones-of (now (rows .entry)) at words ⌝ }
+    ensures { λ r. ⌜ (r ≡ ones-of (now (rows .entry)) at words) × (r ≤ 64 * words) ⌝ }
 {
     let mut sum: usize = 0;
     for w in 0..words {
@@ -21,7 +21,7 @@ pub fn ones(rows: &[u64], at: usize, words: usize) -> usize
 
 // The first of the n nodes that is in its own row, or n; and the ones of the rows before it.
 fn count(rows: &[u64], words: usize, n: usize, rank: &mut [u16]) -> usize
-    requires { ⌜ (n * words ≤ length (now rows)) × (words ≤ 1024) × (n ≤ 64 * words) × (n ≤ length (now rank)) ⌝ }
+    requires { ⌜ (n * words ≤ length (now rows)) × (words < 1024) × (n ≤ 64 * words) × (n ≤ length (now rank)) ⌝ }
     ensures { λ r. ⌜ Ranks words n (now (rows .entry)) r (now (rank .entry)) (now (rank .exit)) ⌝ }
 {
     for k in 0..n {
@@ -37,7 +37,7 @@ fn count(rows: &[u64], words: usize, n: usize, rank: &mut [u16]) -> usize
 // is made one of what is reached.
 pub fn ranks(steps: &mut [u64], words: usize, n: usize, rank: &mut [u16]) -> usize
     requires { ⌜ Steps n words (now steps) ⌝ }
-    requires { ⌜ n ≤ length (now rank) ⌝ }
+    requires { ⌜ (n ≤ length (now rank)) × (words < 1024) ⌝ }
     ensures { λ r. ⌜ First (search.steps n words (now (steps .entry))) n r (now (rank .entry)) (now (rank .exit)) ⌝ }
 {
     closure::close(steps, words, n);
