@@ -1,0 +1,5 @@
+pub mod Upto
+pub mod PatchLaws
+pub mod LineLaws
+pub mod UptoLaws
+pub mod StepLaws

@@ -1,0 +1,84 @@
+// The verdict sheet: a copy of the sheet, in which single bytes of local declarations' D, F and V lines are changed.
+use overlay::THIRD;
+use parts::LINE;
+ghost use mathlib.Core.Path.{_≡_};
+ghost use Prim.Native.Nat.{suc, _≤_, _<_};
+ghost use lib.ListN.{length};
+ghost use Rattle.sheet.specs.Format.{base};
+ghost use Rattle.sheet.specs.Sheet.{lines};
+ghost use Rattle.meaning.specs.Program.{field-line};
+ghost use Rattle.meaning.specs.Rows.{count-of, count-before};
+ghost use Rattle.answer.specs.Answer.{verdict-sheet, after};
+ghost use Rattle.limits.specs.Limits.{start};
+ghost use Rattle.tables.specs.Tables.{decls-of, Tabled};
+ghost use Rattle.keeps.specs.Keeps.{Slotted};
+ghost use Rattle.states.specs.States.{Settled};
+ghost use Rattle.lefts.specs.Lefts.{Recorded};
+ghost use Rattle.overlay.specs.Upto.{Known, Next, Moved, upto};
+
+// Line i of a local declaration d, before which there are f F lines; and how many there are after it.
+fn put_line(
+    s: &[u8],
+    t: &[u32],
+    u: &[u16],
+    keep: &[u8],
+    records: &[u8],
+    out: &mut [u8],
+    d: usize,
+    i: usize,
+    f: usize,
+) -> usize
+    requires { ⌜ Known (now s) (now t) (now u) (now keep) (now records) ⌝ }
+    requires { ⌜ Next (now s) (now out) d i × (f ≡ count-before field-line (lines 6 (now s)) i) ⌝ }
+    ensures { λ r. ⌜ Moved (now (s .entry)) (now (out .entry)) (now (out .exit)) i r ⌝ }
+{
+    let at = i * LINE;
+    let letter = s[at];
+    if letter == b'D' {
+        out[at] = b'I';
+        return f;
+    }
+    if letter == b'F' {
+        out[at + THIRD] = b'0' + keep[f];
+        return f + 1;
+    }
+    if letter == b'V' {
+        overlay::put_verdict(s, t, u, records, out, d, i);
+        return f;
+    }
+    f
+}
+
+// The lines of declaration d; an import's stay.
+fn put_decl(s: &[u8], t: &[u32], u: &[u16], keep: &[u8], records: &[u8], out: &mut [u8], d: usize)
+    requires { ⌜ Known (now s) (now t) (now u) (now keep) (now records) × (d < decls-of (lines 6 (now s))) ⌝ }
+    requires { ⌜ (length (now s) ≤ length (now out)) × (now out ≡ upto (now s) (start (lines 6 (now s)) d) (now out)) ⌝ }
+    ensures { λ _. ⌜ now (out .exit) ≡ upto (now (s .entry)) (start (lines 6 (now (s .entry))) (suc d)) (now (out .entry)) ⌝ }
+{
+    if tables::is_import(s, t, d) {
+        return;
+    }
+    let end = tables::line_of(s, t, d + 1);
+    let mut i = tables::line_of(s, t, d);
+    let mut f = tables::first_field(s, t, d);
+    while i < end {
+        f = put_line(s, t, u, keep, records, out, d, i, f);
+        i += 1;
+    }
+}
+
+// The verdict sheet, at the front of an output.
+pub fn put_verdicts(s: &[u8], t: &[u32], u: &[u16], keep: &[u8], records: &[u8], out: &mut [u8])
+    requires { ⌜ Tabled (now s) (now t) × Settled (now s) (now u) ⌝ }
+    requires { ⌜ Slotted (lines 6 (now s)) (now keep) × (count-of field-line (lines 6 (now s)) ≤ length (now keep)) ⌝ }
+    requires { ⌜ Recorded (now s) (now records) × (length (now s) ≤ length (now out)) ⌝ }
+    ensures { λ _. ⌜ now (out .exit) ≡ after (verdict-sheet base (lines 6 (now (s .entry)))) (now (out .entry)) ⌝ }
+{
+    overlay::copy(s, out);
+    let n = tables::decls(s, t);
+    let mut d = 0;
+    while d < n {
+        put_decl(s, t, u, keep, records, out, d);
+        d += 1;
+    }
+}
