@@ -1,3 +1,4 @@
 pub mod Lefts
 pub mod NumbersLaws
 pub mod ReadyLaws
+pub mod RoomLaws
