@@ -37,6 +37,7 @@ use Rattle.arguments.specs.ParamsLaws.{count-before-le, params-few}
 use Rattle.keeps.specs.Keeps.{Slotted}
 use Rattle.kept.specs.Kept.{body-kind, body-last}
 use Rattle.states.specs.States.{state, body-of, unfold-at, lay-of, Open, closed, Shape, resolves-of, Settled}
+use Rattle.states.specs.StatesLaws.{resolves-are, resolves-below}
 use Rattle.normal.specs.Nodes.{Node, post}
 use Rattle.normal.specs.NodesLaws.{length-post}
 use Rattle.normal.specs.Forms.{place, renamed}
@@ -112,6 +113,9 @@ pub record Listed (b u keep : List ℕ) : Type 0 where
   pub are : (d : ℕ) → d < decls-of (lines 6 b) → map (λ y. close (params-of (lines 6 b) d) (type-of (lines 6 b) y)) (resolves-of (lines 6 b) u keep d) ≡ resolves (layout-of-decl (program (lines 6 b)) d)
   pub below : (d y : ℕ) → d < decls-of (lines 6 b) → List·Memᴰ y (resolves-of (lines 6 b) u keep d) → y < count-of type-line (lines 6 b)
 
+pub listed-of : (b u keep : List ℕ) → Passed b → Slotted (lines 6 b) keep → Settled b u → Listed b u keep
+listed-of b u keep p k s = record { are = resolves-are b p u keep k s; below = λ d y h m. resolves-below b p u keep s d h y m }
+
 -- ---- what is accepted resolves
 module _ (b u keep : List ℕ) (passed : Passed b) (settled : Settled b u) (accepted : input-refusal base b ≡ Accepted) (listed : Listed b u keep) where
   abbrev ls : List Line
@@ -169,7 +173,10 @@ module _ (b u keep : List ℕ) (passed : Passed b) (settled : Settled b u) (acce
   params-small d v = omega (arith, place-le (params-of ls d) v, length-params ls (first-of param-line ls d) (first-of param-line ls (d + 1) - first-of param-line ls d), count-before-le param-line ls (start ls (d + 1)), params-few b passed)
 
 -- ---- the words of what is left
-module _ (b t u f keep : List ℕ) (ready : Ready b t u f keep) (listed : Listed b u keep) where
+module _ (b t u f keep : List ℕ) (ready : Ready b t u f keep) where
+  abbrev listed : Listed b u keep
+  listed = listed-of b u keep (ready .tabled .passed) (ready .slotted) (ready .settled)
+
   abbrev passed′ : Passed b
   passed′ = ready .tabled .passed
 

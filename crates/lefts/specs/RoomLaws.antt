@@ -43,7 +43,7 @@ use Rattle.normal_forms.specs.RanksLaws.{unfolds-open, names-done}
 use Rattle.normal_forms.specs.LeftLaws.{held, Told, told-alike}
 use Rattle.normal_forms.specs.HeldLaws.{renamed-kept, renamed-size}
 use Rattle.lefts.specs.Lefts.{Ready, left-type}
-use Rattle.lefts.specs.ReadyLaws.{unfold-cases, told-closed, Listed, open-below, body-resolved, type-held, params-small}
+use Rattle.lefts.specs.ReadyLaws.{unfold-cases, told-closed, Listed, listed-of, open-below, body-resolved, type-held, params-small}
 
 -- ---- counts
 -- at most 1,024 each, and one of them nothing
@@ -67,7 +67,7 @@ counts-but f d (suc n) h z l = go (counts-but f d n (λ e k. h e (omega arith)) 
     go ih false e = omega (arith, ih (other (eqb-false n d e)), h n (omega arith))
 
 -- ---- a table that is not whole
-module _ (b t u rank keep : List ℕ) (ranked : ranks.Ranked b t u rank) (settled : Settled b u) (accepted : input-refusal base b ≡ Accepted) (listed : Listed b u keep) where
+module _ (b t u rank keep : List ℕ) (ranked : ranks.Ranked b t u rank) (settled : Settled b u) (accepted : input-refusal base b ≡ Accepted) (slotted : Slotted (lines 6 b) keep) where
   abbrev ls : List Line
   ls = lines 6 b
 
@@ -76,6 +76,9 @@ module _ (b t u rank keep : List ℕ) (ranked : ranks.Ranked b t u rank) (settle
 
   abbrev passed : Passed b
   passed = ranked .tabled .passed
+
+  abbrev listed : Listed b u keep
+  listed = listed-of b u keep passed slotted settled
 
   module _ (f : List ℕ) (pos r i : ℕ) (table : Table b u f pos (ranks.Done b u rank r i)) where
     abbrev form : ℕ → List Node
@@ -176,10 +179,10 @@ module _ (b t u rank keep : List ℕ) (ranked : ranks.Ranked b t u rank) (settle
       never d h = omega arith
 
   -- so the forms are there
-  pub formed-ready : (f₀ f : List ℕ) (e : ℕ) → Slotted ls keep → 98496 ≤ length f₀ → ranks.Formed b u rank 1024 f₀ f e → Ready b t u f keep
-  formed-ready f₀ f e s q x =
+  pub formed-ready : (f₀ f : List ℕ) (e : ℕ) → 98496 ≤ length f₀ → ranks.Formed b u rank 1024 f₀ f e → Ready b t u f keep
+  formed-ready f₀ f e q x =
       let l : e ≤ length f₀ = within (ltb (length f₀) e) refl in
-      record { tabled = ranked .tabled; settled = settled; slotted = s; accepted = accepted; place = e; forms = x .table l }
+      record { tabled = ranked .tabled; settled = settled; slotted = slotted; accepted = accepted; place = e; forms = x .table l }
     where
       within : (c : Bool) → ltb (length f₀) e ≡ c → e ≤ length f₀
       within true y = absurd (never-short 1024 (length f₀) (omega arith) q (x .short (ltb-true (length f₀) e y)))
