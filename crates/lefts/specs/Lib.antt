@@ -2,3 +2,4 @@ pub mod Lefts
 pub mod NumbersLaws
 pub mod ReadyLaws
 pub mod RoomLaws
+pub mod BodyLaws
