@@ -1,0 +1,37 @@
+// The build for callers in C and Rust (bindings/): what `build::build` gives, its numbers in an array that the caller lends.
+ghost use mathlib.Core.Path.{_≡_};
+ghost use mathlib.Core.List.{_∷_, []};
+ghost use Rattle.sheet.specs.Format.{base};
+ghost use Rattle.answer.specs.Answer.{called};
+
+// Code, place and rounds.
+#[no_mangle]
+pub extern "C" fn layout_build(
+    sheet: &[u8],
+    verdict: &mut [u8],
+    left: &mut [u8],
+    answer: &mut [u64; 3],
+)
+{
+    let r = build::build(sheet, verdict, left);
+    answer[0] = r.code as u64;
+    answer[1] = r.place as u64;
+    answer[2] = r.rounds as u64;
+}
+
+// The same, and the lengths of the two sheets that were written.
+#[no_mangle]
+pub extern "C" fn layout_build_sized(
+    sheet: &[u8],
+    verdict: &mut [u8],
+    left: &mut [u8],
+    answer: &mut [u64; 5],
+)
+{
+    let r = build::build(sheet, verdict, left);
+    answer[0] = r.code as u64;
+    answer[1] = r.place as u64;
+    answer[2] = r.rounds as u64;
+    answer[3] = r.verdict as u64;
+    answer[4] = r.left as u64;
+}

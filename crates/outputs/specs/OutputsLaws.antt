@@ -1,0 +1,44 @@
+-- Laws of the attempts one after the other. Assumes nothing.
+use mathlib.Core.Logic.{⊎-elim}
+use mathlib.Core.Path.{_≡_, refl, sym, subst}
+use mathlib.Core.List.{List}
+use mathlib.Core.Bool.{Bool, true, false}
+use Prim.Native.Nat.{ℕ, _*_, _≤_}
+use native.Mathlib.Omega.{arith}
+use lib.ListN.{length}
+use Rattle.sheet.specs.Sheet.{lines}
+use Rattle.tables.specs.Tables.{decls-of}
+use Rattle.keeps.specs.KeepsLaws.{decls-few}
+use Rattle.built.specs.declared.Tried.{Tried}
+use Rattle.built.specs.declared.Built.{Built}
+use Rattle.built.specs.Built.{Gives, Tries}
+use Rattle.sheets.specs.Sheets.{Lent}
+use Rattle.outputs.specs.Outputs.{Short}
+
+-- less memory, but enough for the cells
+pub lent-less : (b t u rank keep v : List ℕ) (forms scratch stack : ℕ) → 192 ≤ forms → scratch ≤ 1024 → scratch ≤ stack
+    → Lent b t u rank keep v 98496 1024 1024 → Lent b t u rank keep v forms scratch stack
+lent-less b t u rank keep v forms scratch stack p q r h =
+    record {
+      ranked = h .ranked;
+      settled = h .settled;
+      slotted = h .slotted;
+      accepted = h .accepted;
+      keeps = h .keeps;
+      verdict-room = h .verdict-room;
+      cells = omega (arith, decls-few b (h .ranked .tabled .passed));
+      small = q;
+      stacked = r;
+    }
+
+-- an attempt without room left the outputs as they were
+pub tries-again : (S : Type 0) (b v l : List ℕ) (r : Tried) (v′ l′ : List ℕ) (q : Built) (v″ l″ : List ℕ) → Tries S b v l r v′ l′ → r .room ≡ false → Gives b v′ l′ q v″ l″ → Gives b v l q v″ l″
+tries-again S b v l r v′ l′ q v″ l″ h e g = subst (λ (x : List ℕ). Gives b x l q v″ l″) (h .verdict-kept e) (subst (λ (x : List ℕ). Gives b v′ x q v″ l″) (h .left-kept e) g)
+
+-- and the longest has room
+pub tries-last : (b v l : List ℕ) (r : Tried) (v′ l′ : List ℕ) → Tries (Short 98496 1024) b v l r v′ l′ → Gives b v l (r .built) v′ l′
+tries-last b v l r v′ l′ h = go (r .room) refl
+  where
+    go : (c : Bool) → r .room ≡ c → Gives b v l (r .built) v′ l′
+    go true e = h .gives e
+    go false e = absurd (⊎-elim (λ x. omega arith) (λ x. omega arith) (h .short e))

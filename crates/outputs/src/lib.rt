@@ -1,0 +1,143 @@
+// Row 12 and both sheets: in arrays that serve nearly every sheet, and in larger ones only where these are too short.
+use built::Built;
+use built::Tried;
+ghost use mathlib.Core.Logic.{_⊎_};
+ghost use mathlib.Core.Path.{_≡_};
+ghost use Prim.Native.Nat.{_<_};
+ghost use Rattle.sheet.specs.Sheet.{lines};
+ghost use Rattle.model.specs.Run.{run};
+ghost use Rattle.meaning.specs.Program.{name-line, program};
+ghost use Rattle.meaning.specs.Rows.{count-of};
+ghost use Rattle.built.specs.Built.{Gives, Tries};
+ghost use Rattle.sheets.specs.Sheets.{Lent};
+ghost use Rattle.outputs.specs.Outputs.{Short};
+
+fn small(
+    s: &[u8],
+    t: &[u32],
+    names: usize,
+    rounds: usize,
+    u: &[u16],
+    rank: &[u16],
+    keep: &[u8],
+    v: &mut [u8],
+    l: &mut [u8],
+) -> Tried
+    requires { ⌜ Lent (now s) (now t) (now u) (now rank) (now keep) (now v) 98496 1024 1024 ⌝ }
+    requires { ⌜ (names ≡ count-of name-line (lines 6 (now s))) × (rounds ≡ run 100 (program (lines 6 (now s))) .rounds) ⌝ }
+    ensures { λ r. ⌜ Tries (Short 224 64) (now (s .entry)) (now (v .entry)) (now (l .entry)) r (now (v .exit)) (now (l .exit)) ⌝ }
+{
+    let mut forms = [0u64; 224];
+    let mut scratch = [0u64; 64];
+    let mut stack = [0u32; 64];
+    sheets::sheets(
+        s,
+        t,
+        names,
+        rounds,
+        u,
+        rank,
+        keep,
+        &mut forms,
+        &mut scratch,
+        &mut stack,
+        v,
+        l,
+    )
+}
+
+fn middle(
+    s: &[u8],
+    t: &[u32],
+    names: usize,
+    rounds: usize,
+    u: &[u16],
+    rank: &[u16],
+    keep: &[u8],
+    v: &mut [u8],
+    l: &mut [u8],
+) -> Tried
+    requires { ⌜ Lent (now s) (now t) (now u) (now rank) (now keep) (now v) 98496 1024 1024 ⌝ }
+    requires { ⌜ (names ≡ count-of name-line (lines 6 (now s))) × (rounds ≡ run 100 (program (lines 6 (now s))) .rounds) ⌝ }
+    ensures { λ r. ⌜ Tries (Short 2048 1024) (now (s .entry)) (now (v .entry)) (now (l .entry)) r (now (v .exit)) (now (l .exit)) ⌝ }
+{
+    let mut forms = [0u64; 2048];
+    let mut scratch = [0u64; 1024];
+    let mut stack = [0u32; 1024];
+    sheets::sheets(
+        s,
+        t,
+        names,
+        rounds,
+        u,
+        rank,
+        keep,
+        &mut forms,
+        &mut scratch,
+        &mut stack,
+        v,
+        l,
+    )
+}
+
+fn large(
+    s: &[u8],
+    t: &[u32],
+    names: usize,
+    rounds: usize,
+    u: &[u16],
+    rank: &[u16],
+    keep: &[u8],
+    v: &mut [u8],
+    l: &mut [u8],
+) -> Tried
+    requires { ⌜ Lent (now s) (now t) (now u) (now rank) (now keep) (now v) 98496 1024 1024 ⌝ }
+    requires { ⌜ (names ≡ count-of name-line (lines 6 (now s))) × (rounds ≡ run 100 (program (lines 6 (now s))) .rounds) ⌝ }
+    ensures { λ r. ⌜ Tries (Short 98496 1024) (now (s .entry)) (now (v .entry)) (now (l .entry)) r (now (v .exit)) (now (l .exit)) ⌝ }
+{
+    let mut forms = [0u64; 98496];
+    let mut scratch = [0u64; 1024];
+    let mut stack = [0u32; 1024];
+    sheets::sheets(
+        s,
+        t,
+        names,
+        rounds,
+        u,
+        rank,
+        keep,
+        &mut forms,
+        &mut scratch,
+        &mut stack,
+        v,
+        l,
+    )
+}
+
+// Row 12 and both sheets of a sheet to which no earlier row applies.
+pub fn outputs(
+    s: &[u8],
+    t: &[u32],
+    names: usize,
+    rounds: usize,
+    u: &[u16],
+    rank: &[u16],
+    keep: &[u8],
+    v: &mut [u8],
+    l: &mut [u8],
+) -> Built
+    requires { ⌜ Lent (now s) (now t) (now u) (now rank) (now keep) (now v) 98496 1024 1024 ⌝ }
+    requires { ⌜ (names ≡ count-of name-line (lines 6 (now s))) × (rounds ≡ run 100 (program (lines 6 (now s))) .rounds) ⌝ }
+    ensures { λ r. ⌜ Gives (now (s .entry)) (now (v .entry)) (now (l .entry)) r (now (v .exit)) (now (l .exit)) ⌝ }
+{
+    let first = small(s, t, names, rounds, u, rank, keep, v, l);
+    if first.room {
+        return first.built;
+    }
+    let second = middle(s, t, names, rounds, u, rank, keep, v, l);
+    if second.room {
+        return second.built;
+    }
+    let third = large(s, t, names, rounds, u, rank, keep, v, l);
+    third.built
+}

@@ -1,0 +1,193 @@
+// Both sheets of a sheet to which no row applies but those of the outputs: counted first, then written.
+use built::Built;
+use built::Tried;
+use parts::LINE;
+ghost use mathlib.Core.Logic.{_⊎_};
+ghost use mathlib.Core.Path.{_≡_};
+ghost use Prim.Native.Nat.{_*_, _≤_, _<_};
+ghost use lib.ListN.{length};
+ghost use Rattle.sheet.specs.Format.{base};
+ghost use Rattle.sheet.specs.Sheet.{lines};
+ghost use Rattle.model.specs.Run.{run};
+ghost use Rattle.meaning.specs.Program.{name-line, field-line, program};
+ghost use Rattle.meaning.specs.Rows.{count-of};
+ghost use Rattle.answer.specs.Answer.{verdict-sheet, left-sheet, after};
+ghost use Rattle.tables.specs.Tables.{decls-of};
+ghost use Rattle.normal_forms.specs.Ranks.{Ranked};
+ghost use Rattle.lefts.specs.Lefts.{Ready, Flagged, Fit};
+ghost use Rattle.built.specs.Built.{Tries};
+ghost use Rattle.sheets.specs.Sheets.{no-room, Known, Owed, Lent, Written};
+
+// There was no room.
+fn none() -> Tried
+    ensures { λ r. ⌜ r ≡ no-room ⌝ }
+{
+    let built = built::refused(0, 0);
+    Tried { room: false, built }
+}
+
+// Writes both sheets, of which the left one has so many A and Y lines.
+fn write(
+    s: &[u8],
+    t: &[u32],
+    u: &[u16],
+    f: &[u64],
+    keep: &[u8],
+    left: &[u8],
+    scratch: &mut [u64],
+    stack: &mut [u32],
+    v: &mut [u8],
+    l: &mut [u8],
+    args: usize,
+    types: usize,
+)
+    requires { ⌜ Known (now s) (now t) (now u) (now f) (now keep) (now v) (length (now scratch)) (length (now stack)) ⌝ }
+    requires { ⌜ Flagged (now s) (now left) × Owed (now s) (now u) (now keep) (now l) (length (now scratch)) args types ⌝ }
+    ensures { λ _. ⌜ Written (now (s .entry)) (now (v .entry)) (now (l .entry)) (now (v .exit)) (now (l .exit)) ⌝ }
+{
+    let mut records = [0u8; 96];
+    left_records::records(s, t, u, f, keep, left, &mut records);
+    verdict_sheet::put_verdicts(s, t, u, keep, &records, v);
+    left_sheet::put_left(
+        s,
+        t,
+        u,
+        f,
+        keep,
+        left,
+        scratch,
+        stack,
+        l,
+        args,
+        types,
+    );
+}
+
+// Counts the left sheet's lines, of which `names` are N lines; then row 12, and both sheets.
+fn measured(
+    s: &[u8],
+    t: &[u32],
+    names: usize,
+    rounds: usize,
+    u: &[u16],
+    f: &[u64],
+    keep: &[u8],
+    left: &[u8],
+    scratch: &mut [u64],
+    stack: &mut [u32],
+    v: &mut [u8],
+    l: &mut [u8],
+) -> Tried
+    requires { ⌜ Known (now s) (now t) (now u) (now f) (now keep) (now v) (length (now scratch)) (length (now stack)) ⌝ }
+    requires { ⌜ Flagged (now s) (now left) × (names ≡ count-of name-line (lines 6 (now s))) × (rounds ≡ run 100 (program (lines 6 (now s))) .rounds) ⌝ }
+    ensures { λ r. ⌜ Tries (length (now (scratch .entry)) < 1024) (now (s .entry)) (now (v .entry)) (now (l .entry)) r (now (v .exit)) (now (l .exit)) ⌝ }
+{
+    let c = left_count::count(s, t, u, f, keep, left, scratch);
+    let args = c.args;
+    let types = c.types;
+    if !c.room {
+        return none();
+    }
+    let needed = LINE * (names + args + types + c.lines);
+    if l.len() < needed {
+        let built = built::refused(12, needed);
+        return Tried { room: true, built };
+    }
+    write(
+        s,
+        t,
+        u,
+        f,
+        keep,
+        left,
+        scratch,
+        stack,
+        v,
+        l,
+        args,
+        types,
+    );
+    let built = Built {
+        code: 0,
+        place: 0,
+        rounds,
+        verdict: s.len(),
+        left: needed,
+    };
+    Tried { room: true, built }
+}
+
+// From the normal forms.
+fn formed(
+    s: &[u8],
+    t: &[u32],
+    names: usize,
+    rounds: usize,
+    u: &[u16],
+    f: &[u64],
+    keep: &[u8],
+    scratch: &mut [u64],
+    stack: &mut [u32],
+    v: &mut [u8],
+    l: &mut [u8],
+) -> Tried
+    requires { ⌜ Known (now s) (now t) (now u) (now f) (now keep) (now v) (length (now scratch)) (length (now stack)) ⌝ }
+    requires { ⌜ (names ≡ count-of name-line (lines 6 (now s))) × (rounds ≡ run 100 (program (lines 6 (now s))) .rounds) ⌝ }
+    ensures { λ r. ⌜ Tries (length (now (scratch .entry)) < 1024) (now (s .entry)) (now (v .entry)) (now (l .entry)) r (now (v .exit)) (now (l .exit)) ⌝ }
+{
+    let mut left = [0u8; 96];
+    left_flags::flags(s, t, u, f, keep, &mut left);
+    measured(
+        s,
+        t,
+        names,
+        rounds,
+        u,
+        f,
+        keep,
+        &left,
+        scratch,
+        stack,
+        v,
+        l,
+    )
+}
+
+// Row 12 and both sheets, in memory that is lent: the list of normal forms, and room for one type. Where it is too short, nothing
+// is written.
+pub fn sheets(
+    s: &[u8],
+    t: &[u32],
+    names: usize,
+    rounds: usize,
+    u: &[u16],
+    rank: &[u16],
+    keep: &[u8],
+    f: &mut [u64],
+    scratch: &mut [u64],
+    stack: &mut [u32],
+    v: &mut [u8],
+    l: &mut [u8],
+) -> Tried
+    requires { ⌜ Lent (now s) (now t) (now u) (now rank) (now keep) (now v) (length (now f)) (length (now scratch)) (length (now stack)) ⌝ }
+    requires { ⌜ (names ≡ count-of name-line (lines 6 (now s))) × (rounds ≡ run 100 (program (lines 6 (now s))) .rounds) ⌝ }
+    ensures { λ r. ⌜ Tries ((length (now (f .entry)) < 98496) ⊎ (length (now (scratch .entry)) < 1024)) (now (s .entry)) (now (v .entry)) (now (l .entry)) r (now (v .exit)) (now (l .exit)) ⌝ }
+{
+    let e = normal_forms::normal_forms(s, t, u, rank, f, scratch);
+    if e > f.len() {
+        return none();
+    }
+    formed(
+        s,
+        t,
+        names,
+        rounds,
+        u,
+        f,
+        keep,
+        scratch,
+        stack,
+        v,
+        l,
+    )
+}
