@@ -1,13 +1,13 @@
--- `resolver::state` meets its contract. Assumes nothing.
+-- `recalls::state` meets its contract. Assumes nothing.
 use mathlib.Core.Path.{sym}
 use Prim.Native.Nat.{_*_}
 use native.Mathlib.Omega.{arith}
 use Rattle.resolving.specs.ResolverLaws.{getD-past, getD-any}
 use borrow.Author.Needs.{needs}
-use Rattle.resolver.proofs.state.Statement.{statement}
-use Rattle.resolver.proofs.state.Tie as tie
-use Rattle.resolver.proofs.state.Reads as reads
-use Rattle.resolver.proofs.state.Lts as lts
+use Rattle.recalls.proofs.state.Statement.{statement}
+use Rattle.recalls.proofs.state.Tie as tie
+use Rattle.recalls.proofs.state.Reads as reads
+use Rattle.recalls.proofs.state.Lts as lts
 
 mul-if1 : tie.Need-mul-if1
 mul-if1 c = search needs

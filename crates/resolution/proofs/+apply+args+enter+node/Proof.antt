@@ -7,7 +7,6 @@ use native.Mathlib.Omega.{arith}
 use lib.Dec.{eqb}
 use lib.ListN.{length, getD}
 use borrow.Author.Needs.{needs}
-use borrow.Author.Tests.{not-true, not-false}
 use Rattle.sheet.specs.Sheet.{lines}
 use Rattle.outcomes.specs.Scratch.{part, Same, Nodes}
 use Rattle.outcomes.specs.Laws.Scratch.{part-same}
@@ -16,37 +15,35 @@ use Rattle.arguments.specs.ParamsLaws.{decls-few}
 use Rattle.calls.specs.CallsLaws.{Copy}
 use Rattle.memory.specs.Slots.{Slots}
 use Rattle.resolving.specs.Resolver.{evals-of, call-of, Args, Found, Done}
-use Rattle.resolving.specs.ResolverLaws.{node-var, node-stop, node-built, node-full, joined-args, node-apply, args-none, args-more, args-stop, args-full, args-done, enter-nine, enter-spent, enough, enter-ten, enter-var, enter-node, unfolded-is, unfolded-place, apply-gone, apply-stays, apply-enter, decl-least, kid-below, name-within, names-few, capped-least, apply-known, apply-kept}
+use Rattle.resolving.specs.ResolverLaws.{node-var, node-stop, node-built, node-full, joined-args, node-apply, args-none, args-more, args-stop, args-full, args-done, unfolded-here, body-here, apply-enter, kid-below, name-within, names-few, apply-kept}
 use borrow.Fn.Kinds.{In}
 use borrow.Fn.PlainCycle.{Measures, is, falls, and}
-use Rattle.resolver.proofs.apply.Reads as apply
-use Rattle.resolver.proofs.apply.Kinds as apply-kinds
-use Rattle.resolver.proofs.+apply+args+enter+node.Lts-apply as apply-lts
-use Rattle.resolver.proofs.args.Reads as args
-use Rattle.resolver.proofs.args.Kinds as args-kinds
-use Rattle.resolver.proofs.+apply+args+enter+node.Lts-args as args-lts
-use Rattle.resolver.proofs.enter.Reads as enter
-use Rattle.resolver.proofs.enter.Kinds as enter-kinds
-use Rattle.resolver.proofs.+apply+args+enter+node.Lts-enter as enter-lts
-use Rattle.resolver.proofs.node.Reads as node
-use Rattle.resolver.proofs.node.Kinds as node-kinds
-use Rattle.resolver.proofs.+apply+args+enter+node.Lts-node as node-lts
+use Rattle.resolution.proofs.apply.Reads as apply
+use Rattle.resolution.proofs.apply.Kinds as apply-kinds
+use Rattle.resolution.proofs.+apply+args+enter+node.Lts-apply as apply-lts
+use Rattle.resolution.proofs.args.Reads as args
+use Rattle.resolution.proofs.args.Kinds as args-kinds
+use Rattle.resolution.proofs.+apply+args+enter+node.Lts-args as args-lts
+use Rattle.resolution.proofs.enter.Reads as enter
+use Rattle.resolution.proofs.enter.Kinds as enter-kinds
+use Rattle.resolution.proofs.+apply+args+enter+node.Lts-enter as enter-lts
+use Rattle.resolution.proofs.node.Reads as node
+use Rattle.resolution.proofs.node.Kinds as node-kinds
+use Rattle.resolution.proofs.+apply+args+enter+node.Lts-node as node-lts
 use Rattle.arguments.proofs.argument.Reads as argument-reads
 use Rattle.calls.proofs.copy.Reads as copy-reads
-use Rattle.calls.proofs.fits.Reads as fits-reads
 use Rattle.calls.proofs.params.Reads as params-reads
 use Rattle.kids.proofs.kid.Reads as kid-reads
 use Rattle.kids.proofs.kids.Reads as kids-reads
-use Rattle.memory.proofs.recall.Reads as recall-reads
 use Rattle.memory.proofs.remember.Reads as remember-reads
-use Rattle.resolver.proofs.state.Reads as state-reads
+use Rattle.recalls.proofs.answered.Reads as answered-reads
+use Rattle.recalls.proofs.body.Reads as body-reads
+use Rattle.entries.proofs.entry.Reads as entry-reads
 use Rattle.sums.proofs.built.Reads as built-reads
-use Rattle.sums.proofs.total.Reads as total-reads
 use Rattle.tables.proofs.decl_of.Reads as decl-of-reads
 use Rattle.tables.proofs.type_number.Reads as type-number-reads
-use Rattle.weighing.proofs.weigh.Reads as weigh-reads
-use Rattle.resolver.proofs.+apply+args+enter+node.{statement}
-use Rattle.resolver.proofs.+apply+args+enter+node.Tie.{close}
+use Rattle.resolution.proofs.+apply+args+enter+node.{statement}
+use Rattle.resolution.proofs.+apply+args+enter+node.Tie.{close}
 
 abbrev μ-apply : Measures 5 apply-kinds.ps ℕ
 μ-apply κs a = 4100 * a .1 .1 .1 .1 .1 .0 + 1
@@ -84,82 +81,23 @@ node-at t = and 5 node-kinds.ps (is 5 node-kinds.ps μ-node t) node.Pre
 abbrev node-below : ℕ → In 5 node-kinds.ps
 node-below t = and 5 node-kinds.ps (falls 5 node-kinds.ps _<_ μ-node t) node.Pre
 
-apply-decl-of-requires : (t : ℕ) → apply-lts.Need-decl-of-requires (
+apply-answered-requires : (t : ℕ) → apply-lts.Need-answered-requires (
+  answered-reads.Asked,
+  answered-reads.Learnt,
   decl-of-reads.Asked,
   decl-of-reads.Learnt,
-  state-reads.Asked,
-  state-reads.Learnt,
-  built-reads.Asked,
-  built-reads.Learnt,
-  recall-reads.Asked,
-  recall-reads.Learnt,
   enter-below t,
   enter.Post,
   remember-reads.Asked,
   remember-reads.Learnt,
 ) (apply-at t) apply.Post
-apply-decl-of-requires t c κs = let p = c .before .before .before .before .before .pre .1 in (p .0 .0 .tabled, p .0 .1)
-
-apply-state-requires : (t : ℕ) → apply-lts.Need-state-requires (
-  decl-of-reads.Asked,
-  decl-of-reads.Learnt,
-  state-reads.Asked,
-  state-reads.Learnt,
-  built-reads.Asked,
-  built-reads.Learnt,
-  recall-reads.Asked,
-  recall-reads.Learnt,
-  enter-below t,
-  enter.Post,
-  remember-reads.Asked,
-  remember-reads.Learnt,
-) (apply-at t) apply.Post
-apply-state-requires t c κs = omega (arith, c .decl-of .ensures, decl-least (c .before .before .before .before .before .before .args .s .now) (c .before .before .before .before .before .before .pre .1 .0 .0 .tabled .passed) (c .before .before .before .before .before .before .args .n))
-
-apply-returns : (t : ℕ) → apply-lts.Need-returns (
-  decl-of-reads.Asked,
-  decl-of-reads.Learnt,
-  state-reads.Asked,
-  state-reads.Learnt,
-  built-reads.Asked,
-  built-reads.Learnt,
-  recall-reads.Asked,
-  recall-reads.Learnt,
-  enter-below t,
-  enter.Post,
-  remember-reads.Asked,
-  remember-reads.Learnt,
-) (apply-at t) apply.Post
-apply-returns t c =
-    let a = c .before .before .before .before .before .before .before .before .args in
-    let p = c .before .before .before .before .before .before .before .before .pre .1 in
-    apply-gone (a .s .now) (a .t .now) (a .u .now) (p .0 .0) (a .n) _ _ (a .at) (a .count) (c .before .before .decl-of .ensures) (c .before .state .ensures) (a .out .now) (p .1 .0) (a .slots .now) (p .1 .1) (a .k) (c .if1 .taken)
-
-apply-built-requires : (t : ℕ) → apply-lts.Need-built-requires (
-  decl-of-reads.Asked,
-  decl-of-reads.Learnt,
-  state-reads.Asked,
-  state-reads.Learnt,
-  built-reads.Asked,
-  built-reads.Learnt,
-  recall-reads.Asked,
-  recall-reads.Learnt,
-  enter-below t,
-  enter.Post,
-  remember-reads.Asked,
-  remember-reads.Learnt,
-) (apply-at t) apply.Post
-apply-built-requires t c κs = (omega (arith, c .before .before .before .before .before .before .before .before .before .before .pre .1 .1 .0 .room), omega arith)
+apply-answered-requires t c κs = let p = c .before .before .before .before .before .before .before .pre .1 in (p .0, (p .1 .0, p .1 .1))
 
 apply-same-length : (t : ℕ) → apply-lts.Need-same-length (
+  answered-reads.Asked,
+  answered-reads.Learnt,
   decl-of-reads.Asked,
   decl-of-reads.Learnt,
-  state-reads.Asked,
-  state-reads.Learnt,
-  built-reads.Asked,
-  built-reads.Learnt,
-  recall-reads.Asked,
-  recall-reads.Learnt,
   enter-below t,
   enter.Post,
   remember-reads.Asked,
@@ -167,50 +105,11 @@ apply-same-length : (t : ℕ) → apply-lts.Need-same-length (
 ) (apply-at t) apply.Post
 apply-same-length t c = search needs
 
-apply-returns-2 : (t : ℕ) → apply-lts.Need-returns-2 (
-  decl-of-reads.Asked,
-  decl-of-reads.Learnt,
-  state-reads.Asked,
-  state-reads.Learnt,
-  built-reads.Asked,
-  built-reads.Learnt,
-  recall-reads.Asked,
-  recall-reads.Learnt,
-  enter-below t,
-  enter.Post,
-  remember-reads.Asked,
-  remember-reads.Learnt,
-) (apply-at t) apply.Post
-apply-returns-2 t c =
-    let a = c .before .before .before .before .before .before .before .before .before .before .before .args in
-    let p = c .before .before .before .before .before .before .before .before .before .before .before .pre .1 in
-    apply-stays (a .s .now) (a .t .now) (a .u .now) (p .0 .0) (a .n) _ _ (a .at) (a .count) (c .before .before .before .before .before .decl-of .ensures) (c .before .before .before .before .state .ensures) (a .out .now) (p .1 .0) (a .slots .now) (p .1 .1) (a .k) _ (c .before .before .if2 .taken) (c .built .ensures)
-
-apply-recall-requires : (t : ℕ) → apply-lts.Need-recall-requires (
-  decl-of-reads.Asked,
-  decl-of-reads.Learnt,
-  state-reads.Asked,
-  state-reads.Learnt,
-  built-reads.Asked,
-  built-reads.Learnt,
-  recall-reads.Asked,
-  recall-reads.Learnt,
-  enter-below t,
-  enter.Post,
-  remember-reads.Asked,
-  remember-reads.Learnt,
-) (apply-at t) apply.Post
-apply-recall-requires t c κs = (omega (arith, c .before .before .before .before .before .before .before .before .before .before .before .pre .1 .0 .1, names-few (c .before .before .before .before .before .before .before .before .before .before .before .args .s .now) (c .before .before .before .before .before .before .before .before .before .before .before .pre .1 .0 .0 .tabled .passed)), c .before .before .before .before .before .before .before .before .before .before .before .pre .1 .1 .0 .room)
-
 apply-same-length-2 : (t : ℕ) → apply-lts.Need-same-length-2 (
+  answered-reads.Asked,
+  answered-reads.Learnt,
   decl-of-reads.Asked,
   decl-of-reads.Learnt,
-  state-reads.Asked,
-  state-reads.Learnt,
-  built-reads.Asked,
-  built-reads.Learnt,
-  recall-reads.Asked,
-  recall-reads.Learnt,
   enter-below t,
   enter.Post,
   remember-reads.Asked,
@@ -218,135 +117,96 @@ apply-same-length-2 : (t : ℕ) → apply-lts.Need-same-length-2 (
 ) (apply-at t) apply.Post
 apply-same-length-2 t c = search needs
 
-apply-same-length-3 : (t : ℕ) → apply-lts.Need-same-length-3 (
+apply-returns : (t : ℕ) → apply-lts.Need-returns (
+  answered-reads.Asked,
+  answered-reads.Learnt,
   decl-of-reads.Asked,
   decl-of-reads.Learnt,
-  state-reads.Asked,
-  state-reads.Learnt,
-  built-reads.Asked,
-  built-reads.Learnt,
-  recall-reads.Asked,
-  recall-reads.Learnt,
   enter-below t,
   enter.Post,
   remember-reads.Asked,
   remember-reads.Learnt,
 ) (apply-at t) apply.Post
-apply-same-length-3 t c = search needs
+apply-returns t c = c .before .answered .ensures .found (c .if1 .taken) (c .before .before .before .before .before .before .before .before .before .args .k)
 
-apply-returns-3 : (t : ℕ) → apply-lts.Need-returns-3 (
+apply-decl-of-requires : (t : ℕ) → apply-lts.Need-decl-of-requires (
+  answered-reads.Asked,
+  answered-reads.Learnt,
   decl-of-reads.Asked,
   decl-of-reads.Learnt,
-  state-reads.Asked,
-  state-reads.Learnt,
-  built-reads.Asked,
-  built-reads.Learnt,
-  recall-reads.Asked,
-  recall-reads.Learnt,
   enter-below t,
   enter.Post,
   remember-reads.Asked,
   remember-reads.Learnt,
 ) (apply-at t) apply.Post
-apply-returns-3 t c =
-    let a = c .before .before .before .before .before .before .before .before .before .before .before .before .before .args in
-    let p = c .before .before .before .before .before .before .before .before .before .before .before .before .before .pre .1 in
-    apply-known (a .s .now) (a .t .now) (a .u .now) (a .n) (a .at) (a .count) (a .out .now) (a .k) _ (a .slots .now) (p .1 .1) (c .before .recall .ensures) (c .if3 .taken)
+apply-decl-of-requires t c κs = let p = c .before .before .before .before .before .before .before .before .before .pre .1 in (p .0 .0 .tabled, p .0 .1)
 
 apply-enter-requires : (t : ℕ) → apply-lts.Need-enter-requires (
+  answered-reads.Asked,
+  answered-reads.Learnt,
   decl-of-reads.Asked,
   decl-of-reads.Learnt,
-  state-reads.Asked,
-  state-reads.Learnt,
-  built-reads.Asked,
-  built-reads.Learnt,
-  recall-reads.Asked,
-  recall-reads.Learnt,
   enter-below t,
   enter.Post,
   remember-reads.Asked,
   remember-reads.Learnt,
 ) (apply-at t) apply.Post
 apply-enter-requires t c κs =
-    let a = c .before .before .before .before .before .before .before .before .before .before .before .before .before .before .before .args in
-    let p = c .before .before .before .before .before .before .before .before .before .before .before .before .before .before .before .pre .1 in (
-      omega (arith, c .before .before .before .before .before .before .before .before .before .before .before .before .before .before .before .pre .0),
-      (
-        (
-          unfolded-place (a .s .now) (a .t .now) (a .u .now) (p .0 .0) (a .n) _ _ (a .at) (a .count) (c .before .before .before .before .before .before .before .before .before .decl-of .ensures) (c .before .before .before .before .before .before .before .before .state .ensures) (a .out .now) (p .1 .0) (a .slots .now) (p .1 .1) (c .before .before .before .before .before .before .before .if1 .left) (c .before .before .before .before .before .before .if2 .left),
-          unfolded-is (a .s .now) (a .t .now) (a .u .now) (p .0 .0) (a .n) _ _ (a .at) (a .count) (c .before .before .before .before .before .before .before .before .before .decl-of .ensures) (c .before .before .before .before .before .before .before .before .state .ensures) (a .out .now) (p .1 .0) (a .slots .now) (p .1 .1) (c .before .before .before .before .before .before .before .if1 .left) (c .before .before .before .before .before .before .if2 .left),
-        ),
-        (p .1 .0, p .1 .1),
-      ),
-    )
+    let a = c .before .before .before .before .before .before .before .before .before .before .before .before .args in
+    let p = c .before .before .before .before .before .before .before .before .before .before .before .before .pre .1 in
+    (omega (arith, c .before .before .before .before .before .before .before .before .before .before .before .before .pre .0), (unfolded-here (a .s .now) (a .t .now) (a .u .now) (p .0 .0) (a .n) _ (a .at) (a .count) (c .before .before .decl-of .ensures) (a .out .now) (p .1 .0) (a .slots .now) (p .1 .1) _ (c .before .before .before .before .answered .ensures) (c .before .before .before .if1 .left), (p .1 .0, p .1 .1)))
 
 apply-remember-requires : (t : ℕ) → apply-lts.Need-remember-requires (
+  answered-reads.Asked,
+  answered-reads.Learnt,
   decl-of-reads.Asked,
   decl-of-reads.Learnt,
-  state-reads.Asked,
-  state-reads.Learnt,
-  built-reads.Asked,
-  built-reads.Learnt,
-  recall-reads.Asked,
-  recall-reads.Learnt,
   enter-below t,
   enter.Post,
   remember-reads.Asked,
   remember-reads.Learnt,
 ) (apply-at t) apply.Post
-apply-remember-requires t c κs = (omega (arith, c .before .before .before .before .before .before .before .before .before .before .before .before .before .before .before .before .before .before .before .before .before .before .pre .1 .0 .1, names-few (c .before .before .before .before .before .before .before .before .before .before .before .before .before .before .before .before .before .before .before .before .before .before .args .s .now) (c .before .before .before .before .before .before .before .before .before .before .before .before .before .before .before .before .before .before .before .before .before .before .pre .1 .0 .0 .tabled .passed)), omega (arith, c .before .before .before .before .before .before .before .before .before .before .before .before .before .before .before .before .before .before .before .before .before .before .pre .1 .1 .0 .room, c .before .before .before .before .before .before .enter .ensures .kept .long), c .before .before .before .before .before .before .enter .ensures .small)
+apply-remember-requires t c κs = let p = c .before .before .before .before .before .before .before .before .before .before .before .before .before .before .before .before .before .before .before .pre .1 in let e = c .before .before .before .before .before .before .enter .ensures in (omega (arith, p .0 .1, names-few (c .before .before .before .before .before .before .before .before .before .before .before .before .before .before .before .before .before .before .before .args .s .now) (p .0 .0 .tabled .passed)), omega (arith, p .1 .0 .room, e .kept .long), e .small)
+
+apply-same-length-3 : (t : ℕ) → apply-lts.Need-same-length-3 (
+  answered-reads.Asked,
+  answered-reads.Learnt,
+  decl-of-reads.Asked,
+  decl-of-reads.Learnt,
+  enter-below t,
+  enter.Post,
+  remember-reads.Asked,
+  remember-reads.Learnt,
+) (apply-at t) apply.Post
+apply-same-length-3 t c = c .before .before .before .before .before .before .before .before .before .enter .ensures .kept .long
 
 apply-same-length-4 : (t : ℕ) → apply-lts.Need-same-length-4 (
+  answered-reads.Asked,
+  answered-reads.Learnt,
   decl-of-reads.Asked,
   decl-of-reads.Learnt,
-  state-reads.Asked,
-  state-reads.Learnt,
-  built-reads.Asked,
-  built-reads.Learnt,
-  recall-reads.Asked,
-  recall-reads.Learnt,
   enter-below t,
   enter.Post,
   remember-reads.Asked,
   remember-reads.Learnt,
 ) (apply-at t) apply.Post
-apply-same-length-4 t c = c .before .before .before .before .before .before .before .before .before .enter .ensures .kept .long
+apply-same-length-4 t c = search needs
 
-apply-same-length-5 : (t : ℕ) → apply-lts.Need-same-length-5 (
+apply-returns-2 : (t : ℕ) → apply-lts.Need-returns-2 (
+  answered-reads.Asked,
+  answered-reads.Learnt,
   decl-of-reads.Asked,
   decl-of-reads.Learnt,
-  state-reads.Asked,
-  state-reads.Learnt,
-  built-reads.Asked,
-  built-reads.Learnt,
-  recall-reads.Asked,
-  recall-reads.Learnt,
   enter-below t,
   enter.Post,
   remember-reads.Asked,
   remember-reads.Learnt,
 ) (apply-at t) apply.Post
-apply-same-length-5 t c = search needs
-
-apply-returns-4 : (t : ℕ) → apply-lts.Need-returns-4 (
-  decl-of-reads.Asked,
-  decl-of-reads.Learnt,
-  state-reads.Asked,
-  state-reads.Learnt,
-  built-reads.Asked,
-  built-reads.Learnt,
-  recall-reads.Asked,
-  recall-reads.Learnt,
-  enter-below t,
-  enter.Post,
-  remember-reads.Asked,
-  remember-reads.Learnt,
-) (apply-at t) apply.Post
-apply-returns-4 t c =
-    let a = c .before .before .before .before .before .before .before .before .before .before .before .before .before .before .before .before .before .before .before .before .before .before .before .before .before .args in
-    let p = c .before .before .before .before .before .before .before .before .before .before .before .before .before .before .before .before .before .before .before .before .before .before .before .before .before .pre .1 in
+apply-returns-2 t c =
+    let a = c .before .before .before .before .before .before .before .before .before .before .before .before .before .before .before .before .before .before .before .before .before .before .args in
+    let p = c .before .before .before .before .before .before .before .before .before .before .before .before .before .before .before .before .before .before .before .before .before .before .pre .1 in
     apply-kept (a .s .now) (a .t .now) (a .u .now) (a .n) (a .at) (a .count) (a .out .now) (a .k) _ _ _ _ (p .1 .0 .room)
-    (apply-enter (a .s .now) (a .t .now) (a .u .now) (p .0 .0) (a .n) _ _ (a .at) (a .count) (c .before .before .before .before .before .before .before .before .before .before .before .before .before .before .before .before .before .before .before .decl-of .ensures) (c .before .before .before .before .before .before .before .before .before .before .before .before .before .before .before .before .before .before .state .ensures) (a .out .now) (p .1 .0) (a .slots .now) (p .1 .1) (a .k) _ _ _ (c .before .before .before .before .before .before .before .before .before .enter .ensures))
+    (apply-enter (a .s .now) (a .t .now) (a .u .now) (p .0 .0) (a .n) _ _ (a .at) (a .count) (c .before .before .before .before .before .before .before .before .before .before .before .before .decl-of .ensures) refl (a .out .now) (p .1 .0) (a .slots .now) (p .1 .1) (a .k) _ _ _ (c .before .before .before .before .before .before .before .before .before .enter .ensures))
     (c .before .before .remember .ensures)
 
 abbrev args-Inv-loop : args-lts.InvT-loop
@@ -586,586 +446,167 @@ args-returns-3 t c =
     let p = c .before .before .before .before .before .before .before .before .pre .1 in
     args-done (a .s .now) (a .t .now) (a .u .now) (a .y) (a .d) (p .0) (a .at) (a .count) (a .top) (a .out .now) (p .1 .0) (c .before .loop .i) (a .k) (c .before .loop .out) (c .before .loop .slots) (c .before .loop .inv .3) (omega (arith, c .before .before .kids .ensures, c .loop-test .left, c .before .loop .inv .0))
 
-enter-mul-y : (t : ℕ) → enter-lts.Need-mul-y (
-  fits-reads.Asked,
-  fits-reads.Learnt,
+enter-body-requires : (t : ℕ) → enter-lts.Need-body-requires (
+  body-reads.Asked,
+  body-reads.Learnt,
+  entry-reads.Asked,
+  entry-reads.Learnt,
   params-reads.Asked,
   params-reads.Learnt,
-  total-reads.Asked,
-  total-reads.Learnt,
-  weigh-reads.Asked,
-  weigh-reads.Learnt,
   node-below t,
   node.Post,
-  type-number-reads.Asked,
-  type-number-reads.Learnt,
 ) (enter-at t) enter.Post
-enter-mul-y t c = omega (arith, c .before .before .before .before .before .pre .1 .0 .0 .decl, decls-few (c .before .before .before .before .before .args .s .now) (c .before .before .before .before .before .pre .1 .0 .0 .setup .tabled .passed))
+enter-body-requires t c κs =
+    let a = c .before .before .before .before .before .args in
+    let p = c .before .before .before .before .before .pre .1 in
+    (omega (arith, p .0 .0 .decl, decls-few (a .s .now) (p .0 .0 .setup .tabled .passed)), omega (arith, p .0 .0 .decl, p .0 .0 .setup .states .long))
 
-enter-add-y : (t : ℕ) → enter-lts.Need-add-y (
-  fits-reads.Asked,
-  fits-reads.Learnt,
+enter-entry-requires : (t : ℕ) → enter-lts.Need-entry-requires (
+  body-reads.Asked,
+  body-reads.Learnt,
+  entry-reads.Asked,
+  entry-reads.Learnt,
   params-reads.Asked,
   params-reads.Learnt,
-  total-reads.Asked,
-  total-reads.Learnt,
-  weigh-reads.Asked,
-  weigh-reads.Learnt,
   node-below t,
   node.Post,
-  type-number-reads.Asked,
-  type-number-reads.Learnt,
 ) (enter-at t) enter.Post
-enter-add-y t c = omega (arith, c .before .before .before .before .before .pre .1 .0 .0 .decl, decls-few (c .before .before .before .before .before .args .s .now) (c .before .before .before .before .before .pre .1 .0 .0 .setup .tabled .passed))
-
-enter-mul-y-2 : (t : ℕ) → enter-lts.Need-mul-y-2 (
-  fits-reads.Asked,
-  fits-reads.Learnt,
-  params-reads.Asked,
-  params-reads.Learnt,
-  total-reads.Asked,
-  total-reads.Learnt,
-  weigh-reads.Asked,
-  weigh-reads.Learnt,
-  node-below t,
-  node.Post,
-  type-number-reads.Asked,
-  type-number-reads.Learnt,
-) (enter-at t) enter.Post
-enter-mul-y-2 t c = omega (arith, c .before .before .before .before .before .pre .1 .0 .0 .decl, decls-few (c .before .before .before .before .before .args .s .now) (c .before .before .before .before .before .pre .1 .0 .0 .setup .tabled .passed))
-
-enter-shared-slice-read-y : (t : ℕ) → enter-lts.Need-shared-slice-read-y (
-  fits-reads.Asked,
-  fits-reads.Learnt,
-  params-reads.Asked,
-  params-reads.Learnt,
-  total-reads.Asked,
-  total-reads.Learnt,
-  weigh-reads.Asked,
-  weigh-reads.Learnt,
-  node-below t,
-  node.Post,
-  type-number-reads.Asked,
-  type-number-reads.Learnt,
-) (enter-at t) enter.Post
-enter-shared-slice-read-y t c = omega (arith, c .before .before .before .before .before .before .pre .1 .0 .0 .decl, c .before .before .before .before .before .before .pre .1 .0 .0 .setup .states .long)
-
-enter-cast-y : (t : ℕ) → enter-lts.Need-cast-y (
-  fits-reads.Asked,
-  fits-reads.Learnt,
-  params-reads.Asked,
-  params-reads.Learnt,
-  total-reads.Asked,
-  total-reads.Learnt,
-  weigh-reads.Asked,
-  weigh-reads.Learnt,
-  node-below t,
-  node.Post,
-  type-number-reads.Asked,
-  type-number-reads.Learnt,
-) (enter-at t) enter.Post
-enter-cast-y t c = omega (arith, c .shared-slice-known4 .given (2 * c .before .before .before .before .before .before .args .d + 1))
-
-enter-fits-requires : (t : ℕ) → enter-lts.Need-fits-requires (
-  fits-reads.Asked,
-  fits-reads.Learnt,
-  params-reads.Asked,
-  params-reads.Learnt,
-  total-reads.Asked,
-  total-reads.Learnt,
-  weigh-reads.Asked,
-  weigh-reads.Learnt,
-  node-below t,
-  node.Post,
-  type-number-reads.Asked,
-  type-number-reads.Learnt,
-) (enter-at t) enter.Post
-enter-fits-requires t c κs = let p = c .before .before .before .before .before .before .before .pre .1 in ((p .0 .0 .setup .tabled, p .0 .0 .type), (p .0 .0 .decl, p .1 .0 .room))
+enter-entry-requires t c κs =
+    let a = c .before .before .before .before .before .before .before .args in
+    let p = c .before .before .before .before .before .before .before .pre .1 in
+    (body-here (a .s .now) (a .t .now) (a .u .now) _ (a .d) (c .before .body .ensures) (p .0), p .1 .0)
 
 enter-same-length : (t : ℕ) → enter-lts.Need-same-length (
-  fits-reads.Asked,
-  fits-reads.Learnt,
+  body-reads.Asked,
+  body-reads.Learnt,
+  entry-reads.Asked,
+  entry-reads.Learnt,
   params-reads.Asked,
   params-reads.Learnt,
-  total-reads.Asked,
-  total-reads.Learnt,
-  weigh-reads.Asked,
-  weigh-reads.Learnt,
   node-below t,
   node.Post,
-  type-number-reads.Asked,
-  type-number-reads.Learnt,
 ) (enter-at t) enter.Post
 enter-same-length t c = search needs
 
 enter-returns : (t : ℕ) → enter-lts.Need-returns (
-  fits-reads.Asked,
-  fits-reads.Learnt,
+  body-reads.Asked,
+  body-reads.Learnt,
+  entry-reads.Asked,
+  entry-reads.Learnt,
   params-reads.Asked,
   params-reads.Learnt,
-  total-reads.Asked,
-  total-reads.Learnt,
-  weigh-reads.Asked,
-  weigh-reads.Learnt,
   node-below t,
   node.Post,
-  type-number-reads.Asked,
-  type-number-reads.Learnt,
 ) (enter-at t) enter.Post
 enter-returns t c =
     let a = c .before .before .before .before .before .before .before .before .before .args in
     let p = c .before .before .before .before .before .before .before .before .before .pre .1 in
-    enter-nine (a .s .now) (a .t .now) (a .u .now) _ (a .d) (p .0 .0) (a .newtype) (p .0 .1) (a .at) (a .count) (a .out .now) (p .1 .0) (a .slots .now) (p .1 .1) (a .k) (sym (c .before .fits2 .ensures) ∙ not-true _ (c .if1 .taken))
-
-enter-same-length-2 : (t : ℕ) → enter-lts.Need-same-length-2 (
-  fits-reads.Asked,
-  fits-reads.Learnt,
-  params-reads.Asked,
-  params-reads.Learnt,
-  total-reads.Asked,
-  total-reads.Learnt,
-  weigh-reads.Asked,
-  weigh-reads.Learnt,
-  node-below t,
-  node.Post,
-  type-number-reads.Asked,
-  type-number-reads.Learnt,
-) (enter-at t) enter.Post
-enter-same-length-2 t c = search needs
-
-enter-returns-2 : (t : ℕ) → enter-lts.Need-returns-2 (
-  fits-reads.Asked,
-  fits-reads.Learnt,
-  params-reads.Asked,
-  params-reads.Learnt,
-  total-reads.Asked,
-  total-reads.Learnt,
-  weigh-reads.Asked,
-  weigh-reads.Learnt,
-  node-below t,
-  node.Post,
-  type-number-reads.Asked,
-  type-number-reads.Learnt,
-) (enter-at t) enter.Post
-enter-returns-2 t c =
-    let a = c .before .before .before .before .before .before .before .before .before .before .args in
-    let p = c .before .before .before .before .before .before .before .before .before .before .pre .1 in
-    enter-spent (a .s .now) (a .t .now) (a .u .now) _ (a .d) (p .0 .0) (a .newtype) (p .0 .1) (a .at) (a .count) (a .out .now) (p .1 .0) (a .slots .now) (p .1 .1) (sym (c .before .before .fits2 .ensures) ∙ not-false _ (c .before .if1 .left)) (a .k) (c .if2 .taken)
+    c .before .entry .ensures .found (c .if1 .taken) (a .slots .now) (p .1 .1)
 
 enter-params-requires : (t : ℕ) → enter-lts.Need-params-requires (
-  fits-reads.Asked,
-  fits-reads.Learnt,
+  body-reads.Asked,
+  body-reads.Learnt,
+  entry-reads.Asked,
+  entry-reads.Learnt,
   params-reads.Asked,
   params-reads.Learnt,
-  total-reads.Asked,
-  total-reads.Learnt,
-  weigh-reads.Asked,
-  weigh-reads.Learnt,
   node-below t,
   node.Post,
-  type-number-reads.Asked,
-  type-number-reads.Learnt,
 ) (enter-at t) enter.Post
-enter-params-requires t c κs = let p = c .before .before .before .before .before .before .before .before .before .before .pre .1 in (p .0 .0 .setup .tabled, p .0 .0 .decl)
+enter-params-requires t c κs = let p = c .before .before .before .before .before .before .before .before .before .pre .1 in (p .0 .0 .setup .tabled, p .0 .0 .decl)
 
 enter-sub-over : (t : ℕ) → enter-lts.Need-sub-over (
-  fits-reads.Asked,
-  fits-reads.Learnt,
+  body-reads.Asked,
+  body-reads.Learnt,
+  entry-reads.Asked,
+  entry-reads.Learnt,
   params-reads.Asked,
   params-reads.Learnt,
-  total-reads.Asked,
-  total-reads.Learnt,
-  weigh-reads.Asked,
-  weigh-reads.Learnt,
   node-below t,
   node.Post,
-  type-number-reads.Asked,
-  type-number-reads.Learnt,
 ) (enter-at t) enter.Post
-enter-sub-over t c =
-    let a = c .before .before .before .before .before .before .before .before .before .before .before .args in
-    let p = c .before .before .before .before .before .before .before .before .before .before .before .pre .1 in
-    enough (a .s .now) (a .t .now) (a .u .now) _ (a .d) (p .0 .0) (a .newtype) (p .0 .1) (a .at) (a .count) (a .out .now) (p .1 .0) (a .slots .now) (p .1 .1) (sym (c .before .before .before .fits2 .ensures) ∙ not-false _ (c .before .before .if1 .left)) _ (c .params .ensures)
+enter-sub-over t c = omega (arith, c .before .before .entry .ensures .enough (c .before .if1 .left), c .params .ensures)
 
-enter-add-total : (t : ℕ) → enter-lts.Need-add-total (
-  fits-reads.Asked,
-  fits-reads.Learnt,
+enter-sub-node : (t : ℕ) → enter-lts.Need-sub-node (
+  body-reads.Asked,
+  body-reads.Learnt,
+  entry-reads.Asked,
+  entry-reads.Learnt,
   params-reads.Asked,
   params-reads.Learnt,
-  total-reads.Asked,
-  total-reads.Learnt,
-  weigh-reads.Asked,
-  weigh-reads.Learnt,
   node-below t,
   node.Post,
-  type-number-reads.Asked,
-  type-number-reads.Learnt,
 ) (enter-at t) enter.Post
-enter-add-total t c =
+enter-sub-node t c = omega (arith, c .before .before .before .before .entry .ensures .fuel (c .before .before .before .if1 .left))
+
+enter-add-node : (t : ℕ) → enter-lts.Need-add-node (
+  body-reads.Asked,
+  body-reads.Learnt,
+  entry-reads.Asked,
+  entry-reads.Learnt,
+  params-reads.Asked,
+  params-reads.Learnt,
+  node-below t,
+  node.Post,
+) (enter-at t) enter.Post
+enter-add-node t c = omega (arith, c .before .before .before .before .before .before .before .before .before .before .before .before .pre .1 .1 .0 .room, c .before .before .before .before .before .before .before .before .before .before .before .before .good .1 .1 .1 .0)
+
+enter-node-requires : (t : ℕ) → enter-lts.Need-node-requires (
+  body-reads.Asked,
+  body-reads.Learnt,
+  entry-reads.Asked,
+  entry-reads.Learnt,
+  params-reads.Asked,
+  params-reads.Learnt,
+  node-below t,
+  node.Post,
+) (enter-at t) enter.Post
+enter-node-requires t c κs =
     let a = c .before .before .before .before .before .before .before .before .before .before .before .before .args in
     let p = c .before .before .before .before .before .before .before .before .before .before .before .before .pre .1 in
-    omega (arith, p .1 .0 .room, enough (a .s .now) (a .t .now) (a .u .now) _ (a .d) (p .0 .0) (a .newtype) (p .0 .1) (a .at) (a .count) (a .out .now) (p .1 .0) (a .slots .now) (p .1 .1) (sym (c .before .before .before .before .fits2 .ensures) ∙ not-false _ (c .before .before .before .if1 .left)) _ (c .before .params .ensures))
+    let w = c .before .before .before .before .entry .ensures in
+    let z = c .before .before .before .if1 .left in
+    let q = body-here (a .s .now) (a .t .now) (a .u .now) _ (a .d) (c .before .before .before .before .before .before .body .ensures) (p .0) .0 in
+    (omega (arith, c .before .before .before .before .before .before .before .before .before .before .before .before .pre .0, w .fuel z, q .type, types-few (a .s .now) (q .setup .tabled .passed)), (q, ((p .1 .0, omega arith, λ e. ap (λ (i : ℕ). a .count - i) (c .before .before .params .ensures) ∙ w .bare z e), p .1 .1)))
 
-enter-total-requires : (t : ℕ) → enter-lts.Need-total-requires (
-  fits-reads.Asked,
-  fits-reads.Learnt,
+enter-same-length-2 : (t : ℕ) → enter-lts.Need-same-length-2 (
+  body-reads.Asked,
+  body-reads.Learnt,
+  entry-reads.Asked,
+  entry-reads.Learnt,
   params-reads.Asked,
   params-reads.Learnt,
-  total-reads.Asked,
-  total-reads.Learnt,
-  weigh-reads.Asked,
-  weigh-reads.Learnt,
   node-below t,
   node.Post,
-  type-number-reads.Asked,
-  type-number-reads.Learnt,
 ) (enter-at t) enter.Post
-enter-total-requires t c κs =
-    let a = c .before .before .before .before .before .before .before .before .before .before .before .before .args in
-    let p = c .before .before .before .before .before .before .before .before .before .before .before .before .pre .1 in
-    (omega (arith, p .1 .0 .room, enough (a .s .now) (a .t .now) (a .u .now) _ (a .d) (p .0 .0) (a .newtype) (p .0 .1) (a .at) (a .count) (a .out .now) (p .1 .0) (a .slots .now) (p .1 .1) (sym (c .before .before .before .before .fits2 .ensures) ∙ not-false _ (c .before .before .before .if1 .left)) _ (c .before .params .ensures)), omega arith)
-
-enter-weigh-requires : (t : ℕ) → enter-lts.Need-weigh-requires (
-  fits-reads.Asked,
-  fits-reads.Learnt,
-  params-reads.Asked,
-  params-reads.Learnt,
-  total-reads.Asked,
-  total-reads.Learnt,
-  weigh-reads.Asked,
-  weigh-reads.Learnt,
-  node-below t,
-  node.Post,
-  type-number-reads.Asked,
-  type-number-reads.Learnt,
-) (enter-at t) enter.Post
-enter-weigh-requires t c κs = let p = c .before .before .before .before .before .before .before .before .before .before .before .before .before .pre .1 in ((p .0 .0 .setup .tabled, p .0 .0 .type), (p .0 .0 .decl, p .1 .0 .room, capped-least _ _ (c .total .ensures)))
+enter-same-length-2 t c = c .before .before .before .before .node .ensures .kept .long
 
 enter-same-length-3 : (t : ℕ) → enter-lts.Need-same-length-3 (
-  fits-reads.Asked,
-  fits-reads.Learnt,
+  body-reads.Asked,
+  body-reads.Learnt,
+  entry-reads.Asked,
+  entry-reads.Learnt,
   params-reads.Asked,
   params-reads.Learnt,
-  total-reads.Asked,
-  total-reads.Learnt,
-  weigh-reads.Asked,
-  weigh-reads.Learnt,
   node-below t,
   node.Post,
-  type-number-reads.Asked,
-  type-number-reads.Learnt,
 ) (enter-at t) enter.Post
 enter-same-length-3 t c = search needs
 
-enter-returns-3 : (t : ℕ) → enter-lts.Need-returns-3 (
-  fits-reads.Asked,
-  fits-reads.Learnt,
+enter-returns-2 : (t : ℕ) → enter-lts.Need-returns-2 (
+  body-reads.Asked,
+  body-reads.Learnt,
+  entry-reads.Asked,
+  entry-reads.Learnt,
   params-reads.Asked,
   params-reads.Learnt,
-  total-reads.Asked,
-  total-reads.Learnt,
-  weigh-reads.Asked,
-  weigh-reads.Learnt,
   node-below t,
   node.Post,
-  type-number-reads.Asked,
-  type-number-reads.Learnt,
 ) (enter-at t) enter.Post
-enter-returns-3 t c =
-    let a = c .before .before .before .before .before .before .before .before .before .before .before .before .before .before .before .args in
-    let p = c .before .before .before .before .before .before .before .before .before .before .before .before .before .before .before .pre .1 in
-    enter-ten (a .s .now) (a .t .now) (a .u .now) _ (a .d) (p .0 .0) (a .newtype) (p .0 .1) (a .at) (a .count) (a .out .now) (p .1 .0) (a .slots .now) (p .1 .1) (sym (c .before .before .before .before .before .before .before .fits2 .ensures) ∙ not-false _ (c .before .before .before .before .before .before .if1 .left)) _ _ _ _ (c .before .before .before .before .params .ensures) refl (c .before .before .total .ensures) (c .before .weigh .ensures) (a .k) (c .if3 .taken)
-
-enter-sub-node : (t : ℕ) → enter-lts.Need-sub-node (
-  fits-reads.Asked,
-  fits-reads.Learnt,
-  params-reads.Asked,
-  params-reads.Learnt,
-  total-reads.Asked,
-  total-reads.Learnt,
-  weigh-reads.Asked,
-  weigh-reads.Learnt,
-  node-below t,
-  node.Post,
-  type-number-reads.Asked,
-  type-number-reads.Learnt,
-) (enter-at t) enter.Post
-enter-sub-node t c = omega (arith, c .before .before .before .before .before .before .before .before .if2 .left)
-
-enter-add-node : (t : ℕ) → enter-lts.Need-add-node (
-  fits-reads.Asked,
-  fits-reads.Learnt,
-  params-reads.Asked,
-  params-reads.Learnt,
-  total-reads.Asked,
-  total-reads.Learnt,
-  weigh-reads.Asked,
-  weigh-reads.Learnt,
-  node-below t,
-  node.Post,
-  type-number-reads.Asked,
-  type-number-reads.Learnt,
-) (enter-at t) enter.Post
-enter-add-node t c = omega (arith, c .before .before .before .before .before .before .before .before .before .before .before .before .before .before .before .before .before .before .pre .1 .1 .0 .room)
-
-enter-node-requires : (t : ℕ) → enter-lts.Need-node-requires (
-  fits-reads.Asked,
-  fits-reads.Learnt,
-  params-reads.Asked,
-  params-reads.Learnt,
-  total-reads.Asked,
-  total-reads.Learnt,
-  weigh-reads.Asked,
-  weigh-reads.Learnt,
-  node-below t,
-  node.Post,
-  type-number-reads.Asked,
-  type-number-reads.Learnt,
-) (enter-at t) enter.Post
-enter-node-requires t c κs =
-    let a = c .before .before .before .before .before .before .before .before .before .before .before .before .before .before .before .before .before .before .args in
-    let p = c .before .before .before .before .before .before .before .before .before .before .before .before .before .before .before .before .before .before .pre .1 in (
-      omega (arith, c .before .before .before .before .before .before .before .before .before .before .before .before .before .before .before .before .before .before .pre .0, c .before .before .before .before .before .before .before .before .if2 .left, p .0 .0 .type, types-few (a .s .now) (p .0 .0 .setup .tabled .passed)),
-      (p .0 .0, ((p .1 .0, omega arith, λ e. c .before .before .if4 .taken), p .1 .1)),
-    )
-
-enter-same-length-4 : (t : ℕ) → enter-lts.Need-same-length-4 (
-  fits-reads.Asked,
-  fits-reads.Learnt,
-  params-reads.Asked,
-  params-reads.Learnt,
-  total-reads.Asked,
-  total-reads.Learnt,
-  weigh-reads.Asked,
-  weigh-reads.Learnt,
-  node-below t,
-  node.Post,
-  type-number-reads.Asked,
-  type-number-reads.Learnt,
-) (enter-at t) enter.Post
-enter-same-length-4 t c = c .before .before .before .before .node .ensures .kept .long
-
-enter-same-length-5 : (t : ℕ) → enter-lts.Need-same-length-5 (
-  fits-reads.Asked,
-  fits-reads.Learnt,
-  params-reads.Asked,
-  params-reads.Learnt,
-  total-reads.Asked,
-  total-reads.Learnt,
-  weigh-reads.Asked,
-  weigh-reads.Learnt,
-  node-below t,
-  node.Post,
-  type-number-reads.Asked,
-  type-number-reads.Learnt,
-) (enter-at t) enter.Post
-enter-same-length-5 t c = search needs
-
-enter-returns-4 : (t : ℕ) → enter-lts.Need-returns-4 (
-  fits-reads.Asked,
-  fits-reads.Learnt,
-  params-reads.Asked,
-  params-reads.Learnt,
-  total-reads.Asked,
-  total-reads.Learnt,
-  weigh-reads.Asked,
-  weigh-reads.Learnt,
-  node-below t,
-  node.Post,
-  type-number-reads.Asked,
-  type-number-reads.Learnt,
-) (enter-at t) enter.Post
-enter-returns-4 t c =
-    let a = c .before .before .before .before .before .before .before .before .before .before .before .before .before .before .before .before .before .before .before .before .before .before .before .args in
-    let p = c .before .before .before .before .before .before .before .before .before .before .before .before .before .before .before .before .before .before .before .before .before .before .before .pre .1 in
-    enter-node (a .s .now) (a .t .now) (a .u .now) _ (a .d) (p .0 .0) (a .newtype) (p .0 .1) (a .at) (a .count) (a .out .now) (p .1 .0) (a .slots .now) (p .1 .1) (sym (c .before .before .before .before .before .before .before .before .before .before .before .before .before .before .before .fits2 .ensures) ∙ not-false _ (c .before .before .before .before .before .before .before .before .before .before .before .before .before .before .if1 .left)) _ _ _ _ (c .before .before .before .before .before .before .before .before .before .before .before .before .params .ensures) refl (c .before .before .before .before .before .before .before .before .before .before .total .ensures) (c .before .before .before .before .before .before .before .before .before .weigh .ensures) (c .before .before .before .before .before .before .before .before .if3 .left) (a .k) _ _ _ (omega (arith, c .before .before .before .before .before .before .before .before .before .before .before .before .before .if2 .left)) (c .before .before .before .before .node .ensures)
-
-enter-type-number-requires : (t : ℕ) → enter-lts.Need-type-number-requires (
-  fits-reads.Asked,
-  fits-reads.Learnt,
-  params-reads.Asked,
-  params-reads.Learnt,
-  total-reads.Asked,
-  total-reads.Learnt,
-  weigh-reads.Asked,
-  weigh-reads.Learnt,
-  node-below t,
-  node.Post,
-  type-number-reads.Asked,
-  type-number-reads.Learnt,
-) (enter-at t) enter.Post
-enter-type-number-requires t c κs = let p = c .before .before .before .before .before .before .before .before .before .before .before .before .before .before .before .before .pre .1 in (p .0 .0 .setup .tabled, (p .0 .0 .type, omega arith))
-
-enter-mul-result : (t : ℕ) → enter-lts.Need-mul-result (
-  fits-reads.Asked,
-  fits-reads.Learnt,
-  params-reads.Asked,
-  params-reads.Learnt,
-  total-reads.Asked,
-  total-reads.Learnt,
-  weigh-reads.Asked,
-  weigh-reads.Learnt,
-  node-below t,
-  node.Post,
-  type-number-reads.Asked,
-  type-number-reads.Learnt,
-) (enter-at t) enter.Post
-enter-mul-result t c = omega (arith, c .before .before .before .if3 .left)
-
-enter-add-result : (t : ℕ) → enter-lts.Need-add-result (
-  fits-reads.Asked,
-  fits-reads.Learnt,
-  params-reads.Asked,
-  params-reads.Learnt,
-  total-reads.Asked,
-  total-reads.Learnt,
-  weigh-reads.Asked,
-  weigh-reads.Learnt,
-  node-below t,
-  node.Post,
-  type-number-reads.Asked,
-  type-number-reads.Learnt,
-) (enter-at t) enter.Post
-enter-add-result t c = omega (arith, c .before .before .before .if3 .left)
-
-enter-same-length-6 : (t : ℕ) → enter-lts.Need-same-length-6 (
-  fits-reads.Asked,
-  fits-reads.Learnt,
-  params-reads.Asked,
-  params-reads.Learnt,
-  total-reads.Asked,
-  total-reads.Learnt,
-  weigh-reads.Asked,
-  weigh-reads.Learnt,
-  node-below t,
-  node.Post,
-  type-number-reads.Asked,
-  type-number-reads.Learnt,
-) (enter-at t) enter.Post
-enter-same-length-6 t c = search needs
-
-enter-returns-5 : (t : ℕ) → enter-lts.Need-returns-5 (
-  fits-reads.Asked,
-  fits-reads.Learnt,
-  params-reads.Asked,
-  params-reads.Learnt,
-  total-reads.Asked,
-  total-reads.Learnt,
-  weigh-reads.Asked,
-  weigh-reads.Learnt,
-  node-below t,
-  node.Post,
-  type-number-reads.Asked,
-  type-number-reads.Learnt,
-) (enter-at t) enter.Post
-enter-returns-5 t c =
-    let a = c .before .before .before .before .before .before .before .before .before .before .before .before .before .before .before .before .before .before .args in
-    let p = c .before .before .before .before .before .before .before .before .before .before .before .before .before .before .before .before .before .before .pre .1 in
-    enter-var (a .s .now) (a .t .now) (a .u .now) _ (a .d) (p .0 .0) (a .newtype) (p .0 .1) (a .at) (a .count) (a .out .now) (p .1 .0) (a .slots .now) (p .1 .1) (sym (c .before .before .before .before .before .before .before .before .before .before .fits2 .ensures) ∙ not-false _ (c .before .before .before .before .before .before .before .before .before .if1 .left)) _ _ _ _ (c .before .before .before .before .before .before .before .params .ensures) refl (c .before .before .before .before .before .total .ensures) (c .before .before .before .before .weigh .ensures) (c .before .before .before .if3 .left) (a .k) (omega (arith, c .before .before .if4 .left)) (sym (c .before .type-number .ensures) ∙ c .if5 .taken)
-
-enter-sub-node-2 : (t : ℕ) → enter-lts.Need-sub-node-2 (
-  fits-reads.Asked,
-  fits-reads.Learnt,
-  params-reads.Asked,
-  params-reads.Learnt,
-  total-reads.Asked,
-  total-reads.Learnt,
-  weigh-reads.Asked,
-  weigh-reads.Learnt,
-  node-below t,
-  node.Post,
-  type-number-reads.Asked,
-  type-number-reads.Learnt,
-) (enter-at t) enter.Post
-enter-sub-node-2 t c = omega (arith, c .before .before .before .before .before .before .before .before .before .before .if2 .left)
-
-enter-add-node-2 : (t : ℕ) → enter-lts.Need-add-node-2 (
-  fits-reads.Asked,
-  fits-reads.Learnt,
-  params-reads.Asked,
-  params-reads.Learnt,
-  total-reads.Asked,
-  total-reads.Learnt,
-  weigh-reads.Asked,
-  weigh-reads.Learnt,
-  node-below t,
-  node.Post,
-  type-number-reads.Asked,
-  type-number-reads.Learnt,
-) (enter-at t) enter.Post
-enter-add-node-2 t c = omega (arith, c .before .before .before .before .before .before .before .before .before .before .before .before .before .before .before .before .before .before .before .before .pre .1 .1 .0 .room, c .before .before .before .before .before .before .before .before .before .before .before .before .before .before .before .before .before .before .before .before .good .1 .1 .1 .0)
-
-enter-node-requires-2 : (t : ℕ) → enter-lts.Need-node-requires-2 (
-  fits-reads.Asked,
-  fits-reads.Learnt,
-  params-reads.Asked,
-  params-reads.Learnt,
-  total-reads.Asked,
-  total-reads.Learnt,
-  weigh-reads.Asked,
-  weigh-reads.Learnt,
-  node-below t,
-  node.Post,
-  type-number-reads.Asked,
-  type-number-reads.Learnt,
-) (enter-at t) enter.Post
-enter-node-requires-2 t c κs =
-    let a = c .before .before .before .before .before .before .before .before .before .before .before .before .before .before .before .before .before .before .before .before .args in
-    let p = c .before .before .before .before .before .before .before .before .before .before .before .before .before .before .before .before .before .before .before .before .pre .1 in (
-      omega (arith, c .before .before .before .before .before .before .before .before .before .before .before .before .before .before .before .before .before .before .before .before .pre .0, c .before .before .before .before .before .before .before .before .before .before .if2 .left, p .0 .0 .type, types-few (a .s .now) (p .0 .0 .setup .tabled .passed)),
-      (p .0 .0, ((p .1 .0, omega arith, λ e. absurd (c .before .before .if5 .left (c .before .before .before .type-number .ensures ∙ e))), p .1 .1)),
-    )
-
-enter-same-length-7 : (t : ℕ) → enter-lts.Need-same-length-7 (
-  fits-reads.Asked,
-  fits-reads.Learnt,
-  params-reads.Asked,
-  params-reads.Learnt,
-  total-reads.Asked,
-  total-reads.Learnt,
-  weigh-reads.Asked,
-  weigh-reads.Learnt,
-  node-below t,
-  node.Post,
-  type-number-reads.Asked,
-  type-number-reads.Learnt,
-) (enter-at t) enter.Post
-enter-same-length-7 t c = c .before .before .before .before .node2 .ensures .kept .long
-
-enter-same-length-8 : (t : ℕ) → enter-lts.Need-same-length-8 (
-  fits-reads.Asked,
-  fits-reads.Learnt,
-  params-reads.Asked,
-  params-reads.Learnt,
-  total-reads.Asked,
-  total-reads.Learnt,
-  weigh-reads.Asked,
-  weigh-reads.Learnt,
-  node-below t,
-  node.Post,
-  type-number-reads.Asked,
-  type-number-reads.Learnt,
-) (enter-at t) enter.Post
-enter-same-length-8 t c = search needs
-
-enter-returns-6 : (t : ℕ) → enter-lts.Need-returns-6 (
-  fits-reads.Asked,
-  fits-reads.Learnt,
-  params-reads.Asked,
-  params-reads.Learnt,
-  total-reads.Asked,
-  total-reads.Learnt,
-  weigh-reads.Asked,
-  weigh-reads.Learnt,
-  node-below t,
-  node.Post,
-  type-number-reads.Asked,
-  type-number-reads.Learnt,
-) (enter-at t) enter.Post
-enter-returns-6 t c =
-    let a = c .before .before .before .before .before .before .before .before .before .before .before .before .before .before .before .before .before .before .before .before .before .before .before .before .before .args in
-    let p = c .before .before .before .before .before .before .before .before .before .before .before .before .before .before .before .before .before .before .before .before .before .before .before .before .before .pre .1 in
-    enter-node (a .s .now) (a .t .now) (a .u .now) _ (a .d) (p .0 .0) (a .newtype) (p .0 .1) (a .at) (a .count) (a .out .now) (p .1 .0) (a .slots .now) (p .1 .1) (sym (c .before .before .before .before .before .before .before .before .before .before .before .before .before .before .before .before .before .fits2 .ensures) ∙ not-false _ (c .before .before .before .before .before .before .before .before .before .before .before .before .before .before .before .before .if1 .left)) _ _ _ _ (c .before .before .before .before .before .before .before .before .before .before .before .before .before .before .params .ensures) refl (c .before .before .before .before .before .before .before .before .before .before .before .before .total .ensures) (c .before .before .before .before .before .before .before .before .before .before .before .weigh .ensures) (c .before .before .before .before .before .before .before .before .before .before .if3 .left) (a .k) _ _ _ (omega (arith, c .before .before .before .before .before .before .before .before .before .before .before .before .before .before .before .if2 .left)) (c .before .before .before .before .node2 .ensures)
+enter-returns-2 t c =
+    let a = c .before .before .before .before .before .before .before .before .before .before .before .before .before .before .before .before .before .args in
+    let p = c .before .before .before .before .before .before .before .before .before .before .before .before .before .before .before .before .before .pre .1 in
+    c .before .before .before .before .before .before .before .before .before .entry .ensures .goes (c .before .before .before .before .before .before .before .before .if1 .left) (a .slots .now) (p .1 .1) _ (ap (λ (i : ℕ). a .count - i) (c .before .before .before .before .before .before .before .params .ensures)) _ _ _ (c .before .before .before .before .node .ensures)
 
 node-type-number-requires : (t : ℕ) → node-lts.Need-type-number-requires (
   type-number-reads.Asked,
@@ -1691,14 +1132,10 @@ node-returns-5 t c =
 
 pub +apply+args+enter+node-spec : {M : Type 1} → statement M
 +apply+args+enter+node-spec = close μ-apply μ-args μ-enter μ-node (λ t. apply-lts.spec (
+  answered-reads.Asked,
+  answered-reads.Learnt,
   decl-of-reads.Asked,
   decl-of-reads.Learnt,
-  state-reads.Asked,
-  state-reads.Learnt,
-  built-reads.Asked,
-  built-reads.Learnt,
-  recall-reads.Asked,
-  recall-reads.Learnt,
   enter-below t,
   enter.Post,
   remember-reads.Asked,
@@ -1706,21 +1143,16 @@ pub +apply+args+enter+node-spec : {M : Type 1} → statement M
 )
     (apply-at t)
     apply.Post
-    (apply-decl-of-requires t)
-    (apply-state-requires t)
-    (apply-returns t)
-    (apply-built-requires t)
+    (apply-answered-requires t)
     (apply-same-length t)
-    (apply-returns-2 t)
-    (apply-recall-requires t)
     (apply-same-length-2 t)
-    (apply-same-length-3 t)
-    (apply-returns-3 t)
+    (apply-returns t)
+    (apply-decl-of-requires t)
     (apply-enter-requires t)
     (apply-remember-requires t)
+    (apply-same-length-3 t)
     (apply-same-length-4 t)
-    (apply-same-length-5 t)
-    (apply-returns-4 t))
+    (apply-returns-2 t))
     (λ t. args-lts.spec (
       kids-reads.Asked,
       kids-reads.Learnt,
@@ -1754,55 +1186,29 @@ pub +apply+args+enter+node-spec : {M : Type 1} → statement M
     (args-same-length-6 t)
     (args-returns-3 t))
     (λ t. enter-lts.spec (
-      fits-reads.Asked,
-      fits-reads.Learnt,
+      body-reads.Asked,
+      body-reads.Learnt,
+      entry-reads.Asked,
+      entry-reads.Learnt,
       params-reads.Asked,
       params-reads.Learnt,
-      total-reads.Asked,
-      total-reads.Learnt,
-      weigh-reads.Asked,
-      weigh-reads.Learnt,
       node-below t,
       node.Post,
-      type-number-reads.Asked,
-      type-number-reads.Learnt,
     )
     (enter-at t)
     enter.Post
-    (enter-mul-y t)
-    (enter-add-y t)
-    (enter-mul-y-2 t)
-    (enter-shared-slice-read-y t)
-    (enter-cast-y t)
-    (enter-fits-requires t)
+    (enter-body-requires t)
+    (enter-entry-requires t)
     (enter-same-length t)
     (enter-returns t)
-    (enter-same-length-2 t)
-    (enter-returns-2 t)
     (enter-params-requires t)
     (enter-sub-over t)
-    (enter-add-total t)
-    (enter-total-requires t)
-    (enter-weigh-requires t)
-    (enter-same-length-3 t)
-    (enter-returns-3 t)
     (enter-sub-node t)
     (enter-add-node t)
     (enter-node-requires t)
-    (enter-same-length-4 t)
-    (enter-same-length-5 t)
-    (enter-returns-4 t)
-    (enter-type-number-requires t)
-    (enter-mul-result t)
-    (enter-add-result t)
-    (enter-same-length-6 t)
-    (enter-returns-5 t)
-    (enter-sub-node-2 t)
-    (enter-add-node-2 t)
-    (enter-node-requires-2 t)
-    (enter-same-length-7 t)
-    (enter-same-length-8 t)
-    (enter-returns-6 t))
+    (enter-same-length-2 t)
+    (enter-same-length-3 t)
+    (enter-returns-2 t))
     λ t. node-lts.spec (
       type-number-reads.Asked,
       type-number-reads.Learnt,
