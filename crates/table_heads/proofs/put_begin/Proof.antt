@@ -1,11 +1,11 @@
--- `filler::put_begin` meets its contract, cell after cell. Assumes nothing.
+-- `table_heads::put_begin` meets its contract, cell after cell. Assumes nothing.
 use native.Mathlib.Omega.{arith}
 use Prim.Native.Nat.{_+_, _*_}
 use lib.ListN.{getD, length-set}
 use borrow.Author.Needs.{needs}
 use Rattle.filler.specs.FillingLaws.{begin-put}
-use Rattle.filler.proofs.put_begin.Statement.{statement}
-use Rattle.filler.proofs.put_begin.Tie as tie
+use Rattle.table_heads.proofs.put_begin.Statement.{statement}
+use Rattle.table_heads.proofs.put_begin.Tie as tie
 
 slice-write-t-2 : tie.Need-slice-write-t-2
 slice-write-t-2 c = let a = c .before .before .before in simp length-set (omega (arith, a .pre .2))

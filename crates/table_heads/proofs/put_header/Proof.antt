@@ -1,11 +1,11 @@
--- `filler::put_header` meets its contract, cell after cell. Assumes nothing.
+-- `table_heads::put_header` meets its contract, cell after cell. Assumes nothing.
 use native.Mathlib.Omega.{arith}
 use lib.ListN.{length-set}
 use borrow.Author.Needs.{needs}
 use Rattle.tables.specs.Tables.{header}
 use Rattle.filler.specs.FillingLaws.{header-put}
-use Rattle.filler.proofs.put_header.Statement.{statement}
-use Rattle.filler.proofs.put_header.Tie as tie
+use Rattle.table_heads.proofs.put_header.Statement.{statement}
+use Rattle.table_heads.proofs.put_header.Tie as tie
 
 slice-write-t-2 : tie.Need-slice-write-t-2
 slice-write-t-2 c = let a = c .before .before .before .before .before .before .before .before .before .before in simp length-set (omega (arith, a .pre .1))
