@@ -1,4 +1,4 @@
--- `emitter::write_nodes` meets its contract: after i turns the lines of the first i nodes are written, and there is room for the others. Assumes nothing.
+-- `node_rows::write_nodes` meets its contract: after i turns the lines of the first i nodes are written, and there is room for the others. Assumes nothing.
 use mathlib.Core.Path.{_≡_, refl, sym, _∙_, subst}
 use mathlib.Core.List.{List, map}
 use Prim.Native.Nat.{ℕ, _+_, _-_, _≤_}
@@ -7,11 +7,11 @@ use lib.ListN.{length, getD, take, drop}
 use lib.Seq.{take-all}
 use Rattle.normal.specs.Nodes.{Node}
 use Rattle.nodes.specs.Words.{node-of}
 use Rattle.emitter.specs.Pens.{Room, sheet, write-lines}
 use Rattle.emitter.specs.PensLaws.{words-more, words-drop, room-first, room-rest}
 use borrow.Author.Needs.{needs}
-use Rattle.emitter.proofs.write_nodes.Statement.{statement}
-use Rattle.emitter.proofs.write_nodes.Tie as tie
+use Rattle.node_rows.proofs.write_nodes.Statement.{statement}
+use Rattle.node_rows.proofs.write_nodes.Tie as tie
 
 abbrev Inv-loop : tie.InvT-loop
 Inv-loop nodes stack₀ out₀ q₀ i₀ i-end stack out q i =
