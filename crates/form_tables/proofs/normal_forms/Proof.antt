@@ -1,17 +1,17 @@
--- `normal_forms::normal_forms` meets its contract: after r turns the forms of the ranks below r are there. Assumes nothing.
+-- `form_tables::normal_forms` meets its contract: after r turns the forms of the ranks below r are there. Assumes nothing.
 use mathlib.Core.Path.{_≡_, refl, sym, subst, _∙_}
 use Prim.Native.Nat.{ℕ, _+_, _-_, _*_, _≤_}
 use native.Mathlib.Omega.{arith}
 use lib.ListN.{length}
 use Rattle.sheet.specs.Sheet.{lines}
 use Rattle.tables.specs.Tables.{decls-of}
 use Rattle.normal_forms.specs.Tables.{Table}
 use Rattle.normal_forms.specs.Ranks.{Done}
 use Rattle.normal_forms.specs.RanksLaws.{first-table, next-rank, formed-stop, formed-done}
 use Rattle.arguments.specs.ParamsLaws.{decls-few}
 use borrow.Author.Needs.{needs}
-use Rattle.normal_forms.proofs.normal_forms.Statement.{statement}
-use Rattle.normal_forms.proofs.normal_forms.Tie as tie
+use Rattle.form_tables.proofs.normal_forms.Statement.{statement}
+use Rattle.form_tables.proofs.normal_forms.Tie as tie
 
 abbrev Inv-loop : tie.InvT-loop
 Inv-loop s t u rank f₀ scratch₀ n p₀ r₀ f scratch p r =

@@ -1,14 +1,14 @@
--- `normal_forms::form_at` meets its contract: a declaration that is not unfolded, or not of this rank, is passed. Assumes nothing.
+-- `rank_forms::form_at` meets its contract: a declaration that is not unfolded, or not of this rank, is passed. Assumes nothing.
 use mathlib.Core.Path.{_≡_, _∙_}
 use Prim.Native.Nat.{ℕ, _+_, _*_, _≤_, _<_}
 use native.Mathlib.Omega.{arith}
 use lib.ListN.{length, getD}
 use Rattle.sheet.specs.ListLaws.{getD-within}
 use Rattle.states.specs.States.{Open}
 use Rattle.normal_forms.specs.RanksLaws.{asked-body, reached-same, reached-more}
 use borrow.Author.Needs.{needs}
-use Rattle.normal_forms.proofs.form_at.Statement.{statement}
-use Rattle.normal_forms.proofs.form_at.Tie as tie
+use Rattle.rank_forms.proofs.form_at.Statement.{statement}
+use Rattle.rank_forms.proofs.form_at.Tie as tie
 
 -- a state that is 0, or over 2
 closed : (x y : ℕ) → x ≡ y → x ≡ 0 → 0 < y → ⊥

@@ -1,4 +1,4 @@
--- `normal_forms::copy_words` meets its contract: after i turns the first i words are copied. Assumes nothing.
+-- `own_forms::copy_words` meets its contract: after i turns the first i words are copied. Assumes nothing.
 use mathlib.Core.Path.{_≡_, refl, ap, _∙_}
 use Prim.Native.Nat.{ℕ, _+_, _-_, _≤_}
 use native.Mathlib.Omega.{arith}
@@ -7,8 +7,8 @@ use mathlib.Core.List.{append-assoc}
 use lib.ListN.{length, take, drop, length-set}
 use lib.Seq.{paste, paste-zero, paste-suc}
 use borrow.Author.Needs.{needs}
-use Rattle.normal_forms.proofs.copy_words.Statement.{statement}
-use Rattle.normal_forms.proofs.copy_words.Tie as tie
+use Rattle.own_forms.proofs.copy_words.Statement.{statement}
+use Rattle.own_forms.proofs.copy_words.Tie as tie
 
 abbrev Inv-loop : tie.InvT-loop
 Inv-loop f₀ at ws n i₀ f i = (i ≤ n) × (at + n ≤ length f₀) × (n ≤ length ws) × (length f ≡ length f₀) × (f ≡ paste f₀ at ws i)

@@ -1,16 +1,16 @@
--- `normal_forms::forms_of_rank` meets its contract: after d turns the forms of rank r below declaration d are there. Assumes nothing.
+-- `rank_forms::forms_of_rank` meets its contract: after d turns the forms of rank r below declaration d are there. Assumes nothing.
 use mathlib.Core.Path.{_≡_, refl, subst, _∙_}
 use Prim.Native.Nat.{ℕ, _+_, _-_, _≤_}
 use native.Mathlib.Omega.{arith}
 use lib.ListN.{length}
 use Rattle.sheet.specs.Sheet.{lines}
 use Rattle.tables.specs.Tables.{decls-of}
 use Rattle.normal_forms.specs.Tables.{Table}
 use Rattle.normal_forms.specs.Ranks.{Done}
 use Rattle.normal_forms.specs.RanksLaws.{reached-stop, reached-done}
 use borrow.Author.Needs.{needs}
-use Rattle.normal_forms.proofs.forms_of_rank.Statement.{statement}
-use Rattle.normal_forms.proofs.forms_of_rank.Tie as tie
+use Rattle.rank_forms.proofs.forms_of_rank.Statement.{statement}
+use Rattle.rank_forms.proofs.forms_of_rank.Tie as tie
 
 abbrev Inv-loop : tie.InvT-loop
 Inv-loop s t u rank f₀ scratch₀ r pos n p₀ d₀ f scratch p d =

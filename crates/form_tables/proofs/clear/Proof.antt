@@ -1,12 +1,12 @@
--- `normal_forms::clear` meets its contract: after i turns the first i cells are zero. Assumes nothing.
+-- `form_tables::clear` meets its contract: after i turns the first i cells are zero. Assumes nothing.
 use mathlib.Core.Path.{_≡_, refl, _∙_}
 use Prim.Native.Nat.{ℕ, _-_, _≤_, _<_}
 use native.Mathlib.Omega.{arith}
 use lib.ListN.{length, getD, length-set}
 use Rattle.normal_forms.specs.RanksLaws.{zeros-more}
 use borrow.Author.Needs.{needs}
-use Rattle.normal_forms.proofs.clear.Statement.{statement}
-use Rattle.normal_forms.proofs.clear.Tie as tie
+use Rattle.form_tables.proofs.clear.Statement.{statement}
+use Rattle.form_tables.proofs.clear.Tie as tie
 
 abbrev Inv-loop : tie.InvT-loop
 Inv-loop f₀ k i₀ f i = (i ≤ k) × (k ≤ length f₀) × (length f ≡ length f₀) × ((j : ℕ) → j < i → getD f j 0 ≡ 0)

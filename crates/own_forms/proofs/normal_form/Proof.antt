@@ -1,12 +1,12 @@
--- `normal_forms::normal_form` meets its contract: what is put into the scratch is copied, and the cells are set. Assumes nothing.
+-- `own_forms::normal_form` meets its contract: what is put into the scratch is copied, and the cells are set. Assumes nothing.
 use mathlib.Core.Logic.{inl, inr}
 use Prim.Native.Nat.{_+_, _*_}
 use native.Mathlib.Omega.{arith}
 use lib.ListN.{length-set}
 use Rattle.normal_forms.specs.TablesLaws.{added-none, added-some}
 use borrow.Author.Needs.{needs}
-use Rattle.normal_forms.proofs.normal_form.Statement.{statement}
-use Rattle.normal_forms.proofs.normal_form.Tie as tie
+use Rattle.own_forms.proofs.normal_form.Statement.{statement}
+use Rattle.own_forms.proofs.normal_form.Tie as tie
 
 cast-y : tie.Need-cast-y
 cast-y c = omega (arith, c .shared-slice-known4 .given (2 * c .before .before .before .before .before .before .args .d + 1))
