@@ -57,6 +57,16 @@ pub record ByBody (ls : List Line) (d : ℕ) : Type 0 where
   pub by : (m : List Bool)
       → decl-erased ls m d ≡ body-erased (marked (program ls) m) (close-body (map (λ l. number l 0) (select param-line (group ls d .rest))) (body-of (trees ls) (number (head-line ls d) 2) (number (head-line ls d) 4) (group ls d .rest)))
 
+-- by what the rules judge declaration d: it is erased (0) or kept (1) whatever is marked, or erased as the type of its last
+-- number (2) or its fields (3) are
+pub record Way (ls : List Line) (d r : ℕ) : Type 0 where
+  pub least : r ≤ 3
+  pub erased : r ≡ 0 → (m : List Bool) → decl-erased ls m d ≡ true
+  pub kept : r ≡ 1 → (m : List Bool) → decl-erased ls m d ≡ false
+  pub type : r ≡ 2 → ByType ls d
+  pub typed : r ≡ 2 → last-of ls d < count-of type-line ls
+  pub fields : r ≡ 3 → ByFields ls d
+
 -- the first field from field `from` on that is kept, or `end`; and the marks of types after the search
 pub record Found (ls : List Line) (m : List Bool) (node member : List ℕ) (from end : ℕ) (r : Field) : Type 0 where
   pub marks : Marks ls m node member (r .right)

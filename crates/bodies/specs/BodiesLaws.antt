@@ -34,7 +34,7 @@ use Rattle.marks.specs.Marks.{marks-of, type-erased, Marks}
 use Rattle.marks.specs.MarksLaws.{bit-zero, bit-set}
 use Rattle.bodies.specs.declared.Ruled.{Ruled}
 use Rattle.bodies.specs.declared.Field.{Field}
-use Rattle.bodies.specs.Bodies.{Higher, kind-of, last-of, field-type, Below, decl-erased, Erased, ByFields, ByType, ByBody, Found, Places, State, Ruling}
+use Rattle.bodies.specs.Bodies.{Higher, kind-of, last-of, field-type, Below, decl-erased, Erased, ByFields, ByType, ByBody, Way, Found, Places, State, Ruling}
 
 -- ---- fields
 -- a field's type is a type
@@ -193,6 +193,23 @@ module _ (b : List ℕ) (p : Passed b) (d : ℕ) (h : d < decls-of (lines 6 b)) 
               (ctor-fields (group (lines 6 b) d .rest) (whole-at b p d h .ctors-first e) ∙ rw q (append-nil (select field-line (c .rest))))
               (λ m. variant m (c ∷ []) q)
           go (c ∷ k ∷ gs) q = absurd (omega (arith, counts, ap length q))
+
+-- ---- the ways
+module _ (ls : List Line) (d : ℕ) where
+  pub way-erased : ((m : List Bool) → decl-erased ls m d ≡ true) → Way ls d 0
+  way-erased e = record { least = omega arith; erased = λ q. e; kept = λ q. absurd (omega arith); type = λ q. absurd (omega arith); typed = λ q. absurd (omega arith); fields = λ q. absurd (omega arith) }
+
+  pub way-kept : ((m : List Bool) → decl-erased ls m d ≡ false) → Way ls d 1
+  way-kept e = record { least = omega arith; erased = λ q. absurd (omega arith); kept = λ q. e; type = λ q. absurd (omega arith); typed = λ q. absurd (omega arith); fields = λ q. absurd (omega arith) }
+
+  pub way-type : ByType ls d → last-of ls d < count-of type-line ls → Way ls d 2
+  way-type y h = record { least = omega arith; erased = λ q. absurd (omega arith); kept = λ q. absurd (omega arith); type = λ q. y; typed = λ q. h; fields = λ q. absurd (omega arith) }
+
+  pub way-fields : ByFields ls d → Way ls d 3
+  way-fields y = record { least = omega arith; erased = λ q. absurd (omega arith); kept = λ q. absurd (omega arith); type = λ q. absurd (omega arith); typed = λ q. absurd (omega arith); fields = λ q. y }
+
+  pub way-rest : (r : ℕ) → Way ls d r → (r ≡ 0 → ⊥) → (r ≡ 1 → ⊥) → (r ≡ 2 → ⊥) → ByFields ls d
+  way-rest r w n0 n1 n2 = w .fields (omega (arith, w .least))
 
 -- ---- marks
 module _ (ls : List Line) (m : List Bool) (node member : List ℕ) (n y : ℕ) (k : Marks ls m node member n) (h : y < n) where

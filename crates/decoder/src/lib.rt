@@ -24,7 +24,7 @@ fn put_decl(s: &[u8], i: usize, c: Seen, t: &mut [u32])
     let at = t[AT_DECLS] as usize + c.decls * 6;
     filler::put_numbers(s, i, 5, t, at);
     t[at + 5] = reader::letter_of(s, i) as u32;
-    filler::put_begin(i, c, t);
+    table_heads::put_begin(i, c, t);
 }
 
 // Line i of a declaration.
@@ -58,5 +58,5 @@ pub fn put_declarations(s: &[u8], from: usize, t: &mut [u32])
         c = sizing::with_line(c, reader::letter_of(s, i));
         i += 1;
     }
-    filler::put_begin(n, c, t);
+    table_heads::put_begin(n, c, t);
 }

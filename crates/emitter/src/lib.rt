@@ -1,11 +1,9 @@
 // Writes the nodes of types as A and Y lines of the left sheet, each line into its own 32 bytes.
 ghost use mathlib.Core.Path.{_≡_};
-ghost use mathlib.Core.List.{map};
 ghost use Prim.Native.Nat.{_-_};
-ghost use lib.ListN.{length};
 ghost use Rattle.normal.specs.Nodes.{args-of};
 ghost use Rattle.nodes.specs.Words.{node-of};
-ghost use Rattle.emitter.specs.Pens.{Ready, Room, sheet, write-line, write-lines};
+ghost use Rattle.emitter.specs.Pens.{Ready, sheet, write-line};
 use node_lines::children;
 use node_lines::put_list;
 use node_lines::y_numbers;
@@ -50,16 +48,4 @@ pub fn write_node(w: u64, stack: &mut [u32], out: &mut [u8], p: Pen) -> Pen
         types: p.types + 1,
         waiting: at + 1,
     }
-}
-
-// The lines of nodes, children before their parent.
-pub fn write_nodes(nodes: &[u64], stack: &mut [u32], out: &mut [u8], p: Pen) -> Pen
-    requires { ⌜ Room (map node-of (now nodes)) p (now out) (now stack) ⌝ }
-    ensures { λ r. ⌜ sheet r (now (out .exit)) (now (stack .exit)) ≡ write-lines (map node-of (now (nodes .entry))) (sheet p (now (out .entry)) (now (stack .entry))) ⌝ }
-{
-    let mut q = p;
-    for i in 0..nodes.len() {
-        q = write_node(nodes[i], stack, out, q);
-    }
-    q
 }

@@ -44,7 +44,7 @@ fn run(s: &[u8], z: Sizes, t: &mut [u32])
     requires { ⌜ (z ≡ tables.sizes-of (sheet.lines 6 (now s))) × (length (now t) ≡ tables.cells z) ⌝ }
 {
     tabler::fill(s, z, t);
-    let e = erasure::erasure_fixpoint(s, t);
+    let e = fixpoints::erasure_fixpoint(s, t);
     let node = e.node;
     let decl = e.decl;
     let mut keep = [0u8; 2048];

@@ -7,7 +7,8 @@ use lib.ListN.{length, getD, drop}
 use Rattle.sheet.specs.Line.{Line}
 use Rattle.sheet.specs.Sheet.{lines}
 use Rattle.model.specs.Cty.{size, sizes}
-use Rattle.meaning.specs.Program.{type-line}
+use Rattle.model.specs.Decl.{position}
+use Rattle.meaning.specs.Program.{type-line, program}
 use Rattle.meaning.specs.Rows.{count-of}
 use Rattle.model.specs.Resolve.{Result, ok}
 use Rattle.tables.specs.Tables.{decls-of, Tabled}
@@ -93,3 +94,19 @@ pub record Done (e : ℕ → ℕ → Result (List ℕ)) (top i : ℕ) (out₀ ou
   pub fit : top + i ≤ length out₀
   pub nodes : Nodes (part top i out)
   pub slots : Slots call slots′
+
+-- what is answered of name n's call with nothing unfolded: r, or 0 where the name is unfolded
+pub record Answered (ls : List Line) (u : List ℕ) (n at count : ℕ) (out slots : List ℕ) (r : ℕ) : Type 0 where
+  pub found : (r ≡ 0 → ⊥) → (k : ℕ) → Found (call-of ls u n (part at count out)) k (at + count) (at + count) out out (call-of ls u) slots r
+  pub here : r ≡ 0 → getD u (2 * position (program ls) n) 3 ≡ 0 → ⊥
+  pub least : r ≡ 0 → getD u (2 * position (program ls) n) 3 ≤ 2
+
+-- what the tests of declaration d's call say: the answer r, or 1 where its body, Y line y's type, has it
+pub record Entered (ls : List Line) (u : List ℕ) (y d at count : ℕ) (out : List ℕ) (k r : ℕ) : Type 0 where
+  pub found : (r ≡ 1 → ⊥) → (slots : List ℕ) → Slots (call-of ls u) slots → Found (enter-of ls u d (part at count out)) k (at + count) (at + count) out out (call-of ls u) slots r
+  pub fuel : r ≡ 1 → 0 < k
+  pub enough : r ≡ 1 → length (params-of ls d) ≤ count
+  pub bare : r ≡ 1 → kind-of ls y ≡ 3 → count - length (params-of ls d) ≡ 0
+  pub goes : r ≡ 1 → (slots : List ℕ) → Slots (call-of ls u) slots → (over : ℕ) → over ≡ count - length (params-of ls d) → (r′ : ℕ) (out′ slots′ : List ℕ)
+      → Found (eval-of ls u d (part at count out) y (last-of at count over out)) (k - 1) (at + count + size (type-of ls y) + over) (at + count) out out′ (call-of ls u) slots′ r′
+      → Found (enter-of ls u d (part at count out)) k (at + count) (at + count) out out′ (call-of ls u) slots′ r′

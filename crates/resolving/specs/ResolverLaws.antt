@@ -40,7 +40,7 @@ use Rattle.weighing.specs.Weigh.{kid-types, weight-of}
 use Rattle.calls.specs.CallsLaws.{Copied}
 use Rattle.memory.specs.Slots.{Slots, Written, Recalled, slots-written}
 use Rattle.states.specs.States.{unfold-at, lay-of}
-use Rattle.resolving.specs.Resolver.{States, Setup, call-of, enter-of, eval-of, evals-of, type-of-decl, last-of, Args, Place, Short, Found, FoundAll, Done}
+use Rattle.resolving.specs.Resolver.{States, Setup, call-of, enter-of, eval-of, evals-of, type-of-decl, last-of, Args, Place, Short, Found, FoundAll, Done, Answered, Entered}
 
 -- a cell past the end
 pub getD-past : (xs : List ℕ) (i v : ℕ) → length xs ≤ i → getD xs i v ≡ v
@@ -663,6 +663,79 @@ module _ (b t u : List ℕ) where
           slots = slots-written call n (part at count out) r slots slots′ (f .slots) (λ d. record { decided = d; small = f .small; gives = f .told .knows d })
               (subst (λ (os : List ℕ). Written n os r slots slots′) (part-same at count (at + count) out′ out (omega arith) (f .kept)) w);
         }
+
+  -- ---- the tests of a call
+  -- the kind of an unfolded name, by its cell
+  pub unfolded-at : (y d what : ℕ) → what ≡ getD u (2 * d) 3 → unfold-at ls u d ≡ unfolded (eqb (getD u (2 * d) 3) 1) (params-of ls d) (type-of ls y) → unfold-at ls u d ≡ unfolded (eqb what 1) (params-of ls d) (type-of ls y)
+  unfolded-at y d what e is = is ∙ ap (λ (x : ℕ). unfolded (eqb x 1) (params-of ls d) (type-of ls y)) (sym e)
+
+  module _ (y d : ℕ) (place : Place b t u y d) (new : Bool) (is : unfold-at ls u d ≡ unfolded new (params-of ls d) (type-of ls y))
+      (at count : ℕ) (out : List ℕ) (args : Args out at count (at + count)) (k : ℕ) where
+    -- an answer, whatever is remembered
+    entered-now : (r : ℕ) → (r ≡ 1 → ⊥) → ((slots : List ℕ) → Slots call slots → Found (enter-of ls u d (part at count out)) k (at + count) (at + count) out out call slots r) → Entered ls u y d at count out k r
+    entered-now r n f = record { found = λ q. f; fuel = λ e. absurd (n e); enough = λ e. absurd (n e); bare = λ e. absurd (n e); goes = λ e. absurd (n e) }
+
+    pub entered-nine : fits (part at count out) (unfolded new (params-of ls d) (type-of ls y)) ≡ false → Entered ls u y d at count out k 2
+    entered-nine h = entered-now 2 (λ e. omega arith) (λ slots held. enter-nine y d place new is at count out args slots held k h)
+
+    module _ (h : fits (part at count out) (unfolded new (params-of ls d) (type-of ls y)) ≡ true) where
+      pub entered-spent : k ≡ 0 → Entered ls u y d at count out k 0
+      entered-spent z = entered-now 0 (λ e. omega arith) (λ slots held. enter-spent y d place new is at count out args slots held h k z)
+
+      pub entered-enough : (n : ℕ) → n ≡ length (params-of ls d) → n ≤ count
+      entered-enough n e = omega (arith, fits-enough (params-of ls d) (part at count out) (type-of ls y) new h, part-length at count out (args .room))
+
+      module _ (n over from w : ℕ) (en : n ≡ length (params-of ls d)) (eo : over ≡ count - n) (ef : from ≡ capped 1024 (0 + total (part (at + n) over out))) (ew : w ≡ capped 1024 (from + weight-of ls d out at count y)) where
+        pub entered-ten : 1024 < w → Entered ls u y d at count out k 3
+        entered-ten q = entered-now 3 (λ e. omega arith) (λ slots held. enter-ten y d place new is at count out args slots held h n over from w en eo ef ew k q)
+
+        pub entered-var : w ≤ 1024 → 0 < over → kind-of ls y ≡ 3 → Entered ls u y d at count out k (4 * w + 1)
+        entered-var q o z = entered-now (4 * w + 1) (λ e. omega (arith, positive)) (λ slots held. enter-var y d place new is at count out args slots held h n over from w en eo ef ew q k o z)
+          where
+            positive : 1 ≤ w
+            positive =
+                omega (arith, capped-under 1024 (from + weight-of ls d out at count y) (omega (arith, ew)) .1, ew, size-positive (type-of ls y), size-weight (params-of ls d) (part at count out) (args .nodes) (type-of ls y))
+
+        pub entered-open : w ≤ 1024 → 0 < k → (kind-of ls y ≡ 3 → over ≡ 0) → Entered ls u y d at count out k 1
+        entered-open q p z =
+            let eq : count - length (params-of ls d) ≡ over = omega (arith, en, eo) in
+            record {
+              found = λ a. absurd (a refl);
+              fuel = λ e. p;
+              enough = λ e. omega (arith, entered-enough n en, en);
+              bare = λ e i. eq ∙ z i;
+              goes = λ e slots held o eo′ r′ out′ slots′ f.
+                  enter-node y d place new is at count out args slots held h n o from w en (eo′ ∙ (eq ∙ eo)) (ef ∙ ap (λ (i : ℕ). capped 1024 (0 + total (part (at + n) i out))) (sym (eo′ ∙ eq))) ew q k r′ out′ slots′ p f;
+            }
+
+  -- ---- a call with nothing unfolded
+  module _ (setup : Setup b t u) (n d what at count : ℕ) (ed : d ≡ position (program ls) n) (ew : what ≡ getD u (2 * d) 3)
+      (out : List ℕ) (args : Args out at count (at + count)) (slots : List ℕ) (held : Slots call slots) where
+    pub answered-gone : what ≡ 0 → Answered ls u n at count out slots 4
+    answered-gone z = record { found = λ q k. apply-gone setup n d what at count ed ew out args slots held k z; here = λ e. absurd (omega arith); least = λ e. absurd (omega arith) }
+
+    pub answered-stays : (r : ℕ) → 2 < what → Says (built 1024 (part at count out) app) r → Answered ls u n at count out slots r
+    answered-stays r z s = record { found = λ q k. apply-stays setup n d what at count ed ew out args slots held k r z s; here = λ e. absurd (omega (arith, s .decided)); least = λ e. absurd (omega (arith, s .decided)) }
+
+    pub answered-known : (r : ℕ) → (what ≡ 0 → ⊥) → what ≤ 2 → Recalled slots n (part at count out) r → Answered ls u n at count out slots r
+    answered-known r z h f =
+        let e : what ≡ getD u (2 * position (program ls) n) 3 = ew ∙ ap (λ (i : ℕ). getD u (2 * i) 3) ed in
+        record { found = λ q k. apply-known n at count out k r slots held f q; here = λ _ g. z (e ∙ g); least = λ _. subst (λ (x : ℕ). x ≤ 2) e h }
+
+  -- the declaration of an unfolded name, and its body
+  pub unfolded-here : (setup : Setup b t u) (n d at count : ℕ) → d ≡ position (program ls) n → (out : List ℕ) → Args out at count (at + count) → (slots : List ℕ) → Slots call slots → (r : ℕ) → Answered ls u n at count out slots r → r ≡ 0
+      → Place b t u (getD u (2 * d + 1) 0) d × (unfold-at ls u d ≡ unfolded (eqb (getD u (2 * d) 3) 1) (params-of ls d) (type-of ls (getD u (2 * d + 1) 0)))
+  unfolded-here setup n d at count ed out args slots held r w z =
+      let e : getD u (2 * d) 3 ≡ getD u (2 * position (program ls) n) 3 = ap (λ (i : ℕ). getD u (2 * i) 3) ed in
+      let here : getD u (2 * d) 3 ≡ 0 → ⊥ = λ q. w .here z (sym e ∙ q) in
+      let least : getD u (2 * d) 3 ≤ 2 = subst (λ (x : ℕ). x ≤ 2) (sym e) (w .least z) in (
+        unfolded-place setup n d (getD u (2 * d) 3) at count ed refl out args slots held here least,
+        unfolded-is setup n d (getD u (2 * d) 3) at count ed refl out args slots held here least,
+      )
+
+  pub body-here : (y d : ℕ) → y ≡ getD u (2 * d + 1) 0 → Place b t u (getD u (2 * d + 1) 0) d × (unfold-at ls u d ≡ unfolded (eqb (getD u (2 * d) 3) 1) (params-of ls d) (type-of ls (getD u (2 * d + 1) 0)))
+      → Place b t u y d × (unfold-at ls u d ≡ unfolded (eqb (getD u (2 * d) 3) 1) (params-of ls d) (type-of ls y))
+  body-here y d e p = subst (λ (i : ℕ). Place b t u i d × (unfold-at ls u d ≡ unfolded (eqb (getD u (2 * d) 3) 1) (params-of ls d) (type-of ls i))) (sym e) p
 
 -- a name's declaration, or their number
 pub decl-least : (b : List ℕ) → Passed b → (n : ℕ) → position (program (lines 6 b)) n ≤ 96

@@ -1,17 +1,18 @@
 -- What is known of the marks between declarations of a round, and between rounds. Assumes nothing.
+use mathlib.Core.Logic.{_⊎_}
 use mathlib.Core.Path.{_≡_}
 use mathlib.Core.List.{List}
-use mathlib.Core.Bool.{Bool}
+use mathlib.Core.Bool.{Bool, true, false}
 use Prim.Native.Nat.{ℕ, suc, _+_, _<_}
 use lib.ListN.{length, getD}
 use Rattle.sheet.specs.Line.{Line}
 use Rattle.model.specs.Decl.{Decl, position, bit}
 use Rattle.model.specs.Erasure.{rule, update, Settled, settle, start, round}
-use Rattle.meaning.specs.Program.{type-line, program}
+use Rattle.meaning.specs.Program.{type-line, import-line, is, program}
 use Rattle.meaning.specs.Rows.{count-of}
 use Rattle.model.specs.Laws.Lists.{trues}
 use Rattle.model.specs.Laws.Rounds.{Le, Sound}
-use Rattle.tables.specs.Tables.{decls-of}
+use Rattle.tables.specs.Tables.{decls-of, head-line}
 use Rattle.marks.specs.Marks.{part, marks-of, type-erased}
 use Rattle.bodies.specs.Bodies.{State}
 use Rattle.rounds.specs.declared.Round.{Round}
@@ -27,6 +28,17 @@ pub record Running (ls : List Line) (used decl node member field wait : List ℕ
   pub uses : Uses ls used
   pub sound : Sound (rule (program ls)) (marks-of decl)
   pub above : Le (start (program ls)) (marks-of decl)
+
+-- declaration d is erased already, waits for a type that is kept, or is an import
+abbrev pub Still : List Line → List ℕ → List ℕ → List ℕ → ℕ → ℕ → Type 0
+Still ls decl node wait d right =
+    (getD decl d 0 ≡ 1) ⊎ (((getD decl d 0 ≡ 1 → ⊥) × (getD wait d 0 < right) × (getD node (getD wait d 0) 0 ≡ 0)) ⊎ ((getD decl d 0 ≡ 1 → ⊥) × (is import-line (head-line ls d) ≡ true)))
+
+-- whether a round passes it
+pub record Stands (ls : List Line) (decl node wait : List ℕ) (d right : ℕ) (r : Bool) : Type 0 where
+  pub still : r ≡ true → Still ls decl node wait d right
+  pub unset : r ≡ false → getD decl d 0 ≡ 1 → ⊥
+  pub local : r ≡ false → is import-line (head-line ls d) ≡ false
 
 -- after declaration d
 pub record Updated (ls : List Line) (used decl decl' node member field wait : List ℕ) (d : ℕ) (r : Round) : Type 0 where

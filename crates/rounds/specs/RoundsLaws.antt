@@ -1,6 +1,6 @@
 -- The marks of types and the places of declarations, where one declaration more is erased; and rounds. Assumes nothing.
 use mathlib.Core.Path.{_≡_, refl, ap, ap₂, sym, _∙_}
-use mathlib.Core.Logic.{_≢_}
+use mathlib.Core.Logic.{_≢_, inl, inr, ⊎-elim}
 use mathlib.Core.List.{List, [], _∷_, map}
 use mathlib.Core.Bool.{Bool, true, false, _&&_}
 use Prim.Native.Nat.{ℕ, zero, suc, _+_, _-_, _≤_, _<_}
@@ -32,7 +32,7 @@ use Rattle.marks.specs.Marks.{part, arg-of, marks-of, type-erased, Placed, Mark
 use Rattle.marks.specs.MarksLaws.{arg-is, bit-zero, marks-at, erased-unit, erased-arrow, erased-app, erased-inline, erased-other, tuple-same}
 use Rattle.bodies.specs.Bodies.{field-type, decl-erased, Erased, Places, State}
 use Rattle.rounds.specs.declared.Round.{Round}
-use Rattle.rounds.specs.Rounds.{Uses, Running, Updated, Swept, Ended, ends-in}
+use Rattle.rounds.specs.Rounds.{Uses, Running, Still, Stands, Updated, Swept, Ended, ends-in}
 
 -- ---- the limits
 pub decls-few : (b : List ℕ) → Passed b → decls-of (lines 6 b) ≤ 96
@@ -154,6 +154,10 @@ module _ (b : List ℕ) (p : Passed b) (used decl node member field wait : List 
               contrary (getD (marks-of decl) d false) (true-of (getD (marks-of decl) d false) (R .above d a)) (mark-unset n)
           verdict false w = rw q w
 
+  -- so it stays as it is where a round passes it
+  pub stays : Still (lines 6 b) decl node wait d right → Updated (lines 6 b) used decl decl node member field wait d (record { erased = 0; right = right })
+  stays = ⊎-elim stays-erased (⊎-elim (λ w. stays-waiting (w .0) (w .1) (w .2)) (λ w. stays-import (w .0) (w .1)))
+
   -- one that the rules erase becomes erased
   module _ (low : ℕ) (lo : low ≤ right) (lu : low ≤ getD used d 0) (n : getD decl d 0 ≡ 1 → ⊥) (e : rule (program (lines 6 b)) (marks-of decl) d ≡ true) where
     more : List Bool
@@ -212,6 +216,14 @@ module _ (b : List ℕ) (p : Passed b) (used decl node member field wait : List 
           counted = ap trues marks-more ∙ trues-set (marks-of decl) d inside (mark-unset n);
           still = λ z. absurd (omega arith);
         }
+
+-- ---- whether a round passes it
+module _ (ls : List Line) (decl node wait : List ℕ) (d right : ℕ) where
+  pub stands-still : Still ls decl node wait d right → Stands ls decl node wait d right true
+  stands-still w = record { still = λ _. w; unset = λ e. contrary true refl e; local = λ e. contrary true refl e }
+
+  pub stands-import : (r : Bool) → (getD decl d 0 ≡ 1 → ⊥) → r ≡ is import-line (head-line ls d) → Stands ls decl node wait d right r
+  stands-import r n q = record { still = λ e. inr (inr (n, sym q ∙ e)); unset = λ _. n; local = λ e. sym q ∙ e }
 
 -- the same with what a declaration's ruling leaves
 pub running-with : (ls : List Line) (used decl node member field wait node' member' field' wait' : List ℕ) (right right' : ℕ) → Running ls used decl node member field wait right → State ls decl node' member' field' wait' right'

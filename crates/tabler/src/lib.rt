@@ -53,7 +53,7 @@ pub fn fill(s: &[u8], z: Sizes, t: &mut [u32])
     let names = z.names;
     let args = z.args;
     let types = z.types;
-    filler::put_header(z, t);
+    table_heads::put_header(z, t);
     filler::put_lines(s, names, args, 1, t, HEADER + types * 4);
     filler::put_lines(s, names + args, types, 4, t, HEADER);
     decoder::put_declarations(s, names + args + types, t);

@@ -1,0 +1,56 @@
+// Erasure: `erasure_fixpoint` over the table of a sheet that passed rows 1 to 7, and `cty_erased` of every type under it.
+use erasure::Erasure;
+ghost use Rattle.sheet.specs.Sheet as sheet;
+ghost use Rattle.tables.specs.Tables as tables;
+ghost use Rattle.erasure.specs.Fixpoint as fixpoint;
+
+const TYPES: usize = 1024;
+
+const DECLS: usize = 96;
+
+// The marks, in lent memory.
+fn fixpoint(
+    s: &[u8],
+    t: &[u32],
+    used: &mut [u16],
+    decl: &mut [u8],
+    node: &mut [u8],
+    member: &mut [u16],
+    field: &mut [u16],
+    wait: &mut [u16],
+) -> usize
+    requires { ⌜ tables.Tabled (now s) (now t) ⌝ }
+    requires { ⌜ fixpoint.Fresh (sheet.lines 6 (now s)) (now used) (now decl) (now node) (now member) (now field) (now wait) ⌝ }
+    ensures { λ r. ⌜ fixpoint.Fixed (sheet.lines 6 (now (s .entry))) (now (decl .exit)) (now (node .exit)) r ⌝ }
+{
+    first_marks::first_uses(s, t, used);
+    first_marks::start(s, t, decl);
+    settling::settle(s, t, used, decl, node, member, field, wait)
+}
+
+// Layout's `erasure_fixpoint`.
+pub fn erasure_fixpoint(s: &[u8], t: &[u32]) -> Erasure
+    requires { ⌜ tables.Tabled (now s) (now t) ⌝ }
+    ensures { λ r. ⌜ fixpoint.Fixpoint (sheet.lines 6 (now (s .entry))) r ⌝ }
+{
+    let n = tables::decls(s, t);
+    let types = tables::types(s, t);
+    let none = types as u16;
+    let mut node = [0u8; TYPES];
+    let mut decl = [0u8; DECLS];
+    let mut member = [0u16; TYPES];
+    let mut field = [0u16; DECLS];
+    let mut used = [0u16; DECLS];
+    let mut wait = [none; DECLS];
+    let rounds = fixpoint(
+        s,
+        t,
+        &mut used[0..n],
+        &mut decl[0..n],
+        &mut node[0..types],
+        &mut member[0..types],
+        &mut field[0..n],
+        &mut wait[0..n],
+    );
+    Erasure { node, decl, rounds }
+}

@@ -1,0 +1,56 @@
+// What a name's cells say, and the calls that are answered with nothing unfolded.
+ghost use mathlib.Core.Path.{_≡_};
+ghost use Prim.Native.Nat.{_+_, _*_, _≤_, _<_};
+ghost use lib.ListN.{length, getD};
+ghost use Rattle.sheet.specs.Sheet as sheet;
+ghost use Rattle.meaning.specs.Program as program;
+ghost use Rattle.meaning.specs.Rows as rows;
+ghost use Rattle.memory.specs.Slots.{Slots};
+ghost use Rattle.resolving.specs.Resolver as resolver;
+
+// What becomes of declaration d's name; a foreign name is left.
+pub fn state(u: &[u16], d: usize) -> usize
+    requires { ⌜ d ≤ 96 ⌝ }
+    ensures { λ r. ⌜ r ≡ getD (now (u .entry)) (2 * d) 3 ⌝ }
+{
+    if 2 * d >= u.len() {
+        return resolving::STAYS;
+    }
+    u[2 * d] as usize
+}
+
+// The Y line that declaration d's name is unfolded to.
+pub fn body(u: &[u16], d: usize) -> usize
+    requires { ⌜ (d ≤ 96) × (2 * d + 1 < length (now u)) ⌝ }
+    ensures { λ r. ⌜ r ≡ getD (now (u .entry)) (2 * d + 1) 0 ⌝ }
+{
+    u[2 * d + 1] as usize
+}
+
+// The outcome of name n at the `count` outcomes from place `at` on, where it is not unfolded or the
+// call is remembered; else 0.
+pub fn answered(
+    s: &[u8],
+    t: &[u32],
+    u: &[u16],
+    out: &[u16],
+    slots: &[u16],
+    n: usize,
+    at: usize,
+    count: usize,
+) -> usize
+    requires { ⌜ resolver.Setup (now s) (now t) (now u) × (n < rows.count-of program.name-line (sheet.lines 6 (now s))) ⌝ }
+    requires { ⌜ resolver.Args (now out) at count (at + count) ⌝ }
+    requires { ⌜ Slots (resolver.call-of (sheet.lines 6 (now s)) (now u)) (now slots) ⌝ }
+    ensures { λ r. ⌜ resolver.Answered (sheet.lines 6 (now (s .entry))) (now (u .entry)) n at count (now (out .entry)) (now (slots .entry)) r ⌝ }
+{
+    let d = tables::decl_of(s, t, n);
+    let what = state(u, d);
+    if what == resolving::GONE {
+        return arguments::ONE;
+    }
+    if what > resolving::ABBREVIATION {
+        return sums::built(out, at, count, 1);
+    }
+    memory::recall(slots, n, out, at, count)
+}

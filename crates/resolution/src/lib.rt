@@ -1,0 +1,161 @@
+// Rows 9 and 10 by outcomes: recursion over Y lines and the outcomes of a declaration's arguments,
+// stopped at the first fault.
+ghost use mathlib.Core.Path.{_≡_};
+ghost use Prim.Native.Nat.{_+_, _*_, _≤_, _<_};
+ghost use lib.Dec.{eqb};
+ghost use lib.ListN.{getD};
+ghost use Rattle.sheet.specs.Sheet as sheet;
+ghost use Rattle.model.specs.Cty as cty;
+ghost use Rattle.meaning.specs.Program as program;
+ghost use Rattle.meaning.specs.Rows as rows;
+ghost use Rattle.tables.specs.Tables as tables;
+ghost use Rattle.outcomes.specs.Scratch as scratch;
+ghost use Rattle.outcomes.specs.Laws.Call as call;
+ghost use Rattle.arguments.specs.Params as params;
+ghost use Rattle.kids.specs.Nodes as nodes;
+ghost use Rattle.weighing.specs.Weigh as weigh;
+ghost use Rattle.memory.specs.Slots.{Slots};
+ghost use Rattle.resolving.specs.Resolver as resolver;
+ghost use Rattle.states.specs.States as states;
+
+// The outcome of Y line y's type in declaration d, whose arguments have the `count` outcomes from
+// place `at` on, the last `over` of them for the type itself. Places from `top` on are free.
+pub fn node(
+    s: &[u8],
+    t: &[u32],
+    u: &[u16],
+    out: &mut [u16],
+    slots: &mut [u16],
+    k: usize,
+    y: usize,
+    d: usize,
+    at: usize,
+    count: usize,
+    over: usize,
+    top: usize,
+) -> usize
+    requires { ⌜ resolver.Place (now s) (now t) (now u) y d ⌝ }
+    requires { ⌜ resolver.Args (now out) at count top × (over ≤ count) × (nodes.kind-of (sheet.lines 6 (now s)) y ≡ 3 → over ≡ 0) ⌝ }
+    requires { ⌜ Slots (resolver.call-of (sheet.lines 6 (now s)) (now u)) (now slots) ⌝ }
+    ensures { λ r. ⌜ resolver.Found (resolver.eval-of (sheet.lines 6 (now (s .entry))) (now (u .entry)) d (scratch.part at count (now (out .entry))) y (resolver.last-of at count over (now (out .entry)))) k (top + cty.size (nodes.type-of (sheet.lines 6 (now (s .entry))) y) + over) top (now (out .entry)) (now (out .exit)) (resolver.call-of (sheet.lines 6 (now (s .entry))) (now (u .entry))) (now (slots .exit)) r ⌝ }
+{
+    let kind = tables::type_number(s, t, y, 0);
+    let a = tables::type_number(s, t, y, 1) as usize;
+    if kind == 3 {
+        return arguments::argument(s, t, d, out, at, count, a);
+    }
+    let r = args(s, t, u, out, slots, k, y, d, at, count, top);
+    if r < resolving::VALUE {
+        return r;
+    }
+    let n = kids::kids(s, t, y);
+    if kind == 8 {
+        if calls::copy(out, at + (count - over), top + n, over) {
+            return apply(s, t, u, out, slots, k, a, top, n + over);
+        }
+        return resolving::NO_ROOM;
+    }
+    sums::built(out, top, n, 0)
+}
+
+// The outcomes of its parts, from left to right, to places from `top` on.
+fn args(
+    s: &[u8],
+    t: &[u32],
+    u: &[u16],
+    out: &mut [u16],
+    slots: &mut [u16],
+    k: usize,
+    y: usize,
+    d: usize,
+    at: usize,
+    count: usize,
+    top: usize,
+) -> usize
+    requires { ⌜ resolver.Place (now s) (now t) (now u) y d ⌝ }
+    requires { ⌜ resolver.Args (now out) at count top ⌝ }
+    requires { ⌜ Slots (resolver.call-of (sheet.lines 6 (now s)) (now u)) (now slots) ⌝ }
+    ensures { λ r. ⌜ resolver.FoundAll (resolver.evals-of (sheet.lines 6 (now (s .entry))) (now (u .entry)) d (scratch.part at count (now (out .entry))) y (nodes.kids-of (sheet.lines 6 (now (s .entry))) y)) k (top + cty.sizes (weigh.kid-types (sheet.lines 6 (now (s .entry))) y (nodes.kids-of (sheet.lines 6 (now (s .entry))) y))) top (nodes.kids-of (sheet.lines 6 (now (s .entry))) y) (now (out .entry)) (now (out .exit)) (resolver.call-of (sheet.lines 6 (now (s .entry))) (now (u .entry))) (now (slots .exit)) r ⌝ }
+{
+    let n = kids::kids(s, t, y);
+    let mut next = top;
+    for i in 0..n {
+        if next >= out.len() {
+            return resolving::NO_ROOM;
+        }
+        let kid = kids::kid(s, t, y, i);
+        let r = node(s, t, u, out, slots, k, kid, d, at, count, 0, next);
+        if r < resolving::VALUE {
+            return r;
+        }
+        out[next] = r as u16;
+        next += 1;
+    }
+    resolving::VALUE
+}
+
+// The outcome of name n at the `count` outcomes from place `at` on. Places behind them are free.
+fn apply(
+    s: &[u8],
+    t: &[u32],
+    u: &[u16],
+    out: &mut [u16],
+    slots: &mut [u16],
+    k: usize,
+    n: usize,
+    at: usize,
+    count: usize,
+) -> usize
+    requires { ⌜ resolver.Setup (now s) (now t) (now u) × (n < rows.count-of program.name-line (sheet.lines 6 (now s))) ⌝ }
+    requires { ⌜ resolver.Args (now out) at count (at + count) ⌝ }
+    requires { ⌜ Slots (resolver.call-of (sheet.lines 6 (now s)) (now u)) (now slots) ⌝ }
+    ensures { λ r. ⌜ resolver.Found (resolver.call-of (sheet.lines 6 (now (s .entry))) (now (u .entry)) n (scratch.part at count (now (out .entry)))) k (at + count) (at + count) (now (out .entry)) (now (out .exit)) (resolver.call-of (sheet.lines 6 (now (s .entry))) (now (u .entry))) (now (slots .exit)) r ⌝ }
+{
+    let known = recalls::answered(s, t, u, out, slots, n, at, count);
+    if known != 0 {
+        return known;
+    }
+    let d = tables::decl_of(s, t, n);
+    let r = enter(s, t, u, out, slots, k, d, at, count);
+    memory::remember(slots, n, out, at, count, r);
+    r
+}
+
+// The outcome of a call of declaration d, which is unfolded.
+fn enter(
+    s: &[u8],
+    t: &[u32],
+    u: &[u16],
+    out: &mut [u16],
+    slots: &mut [u16],
+    k: usize,
+    d: usize,
+    at: usize,
+    count: usize,
+) -> usize
+    requires { ⌜ resolver.Place (now s) (now t) (now u) (getD (now u) (2 * d + 1) 0) d × (states.unfold-at (sheet.lines 6 (now s)) (now u) d ≡ call.unfolded (eqb (getD (now u) (2 * d) 3) 1) (params.params-of (sheet.lines 6 (now s)) d) (nodes.type-of (sheet.lines 6 (now s)) (getD (now u) (2 * d + 1) 0))) ⌝ }
+    requires { ⌜ resolver.Args (now out) at count (at + count) ⌝ }
+    requires { ⌜ Slots (resolver.call-of (sheet.lines 6 (now s)) (now u)) (now slots) ⌝ }
+    ensures { λ r. ⌜ resolver.Found (resolver.enter-of (sheet.lines 6 (now (s .entry))) (now (u .entry)) d (scratch.part at count (now (out .entry)))) k (at + count) (at + count) (now (out .entry)) (now (out .exit)) (resolver.call-of (sheet.lines 6 (now (s .entry))) (now (u .entry))) (now (slots .exit)) r ⌝ }
+{
+    let y = recalls::body(u, d);
+    let r = entries::entry(s, t, u, k, y, d, out, at, count);
+    if r != entries::OPEN {
+        return r;
+    }
+    let over = count - calls::params(s, t, d);
+    node(
+        s,
+        t,
+        u,
+        out,
+        slots,
+        k - 1,
+        y,
+        d,
+        at,
+        count,
+        over,
+        at + count,
+    )
+}
