@@ -11,8 +11,7 @@ pub extern "C" fn layout_build(
     verdict: &mut [u8],
     left: &mut [u8],
     answer: &mut [u64; 3],
-)
-{
+) {
     let r = build::build(sheet, verdict, left);
     answer[0] = r.code as u64;
     answer[1] = r.place as u64;
@@ -26,8 +25,7 @@ pub extern "C" fn layout_build_sized(
     verdict: &mut [u8],
     left: &mut [u8],
     answer: &mut [u64; 5],
-)
-{
+) {
     let r = build::build(sheet, verdict, left);
     answer[0] = r.code as u64;
     answer[1] = r.place as u64;

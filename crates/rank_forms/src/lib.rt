@@ -1,10 +1,11 @@
 // The normal forms of the declarations of one rank.
-ghost use Prim.Native.Nat.{_+_, _*_, _<_};
+ghost use Prim.Native.Nat.{_+_, _*_, _≤_, _<_};
 ghost use lib.ListN.{length};
 ghost use Rattle.sheet.specs.Sheet.{lines};
 ghost use Rattle.tables.specs.Tables.{decls-of};
 ghost use Rattle.normal_forms.specs.Tables.{Table};
 ghost use Rattle.normal_forms.specs.Ranks.{Ranked, Done, Reached};
+ghost use Rattle.rank_forms.specs.Next.{Next};
 
 // Declaration d's normal form, if it is unfolded and of rank r.
 fn form_at(
@@ -34,6 +35,21 @@ fn form_at(
     own_forms::normal_form(s, t, u, f, d, scratch, pos)
 }
 
+// The first of the n declarations from `from` on that has rank r, or n.
+fn next_of_rank(rank: &[u16], r: usize, from: usize, n: usize) -> usize
+    requires { ⌜ (from ≤ n) × (n ≤ length (now rank)) × (n ≤ 65536) ⌝ }
+    ensures { λ e. ⌜ Next (now (rank .entry)) r from n e ⌝ }
+{
+    let mut d = from;
+    while d < n {
+        if rank[d] as usize == r {
+            return d;
+        }
+        d += 1;
+    }
+    d
+}
+
 // The normal forms of rank r, from place pos on.
 pub fn forms_of_rank(
     s: &[u8],
@@ -50,11 +66,13 @@ pub fn forms_of_rank(
 {
     let n = tables::decls(s, t);
     let mut p = pos;
-    for d in 0..n {
+    let mut d = next_of_rank(rank, r, 0, n);
+    while d < n {
         p = form_at(s, t, u, rank, f, scratch, r, d, p);
         if p > f.len() {
             return p;
         }
+        d = next_of_rank(rank, r, d + 1, n);
     }
     p
 }

@@ -48,19 +48,7 @@ fn write(
     let mut records = [0u8; 96];
     left_records::records(s, t, u, f, keep, left, &mut records);
     verdict_sheet::put_verdicts(s, t, u, keep, &records, v);
-    left_sheet::put_left(
-        s,
-        t,
-        u,
-        f,
-        keep,
-        left,
-        scratch,
-        stack,
-        l,
-        args,
-        types,
-    );
+    left_sheet::put_left(s, t, u, f, keep, left, scratch, stack, l, args, types);
 }
 
 // Counts the left sheet's lines, of which `names` are N lines; then row 12, and both sheets.
@@ -93,20 +81,7 @@ fn measured(
         let built = built::refused(12, needed);
         return Tried { room: true, built };
     }
-    write(
-        s,
-        t,
-        u,
-        f,
-        keep,
-        left,
-        scratch,
-        stack,
-        v,
-        l,
-        args,
-        types,
-    );
+    write(s, t, u, f, keep, left, scratch, stack, v, l, args, types);
     let built = Built {
         code: 0,
         place: 0,
@@ -137,20 +112,7 @@ fn formed(
 {
     let mut left = [0u8; 96];
     left_flags::flags(s, t, u, f, keep, &mut left);
-    measured(
-        s,
-        t,
-        names,
-        rounds,
-        u,
-        f,
-        keep,
-        &left,
-        scratch,
-        stack,
-        v,
-        l,
-    )
+    measured(s, t, names, rounds, u, f, keep, &left, scratch, stack, v, l)
 }
 
 // Row 12 and both sheets, in memory that is lent: the list of normal forms, and room for one type. Where it is too short, nothing
@@ -177,17 +139,5 @@ pub fn sheets(
     if e > f.len() {
         return none();
     }
-    formed(
-        s,
-        t,
-        names,
-        rounds,
-        u,
-        f,
-        keep,
-        scratch,
-        stack,
-        v,
-        l,
-    )
+    formed(s, t, names, rounds, u, f, keep, scratch, stack, v, l)
 }

@@ -1,13 +1,15 @@
--- `rank_forms::forms_of_rank` meets its contract: after d turns the forms of rank r below declaration d are there. Assumes nothing.
-use mathlib.Core.Path.{_≡_, refl, subst, _∙_}
+-- `rank_forms::forms_of_rank` meets its contract: before declaration d the forms of rank r are there. Assumes nothing.
+use mathlib.Core.Path.{_≡_, refl, subst, sym, _∙_}
 use Prim.Native.Nat.{ℕ, _+_, _-_, _≤_}
 use native.Mathlib.Omega.{arith}
 use lib.ListN.{length}
 use Rattle.sheet.specs.Sheet.{lines}
 use Rattle.tables.specs.Tables.{decls-of}
+use Rattle.arguments.specs.ParamsLaws.{decls-few}
 use Rattle.normal_forms.specs.Tables.{Table}
 use Rattle.normal_forms.specs.Ranks.{Done}
 use Rattle.normal_forms.specs.RanksLaws.{reached-stop, reached-done}
+use Rattle.rank_forms.specs.Next.{skip-table}
 use borrow.Author.Needs.{needs}
 use Rattle.rank_forms.proofs.forms_of_rank.Statement.{statement}
 use Rattle.rank_forms.proofs.forms_of_rank.Tie as tie
@@ -22,34 +24,53 @@ abbrev μ-loop : tie.MeasureT-loop
 decls-requires : tie.Need-decls-requires Inv-loop μ-loop
 decls-requires c κs = c .before .before .before .before .before .before .pre .0 .tabled
 
+next-of-rank-requires : tie.Need-next-of-rank-requires Inv-loop μ-loop
+next-of-rank-requires c κs =
+    let p = c .before .before .before .before .before .before .before .pre .0 in
+    (omega arith, omega (arith, p .ranks, c .decls .ensures), omega (arith, decls-few _ (p .tabled .passed), c .decls .ensures))
+
 loop-holds : tie.Need-loop-holds Inv-loop μ-loop
-loop-holds c = (omega arith, refl, refl, c .before .before .before .before .before .before .before .pre .1)
+loop-holds c =
+    let a = c .before .before .before .before .before .before .before .before .args in
+    let x = c .next-of-rank .ensures in
+    (x .high, refl, refl, skip-table (a .s .now) (a .u .now) (a .rank .now) (a .f .now) (a .pos) (a .r) 0 _ _ x (c .before .before .before .before .before .before .before .before .pre .1))
 
 form-at-requires : tie.Need-form-at-requires Inv-loop μ-loop
 form-at-requires c κs =
-    let p = c .before .before .before .before .before .before .before .before .before .before .before .pre in
-    (p .0, omega (arith, c .before .before .loop-test .taken, c .before .before .before .before .decls .ensures), c .before .before .before .loop .inv .3)
+    let p = c .before .before .before .before .before .before .before .before .before .before .before .before .pre in
+    (p .0, omega (arith, c .before .before .loop-test .taken, c .before .before .before .before .before .decls .ensures), c .before .before .before .loop .inv .3)
 
 returns : tie.Need-returns Inv-loop μ-loop
 returns c =
-    let a = c .before .before .before .before .before .before .before .before .before .before .before .before .before .before .before .before .before .args in
-    let p = c .before .before .before .before .before .before .before .before .before .before .before .before .before .before .before .before .before .pre in
+    let a = c .before .before .before .before .before .before .before .before .before .before .before .before .before .before .before .before .before .before .args in
+    let p = c .before .before .before .before .before .before .before .before .before .before .before .before .before .before .before .before .before .before .pre in
     let s = c .before .before .before .before .before .before .before .before .before .loop in
     let x = c .before .before .before .before .before .form-at .ensures in
     reached-stop (a .s .now) (a .t .now) (a .u .now) (a .rank .now) (p .0) (a .r) (s .d + 1) (a .r) _ _ _ (a .f .now) _ _ _ (s .inv .1) (s .inv .2) (omega (arith, c .if1 .taken, x .same, s .inv .1)) x
 
+next-of-rank-requires-2 : tie.Need-next-of-rank-requires-2 Inv-loop μ-loop
+next-of-rank-requires-2 c κs =
+    let p = c .before .before .before .before .before .before .before .before .before .before .before .before .before .before .before .before .before .before .pre .0 in
+    let n = c .before .before .before .before .before .before .before .before .before .before .before .decls .ensures in
+    (omega (arith, c .before .before .before .before .before .before .before .before .loop-test .taken), omega (arith, p .ranks, n), omega (arith, decls-few _ (p .tabled .passed), n))
+
+loop-less : tie.Need-loop-less Inv-loop μ-loop
+loop-less c = omega (arith, c .before .before .before .before .before .before .before .before .before .loop-test .taken, c .next-of-rank2 .ensures .low)
+
 loop-again : tie.Need-loop-again Inv-loop μ-loop
 loop-again c =
-    let s = c .before .before .before .before .before .before .before .before .before .loop in
-    let x = c .before .before .before .before .before .form-at .ensures in
-    (omega (arith, c .before .before .before .before .before .before .before .before .loop-test .taken), x .same ∙ s .inv .1, search needs, x .table (omega (arith, c .if1 .left, x .same)))
+    let a = c .before .before .before .before .before .before .before .before .before .before .before .before .before .before .before .before .before .before .before .args in
+    let s = c .before .before .before .before .before .before .before .before .before .before .loop in
+    let x = c .before .before .before .before .before .before .form-at .ensures in
+    let y = c .next-of-rank2 .ensures in
+    (y .high, x .same ∙ s .inv .1, search needs, skip-table (a .s .now) (a .u .now) (a .rank .now) _ _ (a .r) (s .d + 1) _ _ y (x .table (omega (arith, c .before .if1 .left, x .same))))
 
 returns-2 : tie.Need-returns-2 Inv-loop μ-loop
 returns-2 c =
-    let a = c .before .before .before .before .before .before .before .before .before .args in
-    let p = c .before .before .before .before .before .before .before .before .before .pre in
+    let a = c .before .before .before .before .before .before .before .before .before .before .args in
+    let p = c .before .before .before .before .before .before .before .before .before .before .pre in
     let s = c .before .loop in
-    let e : s .d ≡ decls-of (lines 6 (a .s .now)) = omega (arith, c .loop-test .left, s .inv .0, c .before .before .decls .ensures) in
+    let e : s .d ≡ decls-of (lines 6 (a .s .now)) = omega (arith, c .loop-test .left, s .inv .0, c .before .before .before .decls .ensures) in
     reached-done (a .s .now) (a .t .now) (a .u .now) (a .rank .now) (p .0) (a .r) _ _ (a .f .now) (s .f) (s .p) (s .inv .1) (subst (λ (i : ℕ). Table (a .s .now) (a .u .now) (s .f) (s .p) (Done (a .s .now) (a .u .now) (a .rank .now) (a .r) i)) e (s .inv .3))
 
 pub forms-of-rank-spec : {M : Type 1} → statement M
@@ -59,13 +80,15 @@ forms-of-rank-spec =
     Inv-loop
     μ-loop
     decls-requires
+    next-of-rank-requires
     loop-holds
     form-at-requires
     (λ c. search needs)
     (λ c. search needs)
     returns
-    (λ c. search needs)
     (λ c. omega (arith, c .before .before .before .before .before .before .before .before .loop-test .taken))
+    next-of-rank-requires-2
+    loop-less
     loop-again
     (λ c. search needs)
     (λ c. search needs)

@@ -1,0 +1,34 @@
+-- The declarations of one rank, one after the other. Assumes nothing.
+use mathlib.Core.Path.{_≡_}
+use mathlib.Core.List.{List}
+use Prim.Native.Nat.{ℕ, _+_, _≤_, _<_}
+use native.Mathlib.Omega.{arith}
+use native.Mathlib.Decide.{decLt}
+use lib.ListN.{getD}
+use Rattle.normal_forms.specs.Tables.{Table}
+use Rattle.normal_forms.specs.Ranks.{Done}
+use Rattle.normal_forms.specs.RanksLaws.{table-same}
+
+-- e is the first number from `from` on, below n, of rank r, or n
+pub record Next (rank : List ℕ) (r from n e : ℕ) : Type 0 where
+  pub low : from ≤ e
+  pub high : e ≤ n
+  pub passed : (i : ℕ) → from ≤ i → i < e → getD rank i 0 ≡ r → ⊥
+
+-- what is passed changes nothing of what is done
+pub skip-table : (b u rank f : List ℕ) (p r from n e : ℕ) → Next rank r from n e → Table b u f p (Done b u rank r from) → Table b u f p (Done b u rank r e)
+skip-table b u rank f p r from n e h =
+    table-same b u f p (Done b u rank r from) (Done b u rank r e)
+    (λ d q. (q .0, q .1, q .2, λ z. below d (q .3 z) z (decLt d from)))
+    (λ d q. (q .0, q .1, q .2, λ z. omega (arith, q .3 z, h .low)))
+  where
+    below : (d : ℕ) → d < e → getD rank d 0 ≡ r → Dec (d < from) → d < from
+    below d l z (yes x) = x
+    below d l z (no x) = absurd (h .passed d (omega arith) l z)
+
+pub passed-more : (rank : List ℕ) (r from d : ℕ) → ((i : ℕ) → from ≤ i → i < d → getD rank i 0 ≡ r → ⊥) → (getD rank d 0 ≡ r → ⊥) → (i : ℕ) → from ≤ i → i < d + 1 → getD rank i 0 ≡ r → ⊥
+passed-more rank r from d h k i a l z = go (decLt i d)
+  where
+    go : Dec (i < d) → ⊥
+    go (yes x) = h i a x z
+    go (no x) = let e : i ≡ d = omega arith in k (rw e at z)
