@@ -3,10 +3,10 @@ use mathlib.Core.Path.{_≡_, refl, ap, sym, _∙_, subst}
 use mathlib.Core.List.{List, [], _∷_, map}
 use mathlib.Core.Bool.{Bool, true, false}
 use mathlib.Core.Logic.{_⊎_, ⊎-elim}
-use Prim.Native.Nat.{ℕ, zero, suc, _+_, _*_, _≤_, _<_}
+use Prim.Native.Nat.{ℕ, zero, suc, _*_, _≤_, _<_}
 use native.Mathlib.Omega.{arith}
 use lib.Dec.{eqb, ltb}
-use lib.ListN.{length, getD, replicate, length-replicate}
+use lib.ListN.{length, getD, replicate}
 use borrow.Author.Tests.{eqb-true, eqb-false, ltb-true, ltb-false}
 use Rattle.columns.specs.Column.{pick, _⇒_∥_}
 use Rattle.sheet.specs.Line.{Line}
@@ -14,13 +14,12 @@ use Rattle.sheet.specs.Sheet.{lines}
 use Rattle.sheet.specs.ListLaws.{Every}
 use Rattle.model.specs.Cty.{Cty}
 use Rattle.model.specs.Decl.{Decl, close}
-use Rattle.model.specs.Resolve.{Unfold, Result, ok, fault, spent, resolve-checked}
-use Rattle.model.specs.Run.{lay, layouts-of, layout-of-decl, resolves, returns, fault-code, decl-fault}
+use Rattle.model.specs.Resolve.{Result, ok, fault, spent, resolve-checked}
+use Rattle.model.specs.Run.{lay, fault-code, decl-fault}
 use Rattle.model.specs.Laws.Resolve.{Unspent}
 use Rattle.meaning.specs.Program.{program}
 use Rattle.meaning.specs.Laws.Program.{length-program}
 use Rattle.locality.specs.Laws.Fuel.{NoReturn, fuel-unspent}
-use Rattle.refusals.specs.Rows.{Passed}
 use Rattle.tables.specs.Tables.{decls-of}
 use Rattle.kids.specs.Nodes.{type-of}
 use Rattle.arguments.specs.Params.{params-of}
@@ -30,9 +29,9 @@ use Rattle.outcomes.specs.Answer.{nine, answer, Told}
 use Rattle.outcomes.specs.Laws.Fuel.{Leads}
 use Rattle.outcomes.specs.Laws.Answer.{answer-value, told-known}
 use Rattle.memory.specs.Slots.{Slots, slots-none}
-use Rattle.states.specs.States.{closed, lay-of, resolves-of, Settled}
+use Rattle.states.specs.States.{lay-of, resolves-of}
 use Rattle.states.specs.StatesLaws.{resolves-are}
-use Rattle.resolving.specs.Resolver.{States, Setup, call-of, type-of-decl}
+use Rattle.resolving.specs.Resolver.{type-of-decl}
 use Rattle.closing.specs.Closing.{answered-is}
 use Rattle.faults.specs.declared.First.{First}
 use Rattle.faults.specs.Faults.{Kept, Fine, Answers, clear, stops, goes, AllFine, Firstly}
@@ -200,7 +199,6 @@ asked-kept b t u keep a =
 
 -- an array of zeros has no slot that is used
 pub zeros : (n i : ℕ) → _≡_ {A = ℕ} (getD (replicate n 0) i 0) 0
-unfolding replicate
 zeros zero i = refl
 zeros (suc n) zero = refl
 zeros (suc n) (suc i) = zeros n i
@@ -208,7 +206,6 @@ zeros (suc n) (suc i) = zeros n i
 pub slots-zero : (call : ℕ → List ℕ → ℕ → Result ℕ) (n : ℕ) → Slots call (replicate n 0)
 slots-zero call n = slots-none call (replicate n 0) (zeros n)
 
--- an attempt in an array of n zeros
-pub attempted : (b t u keep : List ℕ) → Asked b t u keep → (n : ℕ) (f : First) (r : Outcome) → Firstly (lines 6 b) u keep (length {A = ℕ} (replicate n 0)) f → r ≡ outcome-of (f .answer) (f .decl) → Comes b n r
-attempted b t u keep asked n f r w e =
-    subst (λ (x : Outcome). Comes b n x) (sym e) (comes b t u keep asked n f (subst (λ (k : ℕ). Firstly (lines 6 b) u keep k f) (length-replicate n 0) w))
+-- an attempt with n places
+pub attempted : (b t u keep : List ℕ) → Asked b t u keep → (n : ℕ) (f : First) (r : Outcome) → Firstly (lines 6 b) u keep n f → r ≡ outcome-of (f .answer) (f .decl) → Comes b n r
+attempted b t u keep asked n f r w e = subst (λ (x : Outcome). Comes b n x) (sym e) (comes b t u keep asked n f w)

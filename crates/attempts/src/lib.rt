@@ -1,7 +1,10 @@
 // Attempts at rows 9 and 10, with arrays of three lengths: most sheets need few places and few slots, and
 // clearing the arrays would take longer than the resolution. Only a full array of outcomes stops an attempt.
-use faults::First;
 ghost use mathlib.Core.Path.{_≡_};
+ghost use lib.ListN.{length};
+ghost use Rattle.sheet.specs.Sheet as sheet;
+ghost use Rattle.memory.specs.Slots.{Slots};
+ghost use Rattle.resolving.specs.Resolver as resolver;
 ghost use Rattle.attempts.specs.Attempts as attempts;
 
 // Every type resolves; the code and the declaration of the first fault; the array was full.
@@ -27,6 +30,27 @@ fn told(answer: usize, decl: usize) -> Outcome
     Outcome::Clear
 }
 
+// With these arrays.
+fn tried(s: &[u8], t: &[u32], u: &[u16], keep: &[u8], out: &mut [u16], slots: &mut [u16]) -> Outcome
+    requires { ⌜ attempts.Asked (now s) (now t) (now u) (now keep) ⌝ }
+    requires { ⌜ Slots (resolver.call-of (sheet.lines 6 (now s)) (now u)) (now slots) ⌝ }
+    ensures { λ r. ⌜ attempts.Comes (now (s .entry)) (length (now (out .entry))) r ⌝ }
+{
+    let f = faults::first_fault(s, t, u, keep, out, slots);
+    let answer = f.answer;
+    let decl = f.decl;
+    told(answer, decl)
+}
+
+// With 4,096 slots.
+fn remembering(s: &[u8], t: &[u32], u: &[u16], keep: &[u8], out: &mut [u16]) -> Outcome
+    requires { ⌜ attempts.Asked (now s) (now t) (now u) (now keep) ⌝ }
+    ensures { λ r. ⌜ attempts.Comes (now (s .entry)) (length (now (out .entry))) r ⌝ }
+{
+    let mut slots = [0u16; 45056];
+    tried(s, t, u, keep, out, &mut slots)
+}
+
 // 512 outcomes and 64 slots.
 pub fn small(s: &[u8], t: &[u32], u: &[u16], keep: &[u8]) -> Outcome
     requires { ⌜ attempts.Asked (now s) (now t) (now u) (now keep) ⌝ }
@@ -34,10 +58,7 @@ pub fn small(s: &[u8], t: &[u32], u: &[u16], keep: &[u8]) -> Outcome
 {
     let mut out = [0u16; 512];
     let mut slots = [0u16; 704];
-    let f = faults::first_fault(s, t, u, keep, &mut out, &mut slots);
-    let answer = f.answer;
-    let decl = f.decl;
-    told(answer, decl)
+    tried(s, t, u, keep, &mut out, &mut slots)
 }
 
 // 2,048 outcomes and 4,096 slots: where many declarations are unfolded, few slots would be slow.
@@ -46,11 +67,7 @@ pub fn wide(s: &[u8], t: &[u32], u: &[u16], keep: &[u8]) -> Outcome
     ensures { λ r. ⌜ attempts.Comes (now (s .entry)) 2048 r ⌝ }
 {
     let mut out = [0u16; 2048];
-    let mut slots = [0u16; 45056];
-    let f = faults::first_fault(s, t, u, keep, &mut out, &mut slots);
-    let answer = f.answer;
-    let decl = f.decl;
-    told(answer, decl)
+    remembering(s, t, u, keep, &mut out)
 }
 
 // 97 * 1,024 outcomes, of which any sheet has enough, and 4,096 slots.
@@ -59,9 +76,5 @@ pub fn large(s: &[u8], t: &[u32], u: &[u16], keep: &[u8]) -> Outcome
     ensures { λ r. ⌜ attempts.Comes (now (s .entry)) 99328 r ⌝ }
 {
     let mut out = [0u16; 99328];
-    let mut slots = [0u16; 45056];
-    let f = faults::first_fault(s, t, u, keep, &mut out, &mut slots);
-    let answer = f.answer;
-    let decl = f.decl;
-    told(answer, decl)
+    remembering(s, t, u, keep, &mut out)
 }

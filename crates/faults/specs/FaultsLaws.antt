@@ -2,31 +2,29 @@
 use mathlib.Core.Path.{_≡_, refl, ap, ap₂, sym, _∙_, subst}
 use mathlib.Core.List.{List, [], _∷_}
 use mathlib.Core.Bool.{Bool, true, false}
-use mathlib.Core.Logic.{_⊎_, inl, inr}
-use Prim.Native.Nat.{ℕ, zero, suc, _+_, _-_, _*_, _≤_, _<_}
+use mathlib.Core.Logic.{inl}
+use Prim.Native.Nat.{ℕ, suc, _+_, _-_, _*_, _≤_, _<_}
 use native.Mathlib.Omega.{arith}
 use native.Mathlib.Numerals.{add-one}
 use lib.Dec.{eqb, ltb}
 use lib.ListN.{length, getD}
 use borrow.Author.Tests.{eqb-true, eqb-false, ne-eqb, ltb-true, ltb-false}
-use Rattle.columns.specs.Column.{pick, _⇒_∥_}
+use Rattle.columns.specs.Column.{pick}
 use Rattle.sheet.specs.Line.{Line}
 use Rattle.sheet.specs.Sheet.{lines}
 use Rattle.sheet.specs.ListLaws.{Every, getD-within}
-use Rattle.model.specs.Resolve.{Result, ok}
-use Rattle.meaning.specs.Program.{type-line, field-line}
+use Rattle.model.specs.Resolve.{Result}
+use Rattle.meaning.specs.Program.{field-line}
 use Rattle.meaning.specs.Rows.{count-of}
-use Rattle.refusals.specs.Rows.{Passed}
-use Rattle.tables.specs.Tables.{Tabled, decls-of, first-of}
+use Rattle.tables.specs.Tables.{decls-of, first-of}
 use Rattle.kept.specs.Kept.{body-kind, body-last, field-type}
 use Rattle.bodies.specs.BodiesLaws.{field-types, last-types, first-le}
 use Rattle.arguments.specs.ParamsLaws.{decls-few}
-use Rattle.outcomes.specs.Answer.{Told}
 use Rattle.outcomes.specs.Laws.Fuel.{Leads}
 use Rattle.outcomes.specs.Laws.Answer.{answer-value}
 use Rattle.memory.specs.Slots.{Slots}
 use Rattle.states.specs.States.{state, body-of, kept-types, resolves-of}
-use Rattle.resolving.specs.Resolver.{Setup, Place, call-of, type-of-decl, Found, Short}
+use Rattle.resolving.specs.Resolver.{Place, call-of, type-of-decl, Found}
 use Rattle.faults.specs.Faults.{Kept, Fine, Answers, clear, stops, goes, Went, AllFine, Firstly}
 
 -- what the resolution found of one type

@@ -109,9 +109,9 @@ pub fn first_fault(
 {
     let n = tables::decls(s, t);
     for d in 0..n {
-        let r = decl_fault(s, t, u, keep, d, out, slots);
-        if r < resolver::VALUE {
-            return First { answer: r, decl: d };
+        let answer = decl_fault(s, t, u, keep, d, out, slots);
+        if answer < resolver::VALUE {
+            return First { answer, decl: d };
         }
     }
     First {

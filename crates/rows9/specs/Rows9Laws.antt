@@ -1,18 +1,14 @@
 -- From the first declaration with a fault to the refusal. Assumes nothing.
 use mathlib.Core.Path.{_≡_, refl, ap, sym, _∙_}
 use mathlib.Core.List.{List, [], _∷_}
-use mathlib.Core.Bool.{Bool, true, false, not}
-use Prim.Native.Nat.{ℕ, _*_, _≤_, _<_}
+use mathlib.Core.Bool.{true, false, not}
+use Prim.Native.Nat.{ℕ, _≤_, _<_}
 use native.Mathlib.Omega.{arith}
-use lib.Dec.{eqb, ltb}
 use borrow.Author.Tests.{eq-eqb, ne-eqb, lt-ltb, le-ltb}
-use Rattle.columns.specs.Column.{pick}
 use Rattle.sheet.specs.Format.{base}
 use Rattle.sheet.specs.Sheet.{first, lines}
 use Rattle.sheet.specs.FirstLaws.{first-place, place-unique, first-none}
-use Rattle.model.specs.Run.{layouts-of, decl-fault}
 use Rattle.meaning.specs.Program.{program}
-use Rattle.answer.specs.declared.Refusal.{Refusal}
 use Rattle.answer.specs.declared.Refusal.the-variants.{Accepted, Refused}
 use Rattle.answer.specs.Answer.{refusal}
 use Rattle.limits.specs.Limits.{start}

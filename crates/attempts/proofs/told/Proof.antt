@@ -1,4 +1,3 @@
-use borrow.Author.Needs.{needs}
 -- `attempts::told` meets its contract, number by number. Assumes nothing.
 use borrow.Author.Tests.{ne-eqb}
 use Rattle.attempts.specs.Attempts.{outcome-of}

@@ -6,12 +6,6 @@ use borrow.Author.Needs.{needs}
 use Rattle.faults.specs.FaultsLaws.{decl-gone, payload-place, decl-payload, decl-abstract, abbrev-place, decl-abbrev, decl-fields, fields-inside}
 use Rattle.faults.proofs.decl_fault.Statement.{statement}
 use Rattle.faults.proofs.decl_fault.Tie as tie
-use Rattle.faults.proofs.decl_fault.Reads as reads
-use Rattle.faults.proofs.decl_fault.Lts as lts
-use Rattle.faults.proofs.field_fault.Reads as field-fault-reads
-use Rattle.resolver.proofs.resolved.Reads as resolved-reads
-use Rattle.tables.proofs.decl_number.Reads as decl-number-reads
-use Rattle.tables.proofs.first_field.Reads as first-field-reads
 
 cast-state : tie.Need-cast-state
 cast-state c = omega (arith, c .shared-slice-known5 .given (2 * c .before .before .before .before .before .before .before .args .d))

@@ -1,7 +1,7 @@
 -- `faults::field_fault` meets its contract: what it answers for the fields that are left, it answers for all. Assumes nothing.
 use mathlib.Core.Logic.{⊎-elim}
 use mathlib.Core.Path.{_≡_, refl, ap, _∙_}
-use Prim.Native.Nat.{_+_, _-_, _≤_, _<_}
+use Prim.Native.Nat.{_-_}
 use native.Mathlib.Omega.{arith}
 use lib.ListN.{length}
 use borrow.Author.Needs.{needs}
@@ -11,10 +11,6 @@ use Rattle.resolving.specs.Resolver.{call-of}
 use Rattle.faults.specs.FaultsLaws.{Rest, rest-all, rest-skip, rest-stops, rest-next, rest-none, field-place}
 use Rattle.faults.proofs.field_fault.Statement.{statement}
 use Rattle.faults.proofs.field_fault.Tie as tie
-use Rattle.faults.proofs.field_fault.Reads as reads
-use Rattle.faults.proofs.field_fault.Lts as lts
-use Rattle.resolver.proofs.resolved.Reads as resolved-reads
-use Rattle.tables.proofs.field_number.Reads as field-number-reads
 
 abbrev Inv-loop : tie.InvT-loop
 Inv-loop s t u keep d from end out₀ slots₀ f₀ out slots f =

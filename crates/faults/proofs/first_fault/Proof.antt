@@ -11,10 +11,6 @@ use Rattle.faults.specs.Faults.{AllFine}
 use Rattle.faults.specs.FaultsLaws.{fine-none, fine-more, first-stops, first-clear}
 use Rattle.faults.proofs.first_fault.Statement.{statement}
 use Rattle.faults.proofs.first_fault.Tie as tie
-use Rattle.faults.proofs.first_fault.Reads as reads
-use Rattle.faults.proofs.first_fault.Lts as lts
-use Rattle.faults.proofs.decl_fault.Reads as decl-fault-reads
-use Rattle.tables.proofs.decls.Reads as decls-reads
 
 abbrev Inv-loop : tie.InvT-loop
 Inv-loop s t u keep out₀ slots₀ n d₀ out slots d =

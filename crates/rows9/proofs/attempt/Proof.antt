@@ -4,11 +4,6 @@ use native.Mathlib.Omega.{arith}
 use Rattle.rows9.specs.Rows9Laws.{comes-less}
 use Rattle.rows9.proofs.attempt.Statement.{statement}
 use Rattle.rows9.proofs.attempt.Tie as tie
-use Rattle.rows9.proofs.attempt.Reads as reads
-use Rattle.rows9.proofs.attempt.Lts as lts
-use Rattle.attempts.proofs.small.Reads as small-reads
-use Rattle.attempts.proofs.wide.Reads as wide-reads
-use Rattle.rows9.proofs.many.Reads as many-reads
 
 returns : tie.Need-returns
 returns c = comes-less (c .before .before .before .before .before .before .before .args .s .now) 512 2048 (c .wide .result) (omega arith) (c .wide .ensures)

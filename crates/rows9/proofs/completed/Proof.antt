@@ -2,9 +2,6 @@
 use borrow.Author.Needs.{needs}
 use Rattle.rows9.proofs.completed.Statement.{statement}
 use Rattle.rows9.proofs.completed.Tie as tie
-use Rattle.rows9.proofs.completed.Reads as reads
-use Rattle.rows9.proofs.completed.Lts as lts
-use Rattle.attempts.proofs.large.Reads as large-reads
 
 returns : tie.Need-returns
 returns c = rw (c .enum-told .given .1) at (c .before .before .before .before .before .before .pre .1)

@@ -1,13 +1,9 @@
-use borrow.Author.Needs.{needs}
 -- `rows9::many` is safe and ends. Assumes nothing.
 use Prim.Native.Nat.{_*_, _-_, _≤_}
 use native.Mathlib.Omega.{arith}
 use lib.ListN.{length}
 use Rattle.rows9.proofs.many.Statement.{statement}
 use Rattle.rows9.proofs.many.Tie as tie
-use Rattle.rows9.proofs.many.Reads as reads
-use Rattle.rows9.proofs.many.Lts as lts
-use Rattle.rows9.proofs.unfolds.Reads as unfolds-reads
 
 abbrev Inv-loop : tie.InvT-loop
 Inv-loop u n found₀ d₀ found d = (found ≤ d) × (d ≤ length u) × (2 * n ≤ length u)

@@ -4,9 +4,6 @@ use Rattle.rows9.specs.Rows9Laws.{fault-inside, refused-none, refused-at
 use borrow.Author.Needs.{needs}
 use Rattle.rows9.proofs.refused.Statement.{statement}
 use Rattle.rows9.proofs.refused.Tie as tie
-use Rattle.rows9.proofs.refused.Reads as reads
-use Rattle.rows9.proofs.refused.Lts as lts
-use Rattle.tables.proofs.line_of.Reads as line-of-reads
 
 line-of-requires : tie.Need-line-of-requires
 line-of-requires c κs = (c .before .before .before .before .before .pre .0, fault-inside _ _ _ (rw (c .before .r .given .1) at (c .before .before .before .before .before .pre .1)))
