@@ -1,43 +1,121 @@
 // Rows 9 and 10: the first type that does not resolve, in the order of the declarations.
 ghost use mathlib.Core.Path.{_≡_};
-ghost use Prim.Native.Nat.{_*_};
+ghost use Prim.Native.Nat.{_+_, _-_, _≤_, _<_};
 ghost use lib.ListN.{length};
 ghost use Rattle.sheet.specs.Sheet as sheet;
+ghost use Rattle.meaning.specs.Program as program;
+ghost use Rattle.meaning.specs.Rows as rows;
+ghost use Rattle.tables.specs.Tables as tables;
+ghost use Rattle.states.specs.States as states;
 ghost use Rattle.resolving.specs.Resolver as resolver;
 ghost use Rattle.memory.specs.Slots.{Slots};
-ghost use Rattle.faults.specs.Faults.{Jobs, Firstly};
+ghost use Rattle.faults.specs.Faults as faults;
 
-// The answer of the resolution (below `resolver::VALUE`: why there is no outcome), and of which type.
+// What becomes of a declaration.
+const GONE: usize = 0;
+
+const NEWTYPE: usize = 1;
+
+// What its body is.
+const ABSTRACT: u32 = 0;
+
+const ABBREVIATION: u32 = 1;
+
+// The answer of the resolution (below `resolver::VALUE`: why there is no outcome), and of which
+// declaration.
 pub struct First {
     pub answer: usize,
-    pub job: usize,
+    pub decl: usize,
 }
 
-// Resolves the n types of `jobs` up to the first that does not resolve. With 97 * 1,024 places to
-// work in it never answers that there is no room.
+// The answer for the first kept one of declaration d's F lines from..end whose type does not resolve.
+fn field_fault(
+    s: &[u8],
+    t: &[u32],
+    u: &[u16],
+    keep: &[u8],
+    d: usize,
+    from: usize,
+    end: usize,
+    out: &mut [u16],
+    slots: &mut [u16],
+) -> usize
+    requires { ⌜ faults.Kept (now s) (now t) (now u) (now keep) × (d < tables.decls-of (sheet.lines 6 (now s))) × (end ≤ rows.count-of program.field-line (sheet.lines 6 (now s))) ⌝ }
+    requires { ⌜ Slots (resolver.call-of (sheet.lines 6 (now s)) (now u)) (now slots) ⌝ }
+    ensures { λ r. ⌜ faults.Went (sheet.lines 6 (now (s .entry))) (now (u .entry)) d (length (now (out .entry))) (states.kept-types (sheet.lines 6 (now (s .entry))) (now (keep .entry)) from (end - from)) r (now (slots .exit)) ⌝ }
+{
+    let mut f = from;
+    while f < end {
+        if keep[f] == 1 {
+            let y = tables::field_number(s, t, f, 1) as usize;
+            let r = resolver::resolved(s, t, u, out, slots, d, y);
+            if r < resolver::VALUE {
+                return r;
+            }
+        }
+        f += 1;
+    }
+    resolver::VALUE
+}
+
+// The same for all that is resolved of declaration d: a payload, an abbreviated type, or kept fields.
+fn decl_fault(
+    s: &[u8],
+    t: &[u32],
+    u: &[u16],
+    keep: &[u8],
+    d: usize,
+    out: &mut [u16],
+    slots: &mut [u16],
+) -> usize
+    requires { ⌜ faults.Kept (now s) (now t) (now u) (now keep) × (d < tables.decls-of (sheet.lines 6 (now s))) ⌝ }
+    requires { ⌜ Slots (resolver.call-of (sheet.lines 6 (now s)) (now u)) (now slots) ⌝ }
+    ensures { λ r. ⌜ faults.Went (sheet.lines 6 (now (s .entry))) (now (u .entry)) d (length (now (out .entry))) (states.resolves-of (sheet.lines 6 (now (s .entry))) (now (u .entry)) (now (keep .entry)) d) r (now (slots .exit)) ⌝ }
+{
+    let state = u[2 * d] as usize;
+    if state == GONE {
+        return resolver::VALUE;
+    }
+    if state == NEWTYPE {
+        let y = u[2 * d + 1] as usize;
+        return resolver::resolved(s, t, u, out, slots, d, y);
+    }
+    let kind = tables::decl_number(s, t, d, 2);
+    if kind == ABSTRACT {
+        return resolver::VALUE;
+    }
+    if kind == ABBREVIATION {
+        let y = tables::decl_number(s, t, d, 4) as usize;
+        return resolver::resolved(s, t, u, out, slots, d, y);
+    }
+    let from = tables::first_field(s, t, d);
+    let end = tables::first_field(s, t, d + 1);
+    field_fault(s, t, u, keep, d, from, end, out, slots)
+}
+
+// Resolves what is resolved of each declaration, up to the first type that does not resolve. With
+// 97 * 1,024 places to work in it never answers that there is no room.
 pub fn first_fault(
     s: &[u8],
     t: &[u32],
     u: &[u16],
-    jobs: &[u16],
-    n: usize,
+    keep: &[u8],
     out: &mut [u16],
     slots: &mut [u16],
 ) -> First
-    requires { ⌜ resolver.Setup (now s) (now t) (now u) × Jobs (now s) (now jobs) n ⌝ }
+    requires { ⌜ faults.Kept (now s) (now t) (now u) (now keep) ⌝ }
     requires { ⌜ Slots (resolver.call-of (sheet.lines 6 (now s)) (now u)) (now slots) ⌝ }
-    ensures { λ r. ⌜ Firstly (sheet.lines 6 (now (s .entry))) (now (u .entry)) (now (jobs .entry)) n (now (out .entry)) r ⌝ }
+    ensures { λ r. ⌜ faults.Firstly (sheet.lines 6 (now (s .entry))) (now (u .entry)) (now (keep .entry)) (length (now (out .entry))) r ⌝ }
 {
-    for i in 0..n {
-        let d = jobs[2 * i] as usize;
-        let y = jobs[2 * i + 1] as usize;
-        let r = resolver::resolved(s, t, u, out, slots, d, y);
-        if r < resolver::VALUE {
-            return First { answer: r, job: i };
+    let n = tables::decls(s, t);
+    for d in 0..n {
+        let answer = decl_fault(s, t, u, keep, d, out, slots);
+        if answer < resolver::VALUE {
+            return First { answer, decl: d };
         }
     }
     First {
         answer: resolver::VALUE,
-        job: n,
+        decl: n,
     }
 }

@@ -1,0 +1,2 @@
+pub mod Rows9
+pub mod Rows9Laws

@@ -1,0 +1,86 @@
+// Rows 9 and 10: the first declaration that meets a fault, and its code.
+use answer::Refusal;
+use attempts::Outcome;
+ghost use mathlib.Core.Path.{_≡_};
+ghost use mathlib.Core.List.{[], _∷_};
+ghost use Prim.Native.Nat.{_≤_};
+ghost use Rattle.answer.specs.Answer as answer;
+ghost use Rattle.tables.specs.Tables as tables;
+ghost use Rattle.attempts.specs.Attempts as attempts;
+ghost use Rattle.rows9.specs.Rows9 as rows9;
+
+// 1 for the state of an unfolded declaration.
+fn unfolds(state: u16) -> usize
+    ensures { λ r. ⌜ r ≤ 1 ⌝ }
+{
+    if state == 1 {
+        return 1;
+    }
+    if state == 2 {
+        return 1;
+    }
+    0
+}
+
+// More than 4 declarations are unfolded: with 64 slots each one more can multiply the work by the calls
+// in its body. Either answer leads to the same refusal: it only says which arrays are tried first.
+fn many(u: &[u16]) -> bool {
+    let n = u.len() / 2;
+    let mut found = 0;
+    let mut d = 0;
+    while d < n {
+        found += unfolds(u[2 * d]);
+        d += 1;
+    }
+    found > 4
+}
+
+// The first attempt.
+fn attempt(s: &[u8], t: &[u32], u: &[u16], keep: &[u8]) -> Outcome
+    requires { ⌜ attempts.Asked (now s) (now t) (now u) (now keep) ⌝ }
+    ensures { λ r. ⌜ attempts.Comes (now (s .entry)) 512 r ⌝ }
+{
+    if many(u) {
+        return attempts::wide(s, t, u, keep);
+    }
+    attempts::small(s, t, u, keep)
+}
+
+// Comes back with the large arrays where those of the first attempt were full.
+fn completed(s: &[u8], t: &[u32], u: &[u16], keep: &[u8], r: Outcome) -> Outcome
+    requires { ⌜ attempts.Asked (now s) (now t) (now u) (now keep) ⌝ }
+    requires { ⌜ attempts.Comes (now s) 512 r ⌝ }
+    ensures { λ r. ⌜ attempts.Comes (now (s .entry)) 99328 r ⌝ }
+{
+    match r {
+        Outcome::Clear => Outcome::Clear,
+        Outcome::Fault { code, decl } => Outcome::Fault { code, decl },
+        Outcome::NoRoom => attempts::large(s, t, u, keep),
+    }
+}
+
+// The place is the declaration's line. There is room by now.
+fn refused(s: &[u8], t: &[u32], r: Outcome) -> Refusal
+    requires { ⌜ tables.Tabled (now s) (now t) ⌝ }
+    requires { ⌜ attempts.Comes (now s) 99328 r ⌝ }
+    ensures { λ r. ⌜ r ≡ answer.refusal (rows9.faults-row (now (s .entry)) ∷ []) ⌝ }
+{
+    match r {
+        Outcome::Clear => Refusal::Accepted,
+        Outcome::Fault { code, decl } => Refusal::Refused {
+            code,
+            place: tables::line_of(s, t, decl),
+        },
+        Outcome::NoRoom => Refusal::Accepted,
+    }
+}
+
+// Rows 9 and 10.
+pub fn rows9_10(s: &[u8], t: &[u32], u: &[u16], keep: &[u8]) -> Refusal
+    requires { ⌜ attempts.Asked (now s) (now t) (now u) (now keep) ⌝ }
+    ensures { λ r. ⌜ r ≡ answer.refusal (rows9.faults-row (now (s .entry)) ∷ []) ⌝ }
+{
+    let first = attempt(s, t, u, keep);
+    let last = completed(s, t, u, keep, first);
+    refused(s, t, last)
+}
