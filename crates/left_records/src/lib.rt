@@ -48,7 +48,11 @@ fn record_of(s: &[u8], t: &[u32], u: &[u16], keep: &[u8], left: &[u8], d: usize)
     if tables::decl_number(s, t, d, 4) != 1 {
         return false;
     }
-    any_kept(keep, tables::first_field(s, t, d), tables::first_field(s, t, d + 1))
+    any_kept(
+        keep,
+        tables::first_field(s, t, d),
+        tables::first_field(s, t, d + 1),
+    )
 }
 
 fn bit(b: bool) -> u8
