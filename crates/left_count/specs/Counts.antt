@@ -1,0 +1,18 @@
+-- The types and lines of a declaration that is left, none of one that is not. Assumes nothing.
+use mathlib.Core.List.{List, []}
+use Prim.Native.Nat.{ℕ, _+_}
+use lib.Dec.{eqb}
+use lib.ListN.{length, getD}
+use Rattle.columns.specs.Column.{pick}
+use Rattle.sheet.specs.Line.{Line}
+use Rattle.arguments.specs.Params.{params-of}
+use Rattle.states.specs.States.{resolves-of}
+use Rattle.lefts.specs.BodyLaws.{left-body, body-lines}
+
+-- the Y lines that are resolved
+unfoldable pub decl-types : List Line → List ℕ → List ℕ → List ℕ → ℕ → List ℕ
+decl-types ls u keep left d = pick (eqb (getD left d 0) 0) [] (resolves-of ls u keep d)
+
+-- a D line, a V line, the P lines and those of the body
+unfoldable pub decl-count : List Line → List ℕ → List ℕ → List ℕ → ℕ → ℕ
+decl-count ls u keep left d = pick (eqb (getD left d 0) 0) 0 (length (params-of ls d) + 2 + body-lines (left-body ls u keep d))

@@ -1,0 +1,103 @@
+// Counts the lines of the left sheet: A, Y and those of declarations.
+ghost use mathlib.Core.Path.{_≡_};
+ghost use mathlib.Core.Bool.{true};
+ghost use Prim.Native.Nat.{_+_, _*_, _≤_, _<_};
+ghost use lib.ListN.{length};
+ghost use Rattle.sheet.specs.Sheet.{lines};
+ghost use Rattle.meaning.specs.Program.{field-line};
+ghost use Rattle.meaning.specs.Rows.{count-of};
+ghost use Rattle.tables.specs.Tables.{decls-of};
+ghost use Rattle.states.specs.States.{state, resolves-of};
+ghost use Rattle.lefts.specs.Lefts.{Ready, Flagged, Counted};
+ghost use Rattle.lefts.specs.BodyLaws.{left-body, body-lines};
+ghost use Rattle.left_types.specs.Sums.{Added};
+ghost use Rattle.left_count.specs.Counts.{decl-types, decl-count};
+use left_types::add_lines;
+use left_types::count_fields;
+use left_types::count_type;
+use lefts::Count;
+
+// The types of declaration d, and the lines of its body.
+fn count_body(
+    s: &[u8],
+    t: &[u32],
+    u: &[u16],
+    f: &[u64],
+    keep: &[u8],
+    scratch: &mut [u64],
+    d: usize,
+    c: Count,
+) -> Count
+    requires { ⌜ Ready (now s) (now t) (now u) (now f) (now keep) × (d < decls-of (lines 6 (now s))) × (count-of field-line (lines 6 (now s)) ≤ length (now keep)) ⌝ }
+    requires { ⌜ (state (now u) d ≡ 0 → ⊥) × (c .room ≡ true) × (c .args ≤ 400000000) × (c .types ≤ 400000000) × (c .lines ≤ 700000000) ⌝ }
+    ensures { λ r. ⌜ Added (lines 6 (now (s .entry))) d (resolves-of (lines 6 (now (s .entry))) (now (u .entry)) (now (keep .entry)) d) (body-lines (left-body (lines 6 (now (s .entry))) (now (u .entry)) (now (keep .entry)) d)) (length (now (scratch .entry))) c r ⌝ }
+{
+    if node_words::state(u, d) == 1 {
+        let y = u[2 * d + 1] as usize;
+        return count_type(s, t, u, f, scratch, y, d, c);
+    }
+    let k = tables::decl_number(s, t, d, 2);
+    if k == 0 {
+        return c;
+    }
+    let n = tables::decl_number(s, t, d, 4) as usize;
+    if k == 1 {
+        return count_type(s, t, u, f, scratch, n, d, c);
+    }
+    if k == 2 {
+        return count_fields(s, t, u, f, keep, scratch, d, c);
+    }
+    count_fields(s, t, u, f, keep, scratch, d, add_lines(c, n))
+}
+
+// Declaration d, if it leaves one.
+fn count_decl(
+    s: &[u8],
+    t: &[u32],
+    u: &[u16],
+    f: &[u64],
+    keep: &[u8],
+    left: &[u8],
+    scratch: &mut [u64],
+    d: usize,
+    c: Count,
+) -> Count
+    requires { ⌜ Ready (now s) (now t) (now u) (now f) (now keep) × (d < decls-of (lines 6 (now s))) × (count-of field-line (lines 6 (now s)) ≤ length (now keep)) × Flagged (now s) (now left) ⌝ }
+    requires { ⌜ (c .room ≡ true) × (c .args ≤ 400000000) × (c .types ≤ 400000000) × (c .lines ≤ 600000000) ⌝ }
+    ensures { λ r. ⌜ Added (lines 6 (now (s .entry))) d (decl-types (lines 6 (now (s .entry))) (now (u .entry)) (now (keep .entry)) (now (left .entry)) d) (decl-count (lines 6 (now (s .entry))) (now (u .entry)) (now (keep .entry)) (now (left .entry)) d) (length (now (scratch .entry))) c r ⌝ }
+{
+    if left[d] == 0 {
+        return c;
+    }
+    let n = calls::params(s, t, d);
+    count_body(s, t, u, f, keep, scratch, d, add_lines(c, n + 2))
+}
+
+// All declarations; no room where the scratch is too short for a type.
+pub fn count(
+    s: &[u8],
+    t: &[u32],
+    u: &[u16],
+    f: &[u64],
+    keep: &[u8],
+    left: &[u8],
+    scratch: &mut [u64],
+) -> Count
+    requires { ⌜ Ready (now s) (now t) (now u) (now f) (now keep) × (count-of field-line (lines 6 (now s)) ≤ length (now keep)) × Flagged (now s) (now left) ⌝ }
+    ensures { λ r. ⌜ Counted (now (s .entry)) (now (u .entry)) (now (keep .entry)) (length (now (scratch .entry))) r ⌝ }
+{
+    let n = tables::decls(s, t);
+    let mut c = Count {
+        room: true,
+        args: 0,
+        types: 0,
+        lines: 0,
+    };
+    for d in 0..n {
+        c = count_decl(s, t, u, f, keep, left, scratch, d, c);
+        if !c.room {
+            return c;
+        }
+    }
+    c
+}
