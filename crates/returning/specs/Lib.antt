@@ -1,2 +1,3 @@
 pub mod Returning
 pub mod ReturningLaws
+pub mod RowLaws
