@@ -1,10 +1,10 @@
--- `settling::cells` meets its contract, layout by layout. Assumes nothing.
+-- `name_states::cells` meets its contract, layout by layout. Assumes nothing.
 use native.Mathlib.Omega.{arith}
 use borrow.Author.Needs.{needs}
 use Rattle.sheet.specs.Sheet.{lines}
-use Rattle.settling.specs.CellsLaws.{told-erased, told-newtype, told-struct, told-abbreviation, told-opaque, payload-fits, last-fits}
-use Rattle.settling.proofs.cells.Statement.{statement}
-use Rattle.settling.proofs.cells.Tie as tie
+use Rattle.name_states.specs.CellsLaws.{told-erased, told-newtype, told-struct, told-abbreviation, told-opaque, payload-fits, last-fits}
+use Rattle.name_states.proofs.cells.Statement.{statement}
+use Rattle.name_states.proofs.cells.Tie as tie
 
 payload-requires : tie.Need-payload-requires
 payload-requires c κs =

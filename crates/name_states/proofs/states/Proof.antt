@@ -1,4 +1,4 @@
--- `settling::states` meets its contract: the cells of the declarations passed are those of their verdicts. Assumes nothing.
+-- `name_states::states` meets its contract: the cells of the declarations passed are those of their verdicts. Assumes nothing.
 use mathlib.Core.Path.{_≡_, refl, sym, _∙_}
 use Prim.Native.Nat.{_≤_, _<_, _-_, _+_, _*_}
 use native.Mathlib.Omega.{arith}
@@ -6,11 +6,11 @@ use borrow.Author.Needs.{needs}
 use lib.ListN.{length}
 use Rattle.sheet.specs.Sheet.{lines}
 use Rattle.tables.specs.Tables.{decls-of}
-use Rattle.settling.specs.Cells.{Filled}
-use Rattle.settling.specs.CellsLaws.{filled-none, filled-more, known, settled-at}
+use Rattle.name_states.specs.Cells.{Filled}
+use Rattle.name_states.specs.CellsLaws.{filled-none, filled-more, known, settled-at}
 use Rattle.arguments.specs.ParamsLaws.{decls-few}
-use Rattle.settling.proofs.states.Statement.{statement}
-use Rattle.settling.proofs.states.Tie as tie
+use Rattle.name_states.proofs.states.Statement.{statement}
+use Rattle.name_states.proofs.states.Tie as tie
 
 abbrev Inv-loop : tie.InvT-loop
 Inv-loop s t u₀ vs n d₀ u d = (d ≤ n) × (length u ≡ length u₀) × Filled (lines 6 s) vs d u

@@ -37,8 +37,8 @@ use Rattle.layouts.specs.declared.Verdict.{Verdict}
 use Rattle.layouts.specs.Layouts.{newtype-told, layout-told, no-verdict, Laid}
 use Rattle.payloads.specs.Payloads.{Payload}
 use Rattle.payloads.specs.PayloadsLaws.{close-uninline}
-use Rattle.settling.specs.KindLaws.{Fits, kind-is, layout-fits}
-use Rattle.settling.specs.Cells.{named, Cells, Told, Known, Put, Filled}
+use Rattle.name_states.specs.KindLaws.{Fits, kind-is, layout-fits}
+use Rattle.name_states.specs.Cells.{named, Cells, Told, Known, Put, Filled}
 
 -- an element is the same, whatever stands for one past the last
 any-default : {A : Type 0} (xs : List A) (i : ℕ) (x y : A) → i < length xs → getD xs i x ≡ getD xs i y

@@ -9,7 +9,7 @@ ghost use Rattle.sheet.specs.Sheet as sheet;
 ghost use Rattle.tables.specs.Tables as tables;
 ghost use Rattle.layouts.specs.Layouts as layouts;
 ghost use Rattle.states.specs.States as states;
-ghost use Rattle.settling.specs.Cells as cells;
+ghost use Rattle.name_states.specs.Cells as cells;
 
 // How a name is replaced, and by which Y line.
 struct Pair {

@@ -1,9 +1,9 @@
--- `settling::abbreviation` meets its contract: the two flags one after the other. Assumes nothing.
+-- `name_states::abbreviation` meets its contract: the two flags one after the other. Assumes nothing.
 use borrow.Author.Needs.{needs}
 use Rattle.sheet.specs.Sheet.{lines}
-use Rattle.settling.specs.CellsLaws.{named-realized, named-kept, named-not}
-use Rattle.settling.proofs.abbreviation.Statement.{statement}
-use Rattle.settling.proofs.abbreviation.Tie as tie
+use Rattle.name_states.specs.CellsLaws.{named-realized, named-kept, named-not}
+use Rattle.name_states.proofs.abbreviation.Statement.{statement}
+use Rattle.name_states.proofs.abbreviation.Tie as tie
 
 returns : tie.Need-returns
 returns c =
