@@ -1,0 +1,3 @@
+pub mod Returning
+pub mod ReturningLaws
+pub mod RowLaws
