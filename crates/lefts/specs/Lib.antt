@@ -1,1 +1,3 @@
 pub mod Lefts
+pub mod NumbersLaws
+pub mod ReadyLaws
