@@ -37,13 +37,14 @@ use Rattle.arguments.specs.ParamsLaws.{count-before-le, params-few}
 use Rattle.keeps.specs.Keeps.{Slotted}
 use Rattle.kept.specs.Kept.{body-kind, body-last}
 use Rattle.states.specs.States.{state, body-of, unfold-at, lay-of, Open, closed, Shape, resolves-of, Settled}
+use Rattle.states.specs.StatesLaws.{resolves-are, resolves-below}
 use Rattle.normal.specs.Nodes.{Node, post}
 use Rattle.normal.specs.NodesLaws.{length-post}
 use Rattle.normal.specs.Forms.{place, renamed}
 use Rattle.nodes.specs.Words.{word, node-of}
 use Rattle.forms.specs.Emit.{words, form-words, Asked}
 use Rattle.forms.specs.CodeLaws.{state-below}
-use Rattle.normal_forms.specs.LeftLaws.{held, Told, Answered, AnsweredOf, left-words}
+use Rattle.normal_forms.specs.LeftLaws.{held, Told, Answered, AnsweredOf, left-words, place-words}
 use Rattle.normal_forms.specs.HeldLaws.{Held, post-held, renamed-kept}
 use Rattle.lefts.specs.Lefts.{Ready, left-type}
 use Rattle.lefts.specs.NumbersLaws.{close-held, UnfoldHeld, resolve-held, types-held}
@@ -81,7 +82,7 @@ unfold-cases P ls u d p0 p1 p2 p3 = go (eqb (state u d) 0) refl (eqb (state u d)
     go false e0 false e1 true e2 = p2 (eqb-true (state u d) 2 e2)
     go false e0 false e1 false e2 = p3
 
-told-closed : (l : Unfold) → Told l (closed l)
+pub told-closed : (l : Unfold) → Told l (closed l)
 unfolding closed
 told-closed gone = tt
 told-closed (newtype ps c) = (refl, refl)
@@ -111,6 +112,9 @@ length-params ls p (suc n) = ap suc (length-params ls (suc p) n)
 pub record Listed (b u keep : List ℕ) : Type 0 where
   pub are : (d : ℕ) → d < decls-of (lines 6 b) → map (λ y. close (params-of (lines 6 b) d) (type-of (lines 6 b) y)) (resolves-of (lines 6 b) u keep d) ≡ resolves (layout-of-decl (program (lines 6 b)) d)
   pub below : (d y : ℕ) → d < decls-of (lines 6 b) → List·Memᴰ y (resolves-of (lines 6 b) u keep d) → y < count-of type-line (lines 6 b)
+
+pub listed-of : (b u keep : List ℕ) → Passed b → Slotted (lines 6 b) keep → Settled b u → Listed b u keep
+listed-of b u keep p k s = record { are = resolves-are b p u keep k s; below = λ d y h m. resolves-below b p u keep s d h y m }
 
 -- ---- what is accepted resolves
 module _ (b u keep : List ℕ) (passed : Passed b) (settled : Settled b u) (accepted : input-refusal base b ≡ Accepted) (listed : Listed b u keep) where
@@ -147,7 +151,7 @@ module _ (b u keep : List ℕ) (passed : Passed b) (settled : Settled b u) (acce
           (List·Memᴰ·head (s .3 x))
       go L-opaque s = absurd (omega (arith, s .0))
 
-  open-below : (d : ℕ) → Open u d → d < decls-of ls
+  pub open-below : (d : ℕ) → Open u d → d < decls-of ls
   open-below d o = state-below u d (state u d) (decls-of ls) refl (o .1) (omega (arith, settled .long))
 
   pub body-resolved : (d : ℕ) → Open u d → Resolved 1024 (lay ds) 100 (body-type d (body-of u d))
@@ -169,7 +173,10 @@ module _ (b u keep : List ℕ) (passed : Passed b) (settled : Settled b u) (acce
   params-small d v = omega (arith, place-le (params-of ls d) v, length-params ls (first-of param-line ls d) (first-of param-line ls (d + 1) - first-of param-line ls d), count-before-le param-line ls (start ls (d + 1)), params-few b passed)
 
 -- ---- the words of what is left
-module _ (b t u f keep : List ℕ) (ready : Ready b t u f keep) (listed : Listed b u keep) where
+module _ (b t u f keep : List ℕ) (ready : Ready b t u f keep) where
+  abbrev listed : Listed b u keep
+  listed = listed-of b u keep (ready .tabled .passed) (ready .slotted) (ready .settled)
+
   abbrev passed′ : Passed b
   passed′ = ready .tabled .passed
 
@@ -179,17 +186,20 @@ module _ (b t u f keep : List ℕ) (ready : Ready b t u f keep) (listed : Listed
   told : (n : ℕ) → Told (lay-of (lines 6 b) u n) (lay (program (lines 6 b)) n)
   told n = subst (Told (lay-of (lines 6 b) u n)) (sym (ready .settled .names n)) (told-closed (lay-of (lines 6 b) u n))
 
+  form-kept : (d : ℕ) → Open u d
+      → held (post (renamed (place (params-of (lines 6 b) d)) (left-type (lines 6 b) d (body-of u d)))) ≡ post (renamed (place (params-of (lines 6 b) d)) (left-type (lines 6 b) d (body-of u d)))
+  form-kept d o =
+      renamed-kept (place (params-of (lines 6 b) d)) (params-small b u keep passed′ (ready .settled) (ready .accepted) listed d) (left-type (lines 6 b) d (body-of u d))
+      (type-held b u keep passed′ (ready .settled) (ready .accepted) listed d (body-of u d)) (body-resolved b u keep passed′ (ready .settled) (ready .accepted) listed d o .small)
+
   answered-body : (d : ℕ) → Open u d
       → Answered 1024 b u f (ready .place) states-few (ready .forms) told (params-of (lines 6 b) d) (close (params-of (lines 6 b) d) (type-of (lines 6 b) (body-of u d)))
   answered-body d o =
-      let r = body-resolved b u keep passed′ (ready .settled) (ready .accepted) listed d o in
       record {
         fuel = 100;
         type = left-type (lines 6 b) d (body-of u d);
-        answers = r .answers;
-        kept =
-            renamed-kept (place (params-of (lines 6 b) d)) (params-small b u keep passed′ (ready .settled) (ready .accepted) listed d) (left-type (lines 6 b) d (body-of u d))
-            (type-held b u keep passed′ (ready .settled) (ready .accepted) listed d (body-of u d)) (r .small);
+        answers = body-resolved b u keep passed′ (ready .settled) (ready .accepted) listed d o .answers;
+        kept = form-kept d o;
       }
 
   answers : (n : ℕ) → AnsweredOf 1024 b u f (ready .place) states-few (ready .forms) told (lay (program (lines 6 b)) n)
@@ -198,6 +208,19 @@ module _ (b t u f keep : List ℕ) (ready : Ready b t u f keep) (listed : Listed
       subst (λ (l : Unfold). AnsweredOf 1024 b u f (ready .place) states-few (ready .forms) told l) (sym (ready .settled .names n))
       (unfold-cases (λ l. AnsweredOf 1024 b u f (ready .place) states-few (ready .forms) told (closed l)) (lines 6 b) u (position (program (lines 6 b)) n) (λ e. tt)
       (λ e. answered-body (position (program (lines 6 b)) n) (omega arith, omega arith)) (λ e. answered-body (position (program (lines 6 b)) n) (omega arith, omega arith)) tt)
+
+  -- the normal form of an unfolded declaration
+  pub ready-form : (d : ℕ) → Open u d → form-words f d ≡ map word (post (renamed (place (params-of (lines 6 b) d)) (left-type (lines 6 b) d (body-of u d))))
+  ready-form d o =
+      ready .forms .right d (open-below b u keep passed′ (ready .settled) (ready .accepted) listed d o, o)
+      ∙ place-words 1024 b u f (ready .place) states-few (ready .forms) told
+      (rank-of (program (lines 6 b)) (pass-no-return base b (room-verdict b (ready .accepted)) (room-left b (ready .accepted)) base-ample (accepted-all b (ready .accepted))))
+      (ranked (program (lines 6 b)) (pass-no-return base b (room-verdict b (ready .accepted)) (room-left b (ready .accepted)) base-ample (accepted-all b (ready .accepted))))
+      answers d (body-of u d) 100 (left-type (lines 6 b) d (body-of u d)) (body-resolved b u keep passed′ (ready .settled) (ready .accepted) listed d o .answers)
+
+  pub ready-form-nodes : (d : ℕ) → Open u d → map node-of (form-words f d) ≡ post (renamed (place (params-of (lines 6 b) d)) (left-type (lines 6 b) d (body-of u d)))
+  unfolding held
+  ready-form-nodes d o = ap (map node-of) (ready-form d o) ∙ form-kept d o
 
   module _ (d y : ℕ) (h : d < decls-of (lines 6 b)) (m : List·Memᴰ y (resolves-of (lines 6 b) u keep d)) where
     pub ready-words : words (lines 6 b) u f d false y ≡ map word (post (left-type (lines 6 b) d y))

@@ -25,7 +25,7 @@ use Rattle.arguments.specs.Params.{params-of}
 use Rattle.normal.specs.Nodes.{Node, post}
 use Rattle.normal.specs.Forms.{place, renamed, nodes}
 use Rattle.normal.specs.FormLaws.{Bound}
-use Rattle.normal.specs.FormsLaws.{Formed, nodes-left}
+use Rattle.normal.specs.FormsLaws.{Formed, nodes-post, nodes-left}
 use Rattle.normal.specs.TableLaws.{MadeOf, Made, forms-are, Alike, nodes-alike}
 use Rattle.normal.specs.BoundLaws.{program-bound}
 use Rattle.nodes.specs.Words.{word, node-of}
@@ -58,7 +58,7 @@ Told stays (newtype qs d) = ⊥
 Told stays (abbreviation qs d) = ⊥
 Told stays stays = Unit {0}
 
-told-alike : (l m : Unfold) (xs : List Node) → Told l m → Alike l m xs xs
+pub told-alike : (l m : Unfold) (xs : List Node) → Told l m → Alike l m xs xs
 told-alike gone gone xs h = tt
 told-alike gone (newtype qs d) xs h = absurd h
 told-alike gone (abbreviation qs d) xs h = absurd h
@@ -177,6 +177,14 @@ module _ (limit : ℕ) (b u f : List ℕ) (pos : ℕ) (states : length u ≤ 2 *
     -- every form of the table is what its body resolves to
     pub left-forms : (n : ℕ) → Formed limit (lay ds) (program-bound ls) (lay ds n) (form n)
     left-forms n = forms-are limit (lay ds) (program-bound ls) form held rank ranked made n
+
+    -- the words of a Y line's type, told by place, are the nodes of what it resolves to with its variables as places
+    pub place-words : (d y m : ℕ) (R : Cty) → resolve-checked limit (lay ds) m (close (params-of ls d) (type-of ls y)) ≡ ok R → words ls u f d true y ≡ map word (post (renamed (place (params-of ls d)) R))
+    unfolding words label
+    place-words d y m R e =
+        ap (map word)
+        (same-nodes (params-of ls d) (place (params-of ls d)) (type-of ls y)
+        ∙ nodes-post limit (lay ds) (program-bound ls) (params-of ls d) (place (params-of ls d)) form m (type-of ls y) R (all-of (λ n. Formed limit (lay ds) (program-bound ls) (lay ds n) (form n)) left-forms (type-of ls y)) e)
 
     -- and what is emitted of a Y line's type, told by name, is the nodes of what it resolves to, as words
     pub left-words : (d y m : ℕ) (R : Cty) → resolve-checked limit (lay ds) m (close (params-of ls d) (type-of ls y)) ≡ ok R → words ls u f d false y ≡ map word (post R)

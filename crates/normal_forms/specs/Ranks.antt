@@ -35,6 +35,9 @@ pub record Short (b u rank : List ℕ) (scratch room : ℕ) : Type 0 where
   pub decl : ℕ
   pub list : List ℕ
   pub place : ℕ
+  pub below : decl < decls-of (lines 6 b)
+  pub unfolded : Open u decl
+  pub of-level : getD rank decl 0 ≡ level
   pub table : Table b u list place (Done b u rank level decl)
   pub fits : (scratch < length (own-words (lines 6 b) u list decl)) ⊎ (room < place + length (own-words (lines 6 b) u list decl))
 

@@ -28,13 +28,21 @@ use Rattle.normal_forms.specs.Tables.{own-words, with-form, Names, Table
 use Rattle.normal_forms.specs.TablesLaws.{table-more}
 use Rattle.normal_forms.specs.Ranks.{Ranked, Done, Short, Reached, Formed}
 
--- less is done
-pub table-less : (b u f : List ℕ) (pos : ℕ) (P Q : ℕ → Type 0) → ((d : ℕ) → Q d → P d) → Table b u f pos P → Table b u f pos Q
-table-less b u f pos P Q g t =
-    record { head = t .head; room = t .room; cells = t .cells; above = λ d q. t .above d (g d q); right = λ d q. t .right d (g d q) }
+-- the same is done
+pub table-same : (b u f : List ℕ) (pos : ℕ) (P Q : ℕ → Type 0) → ((d : ℕ) → Q d → P d) → ((d : ℕ) → P d → Q d) → Table b u f pos P → Table b u f pos Q
+table-same b u f pos P Q g k t =
+    record {
+      head = t .head;
+      room = t .room;
+      cells = t .cells;
+      above = λ d q. t .above d (g d q);
+      right = λ d q. t .right d (g d q);
+      used = t .used;
+      fresh = λ d l. ⊎-elim (λ p. inl (k d p)) (λ z. inr z) (t .fresh d l);
+    }
 
 -- a name that is unfolded is that of an unfolded declaration
-unfolds-open : (ls : List Line) (u : List ℕ) (d : ℕ) → Unfolds (unfold-at ls u d) → Open u d
+pub unfolds-open : (ls : List Line) (u : List ℕ) (d : ℕ) → Unfolds (unfold-at ls u d) → Open u d
 unfolding unfold-at
 unfolds-open ls u d h = go (getD u (2 * d) 3) refl (eqb (getD u (2 * d) 3) 0) refl (eqb (getD u (2 * d) 3) 1) refl (eqb (getD u (2 * d) 3) 2) refl h
   where
@@ -56,7 +64,7 @@ module _ (b t u rank : List ℕ) (ranked : Ranked b t u rank) where
   open-below d o = state-below u d (getD u (2 * d) 3) n refl (o .1) (omega (arith, ranked .long))
 
   -- the unfolded names in a body are done, at a rank that is not below its own
-  names-done : (r i d : ℕ) → d < n → Open u d → getD rank d 0 ≤ r → Names ls u (Done b u rank r i) d
+  pub names-done : (r i d : ℕ) → d < n → Open u d → getD rank d 0 ≤ r → Names ls u (Done b u rank r i) d
   names-done r i d l o q =
       all-map (λ m. Unfolds (lay-of ls u m) → getD rank (position (program ls) m) 0 < getD rank d 0) (λ m. Unfolds (lay-of ls u m) → Done b u rank r i (position (program ls) m))
       (λ m k v. let o′ : Open u (position (program ls) m) = unfolds-open ls u (position (program ls) m) v in (open-below (position (program ls) m) o′, o′, omega (arith, k v), λ e. absurd (omega (arith, k v)))) (type-of ls (body-of u d)) (ranked .lower d l o)
@@ -77,7 +85,7 @@ module _ (b t u rank : List ℕ) (ranked : Ranked b t u rank) where
     reached-same f pos scratch other t =
         record {
           same = refl;
-          table = λ q. table-less b u f pos (Done b u rank r d) (Done b u rank r (d + 1)) (λ e h. (h .0, h .1, h .2, λ z. below e (h .3 z) (λ y. other (subst (Open u) y (h .1)) (subst (λ (j : ℕ). getD rank j 0 ≡ r) y z)))) t;
+          table = λ q. table-same b u f pos (Done b u rank r d) (Done b u rank r (d + 1)) (λ e h. (h .0, h .1, h .2, λ z. below e (h .3 z) (λ y. other (subst (Open u) y (h .1)) (subst (λ (j : ℕ). getD rank j 0 ≡ r) y z)))) (λ e h. (h .0, h .1, h .2, λ z. omega (arith, h .3 z))) t;
           short = λ q. absurd (omega (arith, t .room));
         }
       where
@@ -92,11 +100,18 @@ module _ (b t u rank : List ℕ) (ranked : Ranked b t u rank) where
           table = λ k. let z = x .room k in
               subst (λ (g : List ℕ). Table b u g e (Done b u rank r (d + 1))) (sym (z .1))
               (subst (λ (j : ℕ). Table b u (with-form f d pos (own-words ls u f d)) j (Done b u rank r (d + 1))) (sym (z .0))
-              (table-less b u (with-form f d pos (own-words ls u f d)) (pos + length (own-words ls u f d)) (λ i. Done b u rank r d i ⊎ (i ≡ d)) (Done b u rank r (d + 1)) (λ i h. split i h (eqb i d) refl)
+              (table-same b u (with-form f d pos (own-words ls u f d)) (pos + length (own-words ls u f d)) (λ i. Done b u rank r d i ⊎ (i ≡ d)) (Done b u rank r (d + 1)) (λ i h. split i h (eqb i d) refl) (λ i h. joined i h)
               (table-more b u f pos (Done b u rank r d) t d l (λ h. absurd (never (h .3 q))) (λ i h. (h .0, names-done r d i (h .0) (h .1) (h .2))) (names-done r d d l o (omega (arith, q))) (omega (arith, z .0, k)))));
-          short = λ k. record { level = r; decl = d; list = f; place = pos; table = t; fits = x .full k };
+          short = λ k. record { level = r; decl = d; list = f; place = pos; below = l; unfolded = o; of-level = q; table = t; fits = x .full k };
         }
       where
+        here : Done b u rank r (d + 1) d
+        here = (l, o, omega (arith, q), λ z. omega arith)
+
+        joined : (i : ℕ) → Done b u rank r d i ⊎ (i ≡ d) → Done b u rank r (d + 1) i
+        joined i (inl h) = (h .0, h .1, h .2, λ z. omega (arith, h .3 z))
+        joined i (inr z) = subst (λ (j : ℕ). Done b u rank r (d + 1) j) (sym z) here
+
         never : d < d → ⊥
         never h = omega arith
 
@@ -120,8 +135,11 @@ module _ (b t u rank : List ℕ) (ranked : Ranked b t u rank) where
   -- the next rank
   pub next-rank : (r : ℕ) (f : List ℕ) (p : ℕ) → Table b u f p (Done b u rank r n) → Table b u f p (Done b u rank (r + 1) 0)
   next-rank r f p t =
-      table-less b u f p (Done b u rank r n) (Done b u rank (r + 1) 0) (λ e h. (h .0, h .1, lower-rank (getD rank e 0) (h .2) (λ z. none e (h .3 z)), λ z. h .0)) t
+      table-same b u f p (Done b u rank r n) (Done b u rank (r + 1) 0) (λ e h. (h .0, h .1, lower-rank (getD rank e 0) (h .2) (λ z. none e (h .3 z)), λ z. h .0)) (λ e h. (h .0, h .1, omega (arith, h .2), λ z. absurd (over (getD rank e 0) (h .2) z))) t
     where
+      over : (x : ℕ) → x ≤ r → x ≡ r + 1 → ⊥
+      over x h z = omega arith
+
       none : (e : ℕ) → e < 0 → ⊥
       none e h = omega arith
 
@@ -137,6 +155,8 @@ module _ (b t u rank : List ℕ) (ranked : Ranked b t u rank) where
         cells = λ d l. omega (arith, z (2 * d) (omega arith), z (2 * d + 1) (omega arith));
         above = λ d k. absurd (none d (k .3 (zeroth (getD rank d 0) (k .2))));
         right = λ d k. absurd (none d (k .3 (zeroth (getD rank d 0) (k .2))));
+        used = omega arith;
+        fresh = λ d l. inr (z (2 * d + 1) (omega arith));
       }
     where
       none : (e : ℕ) → e < 0 → ⊥
@@ -150,7 +170,7 @@ module _ (b t u rank : List ℕ) (ranked : Ranked b t u rank) where
   formed-done sc f₀ f r p q l t =
       record {
         same = l;
-        table = λ z. table-less b u f p (Done b u rank r 0) (λ d. (d < n) × Open u d) (λ d h. (h .0, h .1, omega (arith, ranked .few d (h .0) (h .1)), λ e. absurd (omega (arith, ranked .few d (h .0) (h .1))))) t;
+        table = λ z. table-same b u f p (Done b u rank r 0) (λ d. (d < n) × Open u d) (λ d h. (h .0, h .1, omega (arith, ranked .few d (h .0) (h .1)), λ e. absurd (omega (arith, ranked .few d (h .0) (h .1))))) (λ d h. (h .0, h .1)) t;
         short = λ z. absurd (omega (arith, t .room, l));
       }
 

@@ -3,7 +3,7 @@ use mathlib.Core.Logic.{_⊎_}
 use mathlib.Core.Path.{_≡_}
 use mathlib.Core.List.{List, _++_}
 use mathlib.Core.Bool.{true}
-use Prim.Native.Nat.{ℕ, _+_, _*_, _≤_, _<_}
+use Prim.Native.Nat.{ℕ, zero, suc, _+_, _*_, _≤_, _<_}
 use lib.ListN.{length, getD, take, drop, set}
 use Rattle.sheet.specs.Line.{Line}
 use Rattle.sheet.specs.Sheet.{lines}
@@ -28,13 +28,20 @@ with-form f d pos ws = set (set (take pos f ++ (ws ++ drop (pos + length ws) f))
 abbrev pub Names : List Line → List ℕ → (ℕ → Type 0) → ℕ → Type 0
 Names ls u Done d = All (λ n. Unfolds (lay-of ls u n) → Done (position (program ls) n)) (type-of ls (body-of u d))
 
--- The forms of the declarations that are done are there, below place pos and above the cells.
+-- how many words the forms of the first n declarations have, by their cells
+unfoldable pub counts : List ℕ → ℕ → ℕ
+counts f zero = 0
+counts f (suc n) = counts f n + getD f (2 * n + 1) 0
+
+-- The forms of the declarations that are done are there, one behind the other below place pos and above the cells.
 pub record Table (b u f : List ℕ) (pos : ℕ) (Done : ℕ → Type 0) : Type 0 where
   pub head : 2 * decls-of (lines 6 b) ≤ pos
   pub room : pos ≤ length f
   pub cells : (d : ℕ) → d < decls-of (lines 6 b) → getD f (2 * d) 0 + getD f (2 * d + 1) 0 ≤ pos
   pub above : (d : ℕ) → Done d → 2 * decls-of (lines 6 b) ≤ getD f (2 * d) 0
   pub right : (d : ℕ) → Done d → form-words f d ≡ own-words (lines 6 b) u f d
+  pub used : pos ≤ 2 * decls-of (lines 6 b) + counts f (decls-of (lines 6 b))
+  pub fresh : (d : ℕ) → d < decls-of (lines 6 b) → Done d ⊎ (getD f (2 * d + 1) 0 ≡ 0)
 
 -- The words ws are added to the list f as declaration d's, r the place after them; where the list, or the scratch of so
 -- many words, is too short, r is past the end.

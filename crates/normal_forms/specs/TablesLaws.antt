@@ -27,7 +27,7 @@ use Rattle.nodes.specs.Words.{word, node-of}
 use Rattle.node_words.specs.Own.{label}
 use Rattle.states.specs.States.{body-of, lay-of}
 use Rattle.forms.specs.Emit.{form-words, form-of, words}
-use Rattle.normal_forms.specs.Tables.{own-words, with-form, Names, Table, Added}
+use Rattle.normal_forms.specs.Tables.{own-words, with-form, Names, counts, Table, Added}
 use Rattle.node_words.specs.Put.{Put}
 
 -- ---- the words of a type depend on the forms of its unfolded names alone
@@ -129,6 +129,33 @@ module _ (f ws : List ℕ) (d pos n : ℕ) (head : 2 * n ≤ pos) (below : d < n
           ∙ (sym (take-append-le l (drop s (take pos f)) (drop pos f) m)
           ∙ ap (take l) (sym (drop-append-le s (take pos f) (drop pos f) (omega (arith, front))) ∙ ap (drop s) (take-append-drop pos f))))
 
+-- ---- counts
+counts-past : (f g : List ℕ) (d n : ℕ) → ((e : ℕ) → e < n → (e ≡ d → ⊥) → getD g (2 * e + 1) 0 ≡ getD f (2 * e + 1) 0) → n ≤ d → counts g n ≡ counts f n
+unfolding counts
+counts-past f g d zero h l = refl
+counts-past f g d (suc n) h l = omega (arith, counts-past f g d n (λ e k. h e (omega arith)) (omega arith), h n (omega arith) (λ z. omega arith))
+
+-- one that was 0
+counts-more : (f g : List ℕ) (d x n : ℕ) → ((e : ℕ) → e < n → (e ≡ d → ⊥) → getD g (2 * e + 1) 0 ≡ getD f (2 * e + 1) 0) → getD f (2 * d + 1) 0 ≡ 0 → getD g (2 * d + 1) 0 ≡ x → d < n
+    → counts g n ≡ counts f n + x
+unfolding counts
+counts-more f g d x zero h z s l = absurd (omega arith)
+counts-more f g d x (suc n) h z s l = go (counts-more f g d x n (λ k q. h k (omega arith)) z s) (eqb n d) refl
+  where
+    go : (d < n → counts g n ≡ counts f n + x) → (c : Bool) → eqb n d ≡ c → counts g n + getD g (2 * n + 1) 0 ≡ counts f n + getD f (2 * n + 1) 0 + x
+    go ih true e =
+        let i : n ≡ d = eqb-true n d e in
+        let p : counts g n ≡ counts f n = counts-past f g d n (λ k q. h k (omega arith)) (omega arith) in
+        let zn : getD f (2 * n + 1) 0 ≡ 0 = ap (λ (k : ℕ). getD f (2 * k + 1) 0) i ∙ z in
+        let sn : getD g (2 * n + 1) 0 ≡ x = ap (λ (k : ℕ). getD g (2 * k + 1) 0) i ∙ s in
+        omega arith
+    go ih false e =
+        let i : n ≡ d → ⊥ = eqb-false n d e in
+        omega (arith, ih (other i), h n (omega arith) i)
+      where
+        other : (n ≡ d → ⊥) → d < n
+        other i = omega arith
+
 -- ---- a declaration more
 module _ (b u f : List ℕ) (pos : ℕ) (Done : ℕ → Type 0) (table : Table b u f pos Done) (d : ℕ) (below : d < decls-of (lines 6 b)) (new : Done d → ⊥)
     (inner : (e : ℕ) → Done e → (e < decls-of (lines 6 b)) × Names (lines 6 b) u Done e) (names : Names (lines 6 b) u Done d)
@@ -173,8 +200,19 @@ module _ (b u f : List ℕ) (pos : ℕ) (Done : ℕ → Type 0) (table : Table b
         cells = λ e l. cell e l (eqb e d) refl;
         above = λ e h. ⊎-elim (λ k. start e k) (λ z. subst (λ (i : ℕ). 2 * decls-of ls ≤ getD f′ (2 * i) 0) (sym z) (omega (arith, with-start f ws d pos (decls-of ls) (table .head) below inside, table .head))) h;
         right = λ e h. ⊎-elim (λ k. old e k ∙ (table .right e k ∙ same e (inner e k .1))) (λ z. rw z (with-new f ws d pos (decls-of ls) (table .head) below inside ∙ same d names)) h;
+        used =
+            omega (arith, table .used, counts-more f f′ d (length ws) (decls-of ls) (λ e l n. count e l n) (⊎-elim (λ k. absurd (new k)) (λ z. z) (table .fresh d below)) (with-count f ws d pos (decls-of ls) (table .head) below inside) below);
+        fresh = λ e l. unused e l (eqb e d) refl (table .fresh e l);
       }
     where
+      count : (e : ℕ) → e < decls-of ls → (e ≡ d → ⊥) → getD f′ (2 * e + 1) 0 ≡ getD f (2 * e + 1) 0
+      count e l n = with-other f ws d pos (decls-of ls) (table .head) below inside (2 * e + 1) (omega (arith, table .head)) (λ z. apart d e (sym z)) (λ z. n (half1 e d z))
+
+      unused : (e : ℕ) → e < decls-of ls → (c : Bool) → eqb e d ≡ c → Done e ⊎ (getD f (2 * e + 1) 0 ≡ 0) → Now e ⊎ (getD f′ (2 * e + 1) 0 ≡ 0)
+      unused e l true q x = inl (inr (eqb-true e d q))
+      unused e l false q (inl k) = inl (inl k)
+      unused e l false q (inr z) = inr (count e l (eqb-false e d q) ∙ z)
+
       start : (e : ℕ) → Done e → 2 * decls-of ls ≤ getD f′ (2 * e) 0
       start e k =
           let l : e < decls-of ls = inner e k .0 in
