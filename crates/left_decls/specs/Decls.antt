@@ -2,34 +2,21 @@
 use mathlib.Core.Path.{_≡_}
 use mathlib.Core.List.{List, [], _∷_, List·Memᴰ}
 use Prim.Native.Nat.{ℕ, _+_, _*_, _≤_, _<_}
-use lib.Dec.{eqb}
 use lib.ListN.{length}
-use Rattle.columns.specs.Column.{pick, _⇒_∥_}
 use Rattle.sheet.specs.Line.{Line}
 use Rattle.sheet.specs.Sheet.{lines}
 use Rattle.model.specs.Cty.{Cty}
-use Rattle.model.specs.Decl.{Field, Ctor, Body, TAbstract, TAbbrev, TRecord, TVariant, Dtype}
-use Rattle.meaning.specs.Program.{ctor-line, field-line}
+use Rattle.model.specs.Decl.{Field, Ctor, Dtype}
+use Rattle.meaning.specs.Program.{field-line}
 use Rattle.meaning.specs.Rows.{count-of}
 use Rattle.meaning.specs.Output.{field-lines, ctor-lines, decl-lines}
-use Rattle.tables.specs.Tables.{first-of, decls-of, Tabled}
-use Rattle.kept.specs.Kept.{body-kind, body-last}
-use Rattle.states.specs.States.{state, body-of, resolves-of}
-use Rattle.lefts.specs.Lefts.{left-type}
+use Rattle.tables.specs.Tables.{decls-of, Tabled}
+use Rattle.states.specs.States.{state, resolves-of}
+use Rattle.lefts.specs.BodyLaws.{left-body}
 use Rattle.places.specs.Places.{Writing, typed, seq, Typed}
-use Rattle.left_fields.specs.Fields.{left-fields}
-use Rattle.left_ctors.specs.Ctors.{left-ctors}
 use Rattle.left_heads.specs.Heads.{by-last, decl-with, framed, bare}
 
--- its body: a payload or a type, kept fields, constructors, or nothing
-unfoldable pub left-body : List Line → List ℕ → List ℕ → ℕ → Body
-left-body ls u keep d =
-    eqb (state u d) 1 ⇒ TAbbrev (left-type ls d (body-of u d)) ∥
-    eqb (body-kind ls d) 1 ⇒ TAbbrev (left-type ls d (body-last ls d)) ∥
-    eqb (body-kind ls d) 2 ⇒ TRecord (left-fields ls keep d (first-of field-line ls d) (body-last ls d)) ∥
-    eqb (body-kind ls d) 3 ⇒ TVariant (left-ctors ls keep d (first-of ctor-line ls d) (first-of field-line ls d) (body-last ls d)) ∥
-    TAbstract
-
+-- with the body that is left
 abbrev pub left-decl : List Line → List ℕ → List ℕ → ℕ → Dtype
 left-decl ls u keep d = decl-with ls d (left-body ls u keep d)
 

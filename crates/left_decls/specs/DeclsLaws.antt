@@ -27,6 +27,7 @@ use Rattle.kept.specs.Kept.{body-kind, body-last, field-type, ctor-fields, fiel
 use Rattle.kept.specs.KeptLaws.{fields-in, length-ctors-by, total-record, total-variant}
 use Rattle.states.specs.States.{state, body-of, kept-types, resolves-of}
 use Rattle.lefts.specs.Lefts.{left-type}
+use Rattle.lefts.specs.BodyLaws.{left-body}
 use Rattle.places.specs.declared.Place.{Place}
 use Rattle.places.specs.Places.{Writing, none, typed, seq, Growing, Room, Writes, Typed}
 use Rattle.places.specs.PlacesLaws.{growing-none, growing-seq, growing-typed, writes-as, room-as, room-first, room-rest, writes-seq}
@@ -36,7 +37,7 @@ use Rattle.left_ctors.specs.Ctors.{ctor-left, left-ctors, Ctors}
 use Rattle.left_ctors.specs.CtorsLaws.{growing-ctors}
 use Rattle.left_heads.specs.Heads.{by-last, decl-with, framed, bare}
 use Rattle.left_heads.specs.HeadsLaws.{growing-framed, room-last, writes-last}
-use Rattle.left_decls.specs.Decls.{left-body, left-decl, left-writing, abbreviated, recorded, varied, Given}
+use Rattle.left_decls.specs.Decls.{left-decl, left-writing, abbreviated, recorded, varied, Given}
 
 -- ---- an abbreviation
 module _ (ls : List Line) (d : ℕ) (c : Cty) (p q : Place) (out mid : List ℕ) (r : Room (abbreviated ls d c) p out) where
