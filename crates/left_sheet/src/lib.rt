@@ -1,6 +1,6 @@
 // Writes the left sheet of an accepted sheet into an output that has room for it.
 ghost use mathlib.Core.Path.{_≡_};
-ghost use Prim.Native.Nat.{suc, _*_, _≤_, _<_};
+ghost use Prim.Native.Nat.{_*_, _≤_};
 ghost use lib.ListN.{length};
 ghost use Rattle.sheet.specs.Format.{base};
 ghost use Rattle.sheet.specs.Sheet.{lines};
@@ -49,7 +49,7 @@ pub fn put_left(
     types: usize,
 )
     requires { ⌜ Ready (now s) (now t) (now u) (now f) (now keep) × Flagged (now s) (now left) × Fit (now s) (now u) (now keep) (length (now scratch)) ⌝ }
-    requires { ⌜ (count-of field-line (lines 6 (now s)) ≤ length (now keep)) × (length (now scratch) ≤ length (now stack)) × (types < 4294967296) ⌝ }
+    requires { ⌜ (count-of field-line (lines 6 (now s)) ≤ length (now keep)) × (length (now scratch) ≤ length (now stack)) ⌝ }
     requires { ⌜ (args ≡ length (left-written (lines 6 (now s)) .written .args)) × (types ≡ length (left-written (lines 6 (now s)) .written .types)) ⌝ }
     requires { ⌜ length (left-sheet base (lines 6 (now s))) ≤ length (now out) ⌝ }
     ensures { λ _. ⌜ now (out .exit) ≡ after (left-sheet base (lines 6 (now (s .entry)))) (now (out .entry)) ⌝ }
