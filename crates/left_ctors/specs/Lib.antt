@@ -1,0 +1,2 @@
+pub mod Ctors
+pub mod CtorsLaws

@@ -1,0 +1,67 @@
+// Writes the left sheet of an accepted sheet into an output that has room for it.
+ghost use mathlib.Core.Path.{_≡_};
+ghost use Prim.Native.Nat.{_*_, _≤_};
+ghost use lib.ListN.{length};
+ghost use Rattle.sheet.specs.Format.{base};
+ghost use Rattle.sheet.specs.Sheet.{lines};
+ghost use Rattle.sheet.specs.Output.{puts};
+ghost use Rattle.meaning.specs.Program.{name-line, field-line, select};
+ghost use Rattle.meaning.specs.Rows.{count-of};
+ghost use Rattle.answer.specs.Answer.{left-sheet, after};
+ghost use Rattle.tables.specs.Tables.{Tabled};
+ghost use Rattle.lefts.specs.Lefts.{Ready, Flagged, Fit, left-written};
+use copier::line_at;
+use left_program::put_decls;
+use parts::LINE;
+use places::Place;
+
+// How many N lines there are.
+fn names(s: &[u8], t: &[u32]) -> usize
+    requires { ⌜ Tabled (now s) (now t) ⌝ }
+    ensures { λ r. ⌜ r ≡ count-of name-line (lines 6 (now (s .entry))) ⌝ }
+{
+    t[tables::NAMES] as usize
+}
+
+// Copies the n N lines of the sheet to the front of the output.
+fn put_names(s: &[u8], t: &[u32], out: &mut [u8], n: usize)
+    requires { ⌜ Tabled (now s) (now t) × (n ≡ count-of name-line (lines 6 (now s))) × (32 * n ≤ length (now out)) ⌝ }
+    ensures { λ _. ⌜ now (out .exit) ≡ puts 6 (now (out .entry)) 0 (select name-line (lines 6 (now (s .entry)))) ⌝ }
+{
+    for i in 0..n {
+        let at = i * LINE;
+        line_at(out, i, &s[at..at + LINE]);
+    }
+}
+
+// The left sheet: its N lines, `args` A lines, `types` Y lines and what is left of the declarations.
+pub fn put_left(
+    s: &[u8],
+    t: &[u32],
+    u: &[u16],
+    f: &[u64],
+    keep: &[u8],
+    left: &[u8],
+    scratch: &mut [u64],
+    stack: &mut [u32],
+    out: &mut [u8],
+    args: usize,
+    types: usize,
+)
+    requires { ⌜ Ready (now s) (now t) (now u) (now f) (now keep) × Flagged (now s) (now left) × Fit (now s) (now u) (now keep) (length (now scratch)) ⌝ }
+    requires { ⌜ (count-of field-line (lines 6 (now s)) ≤ length (now keep)) × (length (now scratch) ≤ length (now stack)) ⌝ }
+    requires { ⌜ (args ≡ length (left-written (lines 6 (now s)) .written .args)) × (types ≡ length (left-written (lines 6 (now s)) .written .types)) ⌝ }
+    requires { ⌜ length (left-sheet base (lines 6 (now s))) ≤ length (now out) ⌝ }
+    ensures { λ _. ⌜ now (out .exit) ≡ after (left-sheet base (lines 6 (now (s .entry)))) (now (out .entry)) ⌝ }
+{
+    let n = names(s, t);
+    put_names(s, t, out, n);
+    let p = Place {
+        lists: n,
+        nodes: n + args,
+        args: 0,
+        types: 0,
+        line: n + args + types,
+    };
+    let q = put_decls(s, t, u, f, keep, left, scratch, stack, out, p);
+}
