@@ -11,6 +11,7 @@ use Rattle.model.specs.Decl.{NewtypeLayout, L-erased, L-newtype, L-struct, L-ab
 use Rattle.model.specs.Erasure.{erasure-fixpoint}
 use Rattle.model.specs.Run.{layout-of-decl}
 use Rattle.meaning.specs.Program.{field-line, program}
+use Rattle.meaning.specs.Rows.{count-of}
 use Rattle.tables.specs.Tables.{nth, decls-of, first-of}
 use Rattle.kids.specs.Nodes.{type-of}
 use Rattle.arguments.specs.Params.{params-of}
@@ -54,3 +55,4 @@ pub record Laid (ls : List Line) (vs : List Verdict) : Type 0 where
   pub long : length vs ≡ 96
   pub marks : (d : ℕ) → d < decls-of ls → getD vs d no-verdict .erased ≡ getD (erasure-fixpoint (program ls) .marks) d false
   pub layouts : (d : ℕ) → d < decls-of ls → layout-told ls d (getD vs d no-verdict .layout) ≡ layout-of-decl (program ls) d
+  pub fields : (d ctor f : ℕ) → d < decls-of ls → getD vs d no-verdict .layout ≡ Newtype ctor f → f < count-of field-line ls
