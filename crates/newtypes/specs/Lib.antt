@@ -1,0 +1,2 @@
+pub mod Newtypes
+pub mod NewtypesLaws
