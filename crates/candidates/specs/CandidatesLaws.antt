@@ -3,27 +3,25 @@ use mathlib.Core.Path.{_≡_, refl, ap, sym, _∙_}
 use mathlib.Core.List.{List}
 use mathlib.Core.Bool.{Bool, true, false, not}
 use mathlib.Core.Option.{Option, none, some}
-use Prim.Native.Nat.{ℕ, _+_, _/_, _%_, _≤_, _<_}
+use Prim.Native.Nat.{ℕ, _+_, _/_, _%_, _<_}
 use native.Mathlib.Omega.{arith}
-use lib.Dec.{eqb, ltb}
+use lib.Dec.{eqb}
 use lib.ListN.{length, getD, set, length-set}
 use lib.Seq.{getD-set-same, getD-set-other}
-use borrow.Author.Tests.{eq-eqb, ne-eqb, lt-ltb, le-ltb}
+use borrow.Author.Tests.{ne-eqb, lt-ltb, le-ltb}
 use Rattle.columns.specs.Column.{pick}
-use Rattle.sheet.specs.Format.{base}
 use Rattle.sheet.specs.Line.{Line, number}
 use Rattle.sheet.specs.Sheet.{lines}
-use Rattle.model.specs.Cty.{Cty, uninline}
-use Rattle.model.specs.Decl.{close, close-fields, has-flag, NoNewtype, NewtypeLayout, dtype-at, Decl}
+use Rattle.model.specs.Decl.{close, close-fields, has-flag, NoNewtype, NewtypeLayout, dtype-at}
 use Rattle.model.specs.Erasure.{erasure-fixpoint, marked}
 use Rattle.model.specs.Layout.{candidate, newtype-of, payload}
 use Rattle.model.specs.Laws.Layout.{candidate-at, getD-candidates}
 use Rattle.model.specs.Laws.Rounds.{cases-eq}
-use Rattle.meaning.specs.Program.{type-line, field-line, import-line, is, trees, dtype-of, program}
+use Rattle.meaning.specs.Program.{type-line, field-line, import-line, is, dtype-of, program}
 use Rattle.meaning.specs.Rows.{count-of}
 use Rattle.meaning.specs.Laws.Program.{length-program}
 use Rattle.refusals.specs.Rows.{Passed}
-use Rattle.tables.specs.Tables.{group, head-line, decls-of}
+use Rattle.tables.specs.Tables.{head-line, decls-of}
 use Rattle.declared.specs.DeclLaws.{dtype-is, origin-local, origin-import}
 use Rattle.marks.specs.Marks.{marks-of}
 use Rattle.marks.specs.MarksLaws.{marks-at}
@@ -36,7 +34,7 @@ use Rattle.payloads.specs.Payloads.{Payload}
 use Rattle.payloads.specs.PayloadsLaws.{close-uninline}
 use Rattle.newtypes.specs.declared.Only.{Only}
 use Rattle.newtypes.specs.declared.Only.the-variants.{Field, Nothing}
-use Rattle.newtypes.specs.Newtypes.{ctor-told, only-told}
+use Rattle.newtypes.specs.Newtypes.{only-told}
 use Rattle.candidates.specs.Candidates.{candidate-of, Sole, no-field, number-of, field-told, body-told, Body, Candidate, Partly, Candidates}
 
 -- ---- declaration d

@@ -2,17 +2,14 @@
 use newtypes::Only;
 ghost use mathlib.Core.Path.{_≡_};
 ghost use mathlib.Core.Option.{none};
-ghost use Prim.Native.Nat.{ℕ, _≤_, _<_};
+ghost use Prim.Native.Nat.{ℕ, _<_};
 ghost use lib.ListN.{length};
 ghost use Rattle.columns.specs.Column.{pick};
 ghost use Rattle.sheet.specs.Sheet as sheet;
-ghost use Rattle.model.specs.Erasure as erasure;
 ghost use Rattle.model.specs.Layout as layout;
 ghost use Rattle.meaning.specs.Program as program;
 ghost use Rattle.meaning.specs.Rows as rows;
 ghost use Rattle.tables.specs.Tables as tables;
-ghost use Rattle.marks.specs.Marks as marks;
-ghost use Rattle.keeps.specs.Keeps as keeps;
 ghost use Rattle.kept.specs.Kept as kept;
 ghost use Rattle.newtypes.specs.declared.Only.the-variants as only;
 ghost use Rattle.candidates.specs.Candidates as candidates;

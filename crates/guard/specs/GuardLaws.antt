@@ -1,18 +1,17 @@
 -- The guard's steps are the names in payloads. Assumes nothing.
-use mathlib.Core.Path.{_≡_, refl, ap, sym, _∙_}
-use mathlib.Core.List.{List, [], List·Memᴰ}
+use mathlib.Core.Path.{_≡_, refl, ap, _∙_}
+use mathlib.Core.List.{List, []}
 use mathlib.Core.Bool.{Bool, true, false}
-use mathlib.Core.Option.{Option, none, some}
-use Prim.Native.Nat.{ℕ, _*_, _≤_, _<_}
+use mathlib.Core.Option.{none, some}
+use Prim.Native.Nat.{ℕ, _*_, _≤_}
 use native.Mathlib.Omega.{arith}
 use lib.Dec.{ltb}
 use lib.ListN.{length, getD}
 use Rattle.columns.specs.Column.{pick}
 use Rattle.sheet.specs.Line.{Line}
-use Rattle.model.specs.Cty.{Cty, names-of-cty}
-use Rattle.model.specs.Decl.{close, bit, Decl, NewtypeLayout}
+use Rattle.model.specs.Decl.{close}
 use Rattle.model.specs.Erasure.{erasure-fixpoint}
-use Rattle.model.specs.Layout.{candidates-of, positions, names-in, type-names, steps, payload, guard-next, dropped}
+use Rattle.model.specs.Layout.{candidates-of, positions, names-in, type-names, steps, guard-next, dropped}
 use Rattle.model.specs.Laws.Cty.{close-names}
 use Rattle.model.specs.Laws.Layout.{guard-below}
 use Rattle.meaning.specs.Program.{type-line, program}
@@ -29,7 +28,7 @@ use Rattle.loops.specs.Loops.{Looped}
 use Rattle.loops.specs.LoopsLaws.{looped-as}
 use Rattle.edges.specs.Edges.{Edges}
 use Rattle.edges.specs.EdgesLaws.{Bodies, edges-hold}
-use Rattle.candidates.specs.Candidates.{candidate-of, body-told, Payloads}
+use Rattle.candidates.specs.Candidates.{body-told, Payloads}
 use Rattle.guard.specs.Guard.{next-of, Guarded}
 
 module _ (ls : List Line) where

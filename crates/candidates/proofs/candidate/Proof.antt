@@ -1,8 +1,4 @@
 -- `candidates::candidate` meets its contract, by the only kept field of a declaration that may collapse. Assumes nothing.
-use mathlib.Core.Path.{_≡_, sym, _∙_}
-use native.Mathlib.Omega.{arith}
-use borrow.Author.Needs.{needs}
-use Rattle.sheet.specs.Sheet.{lines}
 use Rattle.candidates.specs.CandidatesLaws.{kept-whole, only-told-by, only-small}
 use Rattle.candidates.proofs.candidate.Statement.{statement}
 use Rattle.candidates.proofs.candidate.Tie as tie

@@ -1,5 +1,5 @@
 -- `candidates::may_collapse` meets its contract, by the declaration's letter, mark and flags. Assumes nothing.
-use mathlib.Core.Path.{_≡_, sym, _∙_}
+use mathlib.Core.Path.{sym, _∙_}
 use native.Mathlib.Omega.{arith}
 use borrow.Author.Needs.{needs}
 use Rattle.sheet.specs.Sheet.{lines}

@@ -1,5 +1,5 @@
 -- `candidates::number` meets its contract. Assumes nothing.
-use mathlib.Core.Path.{_≡_, ap, sym}
+use mathlib.Core.Path.{ap, sym}
 use borrow.Author.Needs.{needs}
 use Rattle.candidates.specs.Candidates.{number-of}
 use Rattle.candidates.proofs.number.Statement.{statement}

@@ -1,6 +1,4 @@
 -- `guard::dropped` meets its contract: the search goes by the names in payloads. Assumes nothing.
-use mathlib.Core.Path.{_≡_}
-use native.Mathlib.Omega.{arith}
 use borrow.Author.Needs.{needs}
 use Rattle.sheet.specs.Sheet.{lines}
 use Rattle.guard.specs.GuardLaws.{guard-steps, guarded}
