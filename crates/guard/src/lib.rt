@@ -1,0 +1,31 @@
+// The guard against cycles: `acyclic_candidates`. From a candidate the search goes on to the candidates that its payload names, also
+// through those that are dropped themselves.
+ghost use Rattle.sheet.specs.Sheet as sheet;
+ghost use Rattle.meaning.specs.Program as program;
+ghost use Rattle.meaning.specs.Rows as rows;
+ghost use Rattle.tables.specs.Tables as tables;
+ghost use Rattle.namesets.specs.Mentions.{Mentioned};
+ghost use Rattle.candidates.specs.Candidates.{Payloads};
+ghost use Rattle.guard.specs.Guard.{Lent, Guarded};
+
+// 1 for each declaration whose candidate reaches itself.
+pub fn dropped(
+    s: &[u8],
+    t: &[u32],
+    sets: &[u64],
+    words: usize,
+    bodies: &[u16],
+    steps: &mut [u64],
+    marks: &mut [u64],
+    queue: &mut [u16],
+    found: &mut [u8],
+)
+    requires { ⌜ tables.Tabled (now s) (now t) ⌝ }
+    requires { ⌜ Mentioned (sheet.lines 6 (now s)) words (now sets) (rows.count-of program.type-line (sheet.lines 6 (now s))) ⌝ }
+    requires { ⌜ Payloads (sheet.lines 6 (now s)) (now bodies) ⌝ }
+    requires { ⌜ Lent (tables.decls-of (sheet.lines 6 (now s))) words (now steps) (now marks) (now queue) (now found) ⌝ }
+    ensures { λ _. ⌜ Guarded (sheet.lines 6 (now (s .entry))) (now (found .exit)) ⌝ }
+{
+    edges::edges(sets, words, tables::types(s, t), bodies, steps);
+    loops::loops(steps, words, bodies.len(), marks, queue, found);
+}

@@ -1,0 +1,140 @@
+// Layouts: `compute_layouts` over the table of a sheet that passed rows 1 to 7. An import has the layout of its V line; a local type's
+// is chosen by its mark, its body, its candidate and the guard.
+use layouts::Layout;
+use layouts::Verdict;
+ghost use mathlib.Core.Path.{_≡_};
+ghost use mathlib.Core.Bool.{true};
+ghost use Prim.Native.Nat.{_≤_, _<_};
+ghost use lib.ListN.{length};
+ghost use Rattle.sheet.specs.Sheet as sheet;
+ghost use Rattle.model.specs.Run as run;
+ghost use Rattle.meaning.specs.Program as program;
+ghost use Rattle.meaning.specs.Rows as rows;
+ghost use Rattle.tables.specs.Tables as tables;
+ghost use Rattle.keeps.specs.Keeps as keeps;
+ghost use Rattle.layouts.specs.Layouts as layouts;
+ghost use Rattle.candidates.specs.Candidates as candidates;
+ghost use Rattle.collapses.specs.Chosen as chosen;
+ghost use Rattle.laying.specs.Laying as laying;
+
+// A local type that is not erased, by its body.
+fn by_body(s: &[u8], t: &[u32], fields: &[u16], found: &[u8], d: usize) -> Layout
+    requires { ⌜ tables.Tabled (now s) (now t) ⌝ }
+    requires { ⌜ d < tables.decls-of (sheet.lines 6 (now s)) ⌝ }
+    requires { ⌜ chosen.Screened (sheet.lines 6 (now s)) (now fields) (now found) ⌝ }
+    ensures { λ r. ⌜ chosen.Chosen (sheet.lines 6 (now (s .entry))) d (laying.of-body (sheet.lines 6 (now (s .entry))) d) r ⌝ }
+{
+    let kind = tables::decl_number(s, t, d, 2);
+    if kind == 0 {
+        return Layout::Opaque;
+    }
+    if kind == 1 {
+        return Layout::Abbreviation;
+    }
+    collapses::collapse(s, t, fields, found, d)
+}
+
+// An import, by its V line.
+fn by_verdict(s: &[u8], t: &[u32], keep: &[u8], d: usize) -> Layout
+    requires { ⌜ tables.Tabled (now s) (now t) ⌝ }
+    requires { ⌜ (d < tables.decls-of (sheet.lines 6 (now s))) × (program.is program.import-line (tables.head-line (sheet.lines 6 (now s)) d) ≡ true) ⌝ }
+    requires { ⌜ keeps.Slotted (sheet.lines 6 (now s)) (now keep) × (rows.count-of program.field-line (sheet.lines 6 (now s)) ≤ length (now keep)) ⌝ }
+    ensures { λ r. ⌜ chosen.Chosen (sheet.lines 6 (now (s .entry))) d (run.layout-of-decl (program.program (sheet.lines 6 (now (s .entry)))) d) r ⌝ }
+{
+    let n = tables::verdict_number(s, t, d, 1);
+    if n == 0 {
+        return Layout::Erased;
+    }
+    if n == 1 {
+        return collapses::by_kept(s, t, keep, d);
+    }
+    if n == 2 {
+        return Layout::Struct;
+    }
+    if n == 3 {
+        if tables::decl_number(s, t, d, 2) == 1 {
+            return Layout::Abbreviation;
+        }
+    }
+    Layout::Opaque
+}
+
+// The layout of declaration d.
+fn layout_of(
+    s: &[u8],
+    t: &[u32],
+    decl: &[u8],
+    keep: &[u8],
+    fields: &[u16],
+    found: &[u8],
+    d: usize,
+) -> Layout
+    requires { ⌜ tables.Tabled (now s) (now t) ⌝ }
+    requires { ⌜ d < tables.decls-of (sheet.lines 6 (now s)) ⌝ }
+    requires { ⌜ candidates.Ruled (sheet.lines 6 (now s)) (now decl) (now keep) ⌝ }
+    requires { ⌜ chosen.Screened (sheet.lines 6 (now s)) (now fields) (now found) ⌝ }
+    ensures { λ r. ⌜ chosen.Chosen (sheet.lines 6 (now (s .entry))) d (run.layout-of-decl (program.program (sheet.lines 6 (now (s .entry)))) d) r ⌝ }
+{
+    if tables::is_import(s, t, d) {
+        return by_verdict(s, t, keep, d);
+    }
+    if decl[d] == 1 {
+        return Layout::Erased;
+    }
+    by_body(s, t, fields, found, d)
+}
+
+// The verdicts on all declarations, one after the other.
+fn lay_out(
+    s: &[u8],
+    t: &[u32],
+    decl: &[u8],
+    keep: &[u8],
+    fields: &[u16],
+    found: &[u8],
+    blank: [Verdict; 96],
+) -> [Verdict; 96]
+    requires { ⌜ tables.Tabled (now s) (now t) ⌝ }
+    requires { ⌜ candidates.Ruled (sheet.lines 6 (now s)) (now decl) (now keep) ⌝ }
+    requires { ⌜ chosen.Screened (sheet.lines 6 (now s)) (now fields) (now found) ⌝ }
+    requires { ⌜ length blank ≡ 96 ⌝ }
+    ensures { λ r. ⌜ layouts.Laid (sheet.lines 6 (now (s .entry))) r ⌝ }
+{
+    let mut verdicts = blank;
+    for d in 0..decl.len() {
+        let l = layout_of(s, t, decl, keep, fields, found, d);
+        verdicts[d] = Verdict {
+            erased: decl[d] == 1,
+            layout: l,
+        };
+    }
+    verdicts
+}
+
+// Verdicts that say nothing yet.
+fn blank() -> [Verdict; 96]
+    ensures { λ r. ⌜ length r ≡ 96 ⌝ }
+{
+    let none = Verdict {
+        erased: false,
+        layout: Layout::Opaque,
+    };
+    [none; 96]
+}
+
+// The verdict on every declaration.
+pub fn compute_layouts(
+    s: &[u8],
+    t: &[u32],
+    decl: &[u8],
+    keep: &[u8],
+    fields: &[u16],
+    found: &[u8],
+) -> [Verdict; 96]
+    requires { ⌜ tables.Tabled (now s) (now t) ⌝ }
+    requires { ⌜ candidates.Ruled (sheet.lines 6 (now s)) (now decl) (now keep) ⌝ }
+    requires { ⌜ chosen.Screened (sheet.lines 6 (now s)) (now fields) (now found) ⌝ }
+    ensures { λ r. ⌜ layouts.Laid (sheet.lines 6 (now (s .entry))) r ⌝ }
+{
+    lay_out(s, t, decl, keep, fields, found, blank())
+}
