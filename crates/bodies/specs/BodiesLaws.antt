@@ -20,7 +20,7 @@ use Rattle.model.specs.Erasure.{marked, cty-erased, fields-erased, body-erased,
 use Rattle.meaning.specs.Program.{name-line, type-line, import-line, param-line, ctor-line, field-line, is, select, before, Group, groups, trees, type-at, ctor-of, body-of, dtype-of, program}
 use Rattle.meaning.specs.Rows.{line-at, count-of, count-before, zeros-from, good-head, good-numbers}
 use Rattle.meaning.specs.Laws.Program.{select-append, head-cases}
-use Rattle.model.specs.Laws.Rounds.{cases-eq}
+use Rattle.model_laws.specs.Rounds.{cases-eq}
 use Rattle.limits.specs.Limits.{start, counts-of}
 use Rattle.limits.specs.LimitsLaws.{short-bytes}
 use Rattle.header.specs.OrderLaws.{count-of-le}

@@ -43,10 +43,10 @@ use Rattle.meaning.specs.Laws.Verdict.{verdict-line-at}
 use Rattle.answer.specs.Answer.{rows, Refuses, Answer, verdict-sheet, left-sheet, answer, after, Passes}
 use Rattle.model.specs.Names.{Declared, Agree, OwnImports}
 use Rattle.answer.specs.Cut.{Faultless, Sheets, build, builds, join, Cut, Call, Over, InTurn, last-call, AllAccept, Wrote}
-use Rattle.model.specs.Laws.Erasure.{erasure-solves, erasure-least, erasure-made, erasure-rounds}
-use Rattle.model.specs.Laws.Layout as layouts
-use Rattle.model.specs.Laws.Cty.{every-mem}
-use Rattle.model.specs.Laws.Run.{getD-infos, local-info, import-info, import-layout}
+use Rattle.model_laws.specs.Erasure.{erasure-solves, erasure-least, erasure-made, erasure-rounds}
+use Rattle.model_laws.specs.Layout as layouts
+use Rattle.model_laws.specs.Cty.{every-mem}
+use Rattle.model_laws.specs.Run.{getD-infos, local-info, import-info, import-layout}
 use Rattle.locality.specs.Laws.Locality.{marks-local, layouts-local, info-local, left-local, fault-local, returns-local}
 use Rattle.locality.specs.Laws.Fuel.{fuel-same}
 use Rattle.locality.specs.Laws.Rename.{Injective, rename-decls, SameRenamed, locality-renamed}

@@ -36,8 +36,8 @@ use Rattle.model.specs.Cty.{
 }
 use Rattle.model.specs.Decl.{member, close}
 use Rattle.model.specs.Resolve.{Unfold, gone, newtype, abbreviation, stays, attach, Result, ok, fault, spent, bind, resolve-checked}
-use Rattle.model.specs.Laws.Cty.{attach-nil, subst-none}
-use Rattle.model.specs.Laws.Resolve.{Unspent}
+use Rattle.model_laws.specs.Cty.{attach-nil, subst-none}
+use Rattle.model_laws.specs.Resolve.{Unspent}
 use Rattle.outcomes.specs.Outcome.{
   coded,
   nodes,

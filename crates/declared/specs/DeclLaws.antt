@@ -42,7 +42,7 @@ use Rattle.meaning.specs.Program.{
   program,
 }
 use Rattle.meaning.specs.Rows.{line-at, count-of, count-before, heads-before, raws, due, due-header, due-after, is-broken, row3}
-use Rattle.model.specs.Laws.Lists.{getD-map}
+use Rattle.model_laws.specs.Lists.{getD-map}
 use Rattle.meaning.specs.Laws.Program.{
   None,
   Starts,

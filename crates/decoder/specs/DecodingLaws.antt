@@ -18,7 +18,7 @@ use Rattle.sheet.specs.ListLaws.{false-true}
 use Rattle.model.specs.Decl.{table}
 use Rattle.meaning.specs.Program.{local-line, import-line, param-line, ctor-line, field-line, verdict-line, is, is-head, Group, groups, select}
 use Rattle.meaning.specs.Rows.{line-at, count-of, count-before, heads-before}
-use Rattle.model.specs.Laws.Lists.{length-table, getD-table}
+use Rattle.model_laws.specs.Lists.{length-table, getD-table}
 use Rattle.meaning.specs.Laws.Program.{Whole, head-cases, group-at, heads-before-lt, select-append, select-none, select-yes}
 use Rattle.order.specs.StepLaws.{count-before-step, heads-before-step, count-before-le, heads-before-le, count-before-mono, heads-before-mono}
 use Rattle.limits.specs.Limits.{start}

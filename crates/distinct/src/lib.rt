@@ -56,7 +56,7 @@ pub fn row6(s: &[u8], names: usize, from: usize) -> usize
     requires { ⌜ from ≡ header (sheet.lines 6 (now s)) ⌝ }
     ensures { λ r. ⌜ r ≡ sheet.first (rows.row6 (sheet.lines 6 (now (s .entry)))) (sheet.count 6 (now (s .entry))) ⌝ }
 {
-    let spelled = spellings::respelled(s, names);
+    let spelled = respellings::respelled(s, names);
     let named = repeated(s, from);
     least(spelled, named)
 }

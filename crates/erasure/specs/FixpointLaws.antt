@@ -14,9 +14,9 @@ use Rattle.model.specs.Decl.{Decl, TypeInfo, here, imported, no-decl, origin-at
 use Rattle.model.specs.Erasure.{rule, settle, start-of, start, erasure-fixpoint}
 use Rattle.meaning.specs.Program.{name-line, type-line, import-line, verdict-line, is, dtype-of, trees, info-of, verdict-of, program}
 use Rattle.meaning.specs.Rows.{count-of}
-use Rattle.model.specs.Laws.Lists.{trues}
-use Rattle.model.specs.Laws.Rounds.{Le, Sound, cases-eq}
-use Rattle.model.specs.Laws.Erasure.{length-start, start-at, start-sound}
+use Rattle.model_laws.specs.Lists.{trues}
+use Rattle.model_laws.specs.Rounds.{Le, Sound, cases-eq}
+use Rattle.model_laws.specs.Erasure.{length-start, start-at, start-sound}
 use Rattle.meaning.specs.Laws.Program.{length-program}
 use Rattle.limits.specs.Limits.{counts-of}
 use Rattle.type_lists.specs.TypeLists.{types-of}

@@ -11,7 +11,7 @@ use lib.Seq.{getD-set-same, getD-set-other, getD-append-add, getD-drop, sets, se
 use borrow.Author.Tests.{ltb-true, ltb-false}
 use Rattle.sheet.specs.Line.{number}
 use Rattle.sheet.specs.Sheet.{line, lines}
-use Rattle.model.specs.Laws.Rounds.{cases-eq}
+use Rattle.model_laws.specs.Rounds.{cases-eq}
 use Rattle.tables.specs.declared.Sizes.{Sizes}
 use Rattle.tables.specs.Tables.{cells, header, cells-of}
 use Rattle.sizing.specs.declared.Seen.{Seen}

@@ -28,7 +28,7 @@ use Rattle.node_words.specs.Own.{y-node, label}
 use Rattle.node_words.specs.Put.{Put, put-none, put-more, put-stop}
 use Rattle.states.specs.States.{unfold-at, lay-of}
 use Rattle.forms.specs.Emit.{run, step, filled, grown, form-words, words, kid-words, Asked}
-use Rattle.model.specs.Laws.Names.{position-le}
+use Rattle.model_laws.specs.Names.{position-le}
 use Rattle.meaning.specs.Laws.Program.{length-program}
 use Rattle.arguments.specs.ParamsLaws.{decls-few}
 use Rattle.kids.specs.NodesLaws.{node-at, kids-8, args-few}

@@ -21,7 +21,7 @@ use Rattle.model.specs.Decl.{table}
 use Rattle.meaning.specs.Program.{name-line, arg-line, type-line, param-line, field-line, ctor-line, verdict-line, is, select}
 use Rattle.meaning.specs.Rows.{count-of, count-before, raw, raws, announced, due-header, due, due-after, is-broken, row3}
 use Rattle.sheet.specs.SheetLaws.{letter-good, length-lines, getD-lines}
-use Rattle.model.specs.Laws.Lists.{length-table}
+use Rattle.model_laws.specs.Lists.{length-table}
 use Rattle.header.specs.Header.{header, Headed}
 
 -- ---- order

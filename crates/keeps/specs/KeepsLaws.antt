@@ -19,9 +19,9 @@ use Rattle.model.specs.Layout.{layouts-of-ctors, slots, ctor-layout, ctor-layou
 use Rattle.meaning.specs.Output.{all-slots}
 use Rattle.meaning.specs.Program.{type-line, param-line, ctor-line, field-line, import-line, is, select, before, Group, groups, trees, type-at, field-of, ctor-of, body-of, dtype-of, keeps, keeps-of, ctor-layouts-by, info-of, verdict-of, program}
 use Rattle.meaning.specs.Rows.{count-of}
-use Rattle.model.specs.Laws.Lists.{getD-map}
+use Rattle.model_laws.specs.Lists.{getD-map}
 use Rattle.meaning.specs.Laws.Program.{Whole}
-use Rattle.model.specs.Laws.Rounds.{cases-eq}
+use Rattle.model_laws.specs.Rounds.{cases-eq}
 use Rattle.limits.specs.Limits.{counts-of}
 use Rattle.refusals.specs.Rows.{Passed}
 use Rattle.refusals.specs.RowsLaws.{passed-kept}

@@ -18,7 +18,7 @@ use Rattle.sheet.specs.SheetLaws.{length-lines}
 use Rattle.model.specs.Cty.{Cty, Ctys, TUnit, TAny, TExn, TVar, TInt, TFloat, TConst, TArrow, TApp, TTuple, TBuf, TRef, TInline, nil, cons, append}
 use Rattle.meaning.specs.Program.{name-line, arg-line, type-line, is, select, list-of, tree, trees-after, trees}
 use Rattle.meaning.specs.Rows.{count-of, count-before, line-at, some-below, zeros-from, is-list, good-type, good-numbers, row5}
-use Rattle.model.specs.Laws.Lists.{getD-map}
+use Rattle.model_laws.specs.Lists.{getD-map}
 use Rattle.meaning.specs.Laws.Written.{trees-after-later}
 use Rattle.limits.specs.Limits.{counts-of}
 use Rattle.refusals.specs.Rows.{Passed}

@@ -23,7 +23,7 @@ use Rattle.meaning.specs.Rows.{line-at, count-before, heads-before, params-afte
 use Rattle.order.specs.StepLaws.{count-before-step, heads-before-step, params-after-suc, count-before-le, heads-before-le, params-after-le, heads-before-mono}
 use Rattle.limits.specs.declared.Tally.{Tally}
 use Rattle.limits.specs.Limits.{head-letter, none, tally-before, counted, past, Small, start, starts-of, counts-of, Kept}
-use Rattle.model.specs.Laws.Lists.{length-table, getD-table}
+use Rattle.model_laws.specs.Lists.{length-table, getD-table}
 
 -- ---- letters
 -- a letter by the kind of its lines

@@ -6,7 +6,7 @@ use lib.ListN.{length, getD}
 use Rattle.sheet.specs.Sheet.{first}
 use Rattle.model.specs.Decl.{bit}
 use Rattle.model.specs.Reach.{cyclic}
-use Rattle.model.specs.Laws.Reach.{rank}
+use Rattle.model_laws.specs.Reach.{rank}
 use Rattle.search.specs.declared.Found.{Found}
 use Rattle.search.specs.declared.Found.the-variants.{Start, Reached}
 

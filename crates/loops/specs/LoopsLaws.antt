@@ -12,7 +12,7 @@ use Rattle.sheet.specs.Sheet.{first}
 use Rattle.sheet.specs.FirstLaws.{place-unique, first-place, first-before, first-congr}
 use Rattle.model.specs.Decl.{bit}
 use Rattle.model.specs.Reach.{Reach, cyclic}
-use Rattle.model.specs.Laws.Reach.{rank, rank-less, rank-bound, cyclic-complete}
+use Rattle.model_laws.specs.Reach.{rank, rank-less, rank-bound, cyclic-complete}
 use Rattle.search.specs.declared.Found.{Found}
 use Rattle.search.specs.declared.Found.the-variants.{Start, Reached}
 use Rattle.search.specs.Search.{steps, Searched}

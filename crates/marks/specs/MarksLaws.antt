@@ -17,7 +17,7 @@ use Rattle.model.specs.Decl.{position, bit}
 use Rattle.model.specs.Erasure.{is-pure, cty-erased, ctys-erased, marked}
 use Rattle.meaning.specs.Program.{name-line, arg-line, type-line, select, list-of, tree, trees, program}
 use Rattle.meaning.specs.Rows.{count-of}
-use Rattle.model.specs.Laws.Rounds.{cases-eq}
+use Rattle.model_laws.specs.Rounds.{cases-eq}
 use Rattle.limits.specs.Limits.{counts-of}
 use Rattle.type_lists.specs.TypeLists.{types-of}
 use Rattle.type_lines.specs.TypeLinesLaws.{past}

@@ -7,4 +7,3 @@ pub mod Resolve
 pub mod Run
 pub mod Names
 pub mod Cases
-pub mod Laws

@@ -57,11 +57,11 @@ use Rattle.model.specs.Layout.{layouts-of-ctors, slots, kept, ctor-layout, ctor
 use Rattle.meaning.specs.Program.{import-line, is, is-head, Group, groups, keeps-of, ctor-layouts-by, abbreviated, layout-by, info-of, verdict-of, dtype-of, decl-of, trees, program}
 use Rattle.model.specs.Resolve.{Unfold, gone, newtype, abbreviation, stays, unfold-body, unfold-dtype, unfold-of}
 use Rattle.model.specs.Run.{layouts-of, lay, layout-of-decl}
-use Rattle.model.specs.Laws.Cty.{Each, Any, all-of, close-each}
-use Rattle.model.specs.Laws.Layout.{getD-layouts, getD-candidates}
+use Rattle.model_laws.specs.Cty.{Each, Any, all-of, close-each}
+use Rattle.model_laws.specs.Layout.{getD-layouts, getD-candidates}
 use Rattle.locality.specs.Laws.Locality.{lay-declared, lay-foreign}
-use Rattle.model.specs.Laws.Names.{declared-cases}
-use Rattle.model.specs.Laws.Resolve.{Fields, Kept, Ctors, BodyTypes}
+use Rattle.model_laws.specs.Names.{declared-cases}
+use Rattle.model_laws.specs.Resolve.{Fields, Kept, Ctors, BodyTypes}
 use Rattle.normal.specs.FormLaws.{BodyBound, Bound}
 
 -- ---- layouts are made of their declarations' types

@@ -65,7 +65,7 @@ use Rattle.model.specs.Resolve.{
   checkeds,
   resolve-checked,
 }
-use Rattle.model.specs.Laws.Cty.{
+use Rattle.model_laws.specs.Cty.{
   Each,
   Eachs,
   Any,
@@ -76,7 +76,7 @@ use Rattle.model.specs.Laws.Cty.{
   lengths-append,
   lengths-firsts,
 }
-use Rattle.model.specs.Laws.Resolve.{Stays, Normal, checked-resolves, resolve-stays}
+use Rattle.model_laws.specs.Resolve.{Stays, Normal, checked-resolves, resolve-stays}
 use Rattle.normal.specs.SubstLaws.{
   append-assoc,
   firsts-append,

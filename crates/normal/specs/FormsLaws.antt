@@ -54,7 +54,7 @@ use Rattle.model.specs.Resolve.{
   checkeds,
   resolve-checked,
 }
-use Rattle.model.specs.Laws.Cty.{
+use Rattle.model_laws.specs.Cty.{
   Each,
   Any,
   All,
@@ -73,7 +73,7 @@ use Rattle.model.specs.Laws.Cty.{
   lengths-firsts,
   attach-nil,
 }
-use Rattle.model.specs.Laws.Resolve.{Stays, Normal, checked-normal}
+use Rattle.model_laws.specs.Resolve.{Stays, Normal, checked-normal}
 use Rattle.normal.specs.SubstLaws.{firsts-walks, others-walks, lengths-walks, walk-subst, walks-append, look-walks, instance-zip}
 use Rattle.normal.specs.FormLaws.{BodyBound, Bound, bind-ok, within-ok, ok-same, newtype-ok, abbreviation-ok, surplus-ok, resolve-put}
 use Rattle.normal.specs.Nodes.{Node, node, post, posts, spread, attached}

@@ -39,7 +39,7 @@ use Rattle.model.specs.Cty.{
 }
 use Rattle.model.specs.Decl.{member}
 use Rattle.model.specs.Resolve.{attach, instance, is-app}
-use Rattle.model.specs.Laws.Cty.{Each, Any, each-map, walk-cong}
+use Rattle.model_laws.specs.Cty.{Each, Any, each-map, walk-cong}
 
 -- ---- lists
 pub append-assoc : (ts us vs : Ctys) → append (append ts us) vs ≡ append ts (append us vs)

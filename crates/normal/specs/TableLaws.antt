@@ -29,8 +29,8 @@ use Rattle.model.specs.Cty.{
 }
 use Rattle.model.specs.Decl.{close}
 use Rattle.model.specs.Resolve.{Unfold, gone, newtype, abbreviation, stays, Result, ok, resolve-checked}
-use Rattle.model.specs.Laws.Cty.{All, Alls, all-map, all-names, names-all, close-names}
-use Rattle.model.specs.Laws.Resolve.{Unfolds, BodyAll, Under, Ranked}
+use Rattle.model_laws.specs.Cty.{All, Alls, all-map, all-names, names-all, close-names}
+use Rattle.model_laws.specs.Resolve.{Unfolds, BodyAll, Under, Ranked}
 use Rattle.normal.specs.Nodes.{Node, node, post}
 use Rattle.normal.specs.Forms.{place, renamed, joined, placed, named, nodes, nodes-each}
 use Rattle.normal.specs.FormLaws.{Bound}

@@ -28,7 +28,7 @@ use Rattle.model.specs.Cty.{
   size,
   sizes,
 }
-use Rattle.model.specs.Laws.Cty.{size-positive}
+use Rattle.model_laws.specs.Cty.{size-positive}
 use Rattle.normal.specs.Nodes.{Node, node, post, posts}
 use Rattle.normal.specs.Forms.{renamed}
 use Rattle.nodes.specs.WordsLaws.{Room, nodes-words}

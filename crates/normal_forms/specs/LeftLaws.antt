@@ -16,8 +16,8 @@ use Rattle.model.specs.Cty.{Cty}
 use Rattle.model.specs.Decl.{Decl, position, close}
 use Rattle.meaning.specs.Program.{program}
 use Rattle.model.specs.Resolve.{Unfold, gone, newtype, abbreviation, stays, ok, resolve-checked}
-use Rattle.model.specs.Laws.Cty.{All, all-of}
-use Rattle.model.specs.Laws.Resolve as resolve
+use Rattle.model_laws.specs.Cty.{All, all-of}
+use Rattle.model_laws.specs.Resolve as resolve
 use Rattle.model.specs.Run.{lay}
 use Rattle.tables.specs.Tables.{decls-of}
 use Rattle.kids.specs.Nodes.{type-of}

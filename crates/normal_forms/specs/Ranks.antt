@@ -8,8 +8,8 @@ use Rattle.sheet.specs.Sheet.{lines}
 use Rattle.model.specs.Decl.{position}
 use Rattle.meaning.specs.Program.{program, type-line}
 use Rattle.meaning.specs.Rows.{count-of}
-use Rattle.model.specs.Laws.Cty.{All}
-use Rattle.model.specs.Laws.Resolve.{Unfolds}
+use Rattle.model_laws.specs.Cty.{All}
+use Rattle.model_laws.specs.Resolve.{Unfolds}
 use Rattle.tables.specs.Tables.{decls-of, Tabled}
 use Rattle.kids.specs.Nodes.{type-of}
 use Rattle.states.specs.States.{body-of, lay-of, Open}

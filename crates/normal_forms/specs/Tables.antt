@@ -11,8 +11,8 @@ use Rattle.model.specs.Decl.{position}
 use Rattle.meaning.specs.Program.{program}
 use Rattle.tables.specs.Tables.{decls-of}
 use Rattle.kids.specs.Nodes.{type-of}
-use Rattle.model.specs.Laws.Cty.{All}
-use Rattle.model.specs.Laws.Resolve.{Unfolds}
+use Rattle.model_laws.specs.Cty.{All}
+use Rattle.model_laws.specs.Resolve.{Unfolds}
 use Rattle.states.specs.States.{body-of, lay-of}
 use Rattle.forms.specs.Emit.{form-words, words}
 

@@ -15,8 +15,8 @@ use Rattle.model.specs.Cty.{Cty}
 use Rattle.model.specs.Decl.{position}
 use Rattle.meaning.specs.Program.{program}
 use Rattle.model.specs.Resolve.{Unfold, gone, newtype, abbreviation, stays}
-use Rattle.model.specs.Laws.Cty.{All, all-map}
-use Rattle.model.specs.Laws.Resolve.{Unfolds}
+use Rattle.model_laws.specs.Cty.{All, all-map}
+use Rattle.model_laws.specs.Resolve.{Unfolds}
 use Rattle.tables.specs.Tables.{decls-of}
 use Rattle.kids.specs.Nodes.{type-of}
 use Rattle.arguments.specs.Params.{params-of}

@@ -117,7 +117,7 @@ fn apply(
     }
     let d = tables::decl_of(s, t, n);
     let r = enter(s, t, u, out, slots, k, d, at, count);
-    memory::remember(slots, n, out, at, count, r);
+    remembering::remember(slots, n, out, at, count, r);
     r
 }
 

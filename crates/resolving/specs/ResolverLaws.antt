@@ -16,8 +16,8 @@ use Rattle.model.specs.Decl.{position}
 use Rattle.meaning.specs.Program.{name-line, type-line, program}
 use Rattle.meaning.specs.Rows.{count-of}
 use Rattle.model.specs.Resolve.{Unfold, gone, newtype, abbreviation, stays, Result, ok, fault, spent, bind}
-use Rattle.model.specs.Laws.Cty.{size-positive}
-use Rattle.model.specs.Laws.Names.{position-le}
+use Rattle.model_laws.specs.Cty.{size-positive}
+use Rattle.model_laws.specs.Names.{position-le}
 use Rattle.meaning.specs.Laws.Program.{length-program}
 use Rattle.limits.specs.Limits.{counts-of}
 use Rattle.refusals.specs.Rows.{Passed}

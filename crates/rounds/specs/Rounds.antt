@@ -10,8 +10,8 @@ use Rattle.model.specs.Decl.{Decl, position, bit}
 use Rattle.model.specs.Erasure.{rule, update, Settled, settle, start, round}
 use Rattle.meaning.specs.Program.{type-line, import-line, is, program}
 use Rattle.meaning.specs.Rows.{count-of}
-use Rattle.model.specs.Laws.Lists.{trues}
-use Rattle.model.specs.Laws.Rounds.{Le, Sound}
+use Rattle.model_laws.specs.Lists.{trues}
+use Rattle.model_laws.specs.Rounds.{Le, Sound}
 use Rattle.tables.specs.Tables.{decls-of, head-line}
 use Rattle.marks.specs.Marks.{part, marks-of, type-erased}
 use Rattle.bodies.specs.Bodies.{State}

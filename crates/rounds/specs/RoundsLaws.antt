@@ -17,9 +17,9 @@ use Rattle.model.specs.Decl.{Decl, origin-at, here, imported, position, bit}
 use Rattle.model.specs.Erasure.{is-pure, cty-erased, ctys-erased, marked, rule-of, rule, update, sweep, same, Settled, settle, start-of, start, round}
 use Rattle.meaning.specs.Program.{name-line, arg-line, type-line, field-line, import-line, is, list-of, trees, program}
 use Rattle.meaning.specs.Rows.{count-of}
-use Rattle.model.specs.Laws.Lists.{trues, true-of}
-use Rattle.model.specs.Laws.Rounds.{At, Le, At-lt, cases-eq, trues-le, same-eq, same-refl, Sound, length-round}
-use Rattle.model.specs.Laws.Erasure.{cty-erased-mono, rule-mono, start-at}
+use Rattle.model_laws.specs.Lists.{trues, true-of}
+use Rattle.model_laws.specs.Rounds.{At, Le, At-lt, cases-eq, trues-le, same-eq, same-refl, Sound, length-round}
+use Rattle.model_laws.specs.Erasure.{cty-erased-mono, rule-mono, start-at}
 use Rattle.meaning.specs.Laws.Program.{length-program}
 use Rattle.type_lists.specs.TypeLists.{types-of}
 use Rattle.limits.specs.Limits.{counts-of}

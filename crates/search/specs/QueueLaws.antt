@@ -10,9 +10,9 @@ use native.Mathlib.Decide.{decLt}
 use lib.ListN.{length, getD, set, length-set}
 use lib.Seq.{getD-set-same, getD-set-other}
 use Rattle.model.specs.Reach.{Reach, one, more}
-use Rattle.model.specs.Laws.Lists.{trues}
-use Rattle.model.specs.Laws.Rounds.{At, Le-antisym}
-use Rattle.model.specs.Laws.Reach.{trues-out, trues-set, mark-up, mark-only, reach-further, reach-stays, reached, rank, length-reached, reached-iff}
+use Rattle.model_laws.specs.Lists.{trues}
+use Rattle.model_laws.specs.Rounds.{At, Le-antisym}
+use Rattle.model_laws.specs.Reach.{trues-out, trues-set, mark-up, mark-only, reach-further, reach-stays, reached, rank, length-reached, reached-iff}
 
 -- where a node stands among the entries up to the last
 pub record Entry (order : List ℕ) (last b : ℕ) : Type 0 where

@@ -8,7 +8,7 @@ use lib.ListN.{length}
 use Rattle.columns.specs.Column.{pick}
 use Rattle.model.specs.Decl.{table}
 use Rattle.model.specs.Reach.{cyclic}
-use Rattle.model.specs.Laws.Reach.{reached, rank}
+use Rattle.model_laws.specs.Reach.{reached, rank}
 use Rattle.bits.specs.Bits.{has}
 use Rattle.search.specs.declared.Found.{Found}
 use Rattle.search.specs.declared.Found.the-variants.{Start, Reached}

@@ -10,9 +10,9 @@ use lib.ListN.{length}
 use Rattle.columns.specs.Column.{pick}
 use Rattle.sheet.specs.ListLaws.{false-true, same-test}
 use Rattle.model.specs.Reach.{Reach, one, more, cyclic}
-use Rattle.model.specs.Laws.Lists.{trues}
-use Rattle.model.specs.Laws.Rounds.{Le-antisym}
-use Rattle.model.specs.Laws.Reach.{cyclic-sound, cyclic-complete, reached, rank, length-reached, reached-iff}
+use Rattle.model_laws.specs.Lists.{trues}
+use Rattle.model_laws.specs.Rounds.{Le-antisym}
+use Rattle.model_laws.specs.Reach.{cyclic-sound, cyclic-complete, reached, rank, length-reached, reached-iff}
 use Rattle.bits.specs.Bits.{has}
 use Rattle.search.specs.Search.{Steps, those, steps, marks, answer, Searched}
 use Rattle.search.specs.declared.Found.{Found}

@@ -13,9 +13,9 @@ use Rattle.sheet.specs.ListLaws.{both, contrary}
 use Rattle.sheet.specs.Sheet.{first}
 use Rattle.sheet.specs.FirstLaws.{first-holds, first-before}
 use Rattle.model.specs.Reach.{Reach, cyclic}
-use Rattle.model.specs.Laws.Lists.{trues, length-table, getD-table, true-of}
-use Rattle.model.specs.Laws.Rounds.{At, At-lt, cases-eq}
-use Rattle.model.specs.Laws.Reach.{cyclic-sound, cyclic-complete}
+use Rattle.model_laws.specs.Lists.{trues, length-table, getD-table, true-of}
+use Rattle.model_laws.specs.Rounds.{At, At-lt, cases-eq}
+use Rattle.model_laws.specs.Reach.{cyclic-sound, cyclic-complete}
 use Rattle.bits.specs.Bits.{has, inserted, cleared}
 use Rattle.bits.specs.BitsLaws.{row-room, length-inserted, inserted-same, inserted-other, length-cleared, cleared-none}
 use Rattle.search.specs.declared.Found.the-variants.{Start, Reached}

@@ -4,17 +4,13 @@ use parts::TEXT;
 ghost use mathlib.Core.Path.{_≡_};
 ghost use Prim.Native.Nat.{_<_};
 ghost use Rattle.sheet.specs.Sheet as sheet;
-ghost use Rattle.meaning.specs.Program.{name-line};
 ghost use Rattle.meaning.specs.Rows as rows;
-ghost use Rattle.spellings.specs.Spellings.{Ranged, textAt, spelled-before};
-ghost use Rattle.spellings.specs.Spellings as spellings;
-ghost use Rattle.words.specs.Word.{keyOf};
-ghost use Rattle.spellings.specs.Keys.{Last, Befores};
+ghost use Rattle.spellings.specs.Spellings.{textAt};
 
 // The bytes of a name's text with the spaces after it.
 const TEXT_BYTES: usize = 24;
 
-fn same(a: &[u8], b: &[u8]) -> bool
+pub fn same(a: &[u8], b: &[u8]) -> bool
     ensures { λ r. ⌜ r ≡ rows.equal (now (a .entry)) (now (b .entry)) ⌝ }
 {
     if a.len() != b.len() {
@@ -31,60 +27,11 @@ fn same(a: &[u8], b: &[u8]) -> bool
 }
 
 // The part of line i where an N line has its text and the spaces after it. Row 2 checked it, so nothing is checked here.
-fn text(s: &[u8], i: usize) -> &[u8]
+pub fn text(s: &[u8], i: usize) -> &[u8]
     requires { ⌜ i < sheet.count 6 (now s) ⌝ }
     ensures { λ r. ⌜ now r ≡ textAt 6 (now (s .entry)) i ⌝ }
 {
     let at = i * LINE + TEXT;
     let end = at + TEXT_BYTES;
     &s[at..end]
-}
-
-fn wide(x: u16) -> usize
-    ensures { λ r. ⌜ r ≡ x ⌝ }
-{
-    x as usize
-}
-
-// A line before line i has its text. Of these lines only those of its key are looked at: line last - 1,
-// then line before[last - 1] - 1 and so on, up to 0.
-fn spelled_before(s: &[u8], i: usize, last: usize, before: &[u16; 256]) -> bool
-    requires { ⌜ (i < sheet.count 6 (now s)) × (i < 256) ⌝ }
-    requires { ⌜ Last (now s) (keyOf (textAt 6 (now s) i)) i last ⌝ }
-    requires { ⌜ Befores (now s) i (now before) ⌝ }
-    ensures { λ r. ⌜ r ≡ spelled-before 6 (now (s .entry)) i ⌝ }
-{
-    let own = text(s, i);
-    let mut c = last;
-    while c > 0 {
-        let j = c - 1;
-        if same(text(s, j), own) {
-            return true;
-        }
-        c = wide(before[j]);
-    }
-    false
-}
-
-// The first of so many N lines whose spelling an earlier one has, or the count of lines. For each key
-// the last line that has it is kept, and for each line the last one before it of the same key.
-pub fn respelled(s: &[u8], names: usize) -> usize
-    requires { ⌜ Ranged (now s) ⌝ }
-    requires { ⌜ names ≡ rows.count-of name-line (sheet.lines 6 (now s)) ⌝ }
-    ensures { λ r. ⌜ r ≡ sheet.first (spellings.respelled (sheet.lines 6 (now (s .entry)))) (sheet.count 6 (now (s .entry))) ⌝ }
-{
-    let mut lasts = [0u16; 1000];
-    let mut before = [0u16; 256];
-    let mut i = 0;
-    while i < names {
-        let k = words::key(text(s, i));
-        let last = lasts[k];
-        if spelled_before(s, i, wide(last), &before) {
-            return i;
-        }
-        before[i] = last;
-        lasts[k] = (i + 1) as u16;
-        i += 1;
-    }
-    s.len() / LINE
 }

@@ -19,10 +19,10 @@ use Rattle.model.specs.Decl.{Dtype, dtype-at, table, position, close-fields}
 use Rattle.model.specs.Names.{Distinct}
 use Rattle.meaning.specs.Program.{name-line, arg-line, type-line, Group, dtype-of, trees, program}
 use Rattle.meaning.specs.Rows.{line-at, count-of, good-head, good-numbers, row6}
-use Rattle.model.specs.Laws.Names.{position-le, position-name, position-distinct}
+use Rattle.model_laws.specs.Names.{position-le, position-name, position-distinct}
 use Rattle.answer.specs.Laws.Pass.{distinct-program}
 use Rattle.meaning.specs.Laws.Program.{length-program, head-cases}
-use Rattle.model.specs.Laws.Rounds.{cases-eq}
+use Rattle.model_laws.specs.Rounds.{cases-eq}
 use Rattle.limits.specs.Limits.{start, counts-of}
 use Rattle.refusals.specs.Rows.{Passed}
 use Rattle.refusals.specs.RowsLaws.{passed-kept}

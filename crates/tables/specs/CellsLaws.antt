@@ -14,7 +14,7 @@ use Rattle.sheet.specs.Sheet.{lines}
 use Rattle.model.specs.Decl.{table, position}
 use Rattle.meaning.specs.Program.{name-line, arg-line, type-line, param-line, ctor-line, field-line, verdict-line, program}
 use Rattle.meaning.specs.Rows.{count-of}
-use Rattle.model.specs.Laws.Lists.{length-table, getD-table}
+use Rattle.model_laws.specs.Lists.{length-table, getD-table}
 use Rattle.limits.specs.Limits.{start}
 use Rattle.tables.specs.declared.Sizes.{Sizes}
 use Rattle.tables.specs.Tables.{

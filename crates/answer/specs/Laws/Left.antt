@@ -33,8 +33,8 @@ use Rattle.locality.specs.Laws.Fuel.{NoReturn}
 use Rattle.meaning.specs.Laws.Written.{left-program-read}
 use Rattle.meaning.specs.Laws.Numbers.{sheet-round, left-sheet-normal}
 use Rattle.meaning.specs.Laws.Program.{None, heads, head-cases, length-program, program-at, HeadAt, head-at, body-number, body-of-number, close-number}
-use Rattle.model.specs.Laws.Resolve.{StructMatches, OpaqueMatches, Matches, layout-matches, Normal, Resolved, decl-resolved, LeftTypes, left-types}
-use Rattle.model.specs.Laws.Layout.{getD-layouts}
+use Rattle.model_laws.specs.Resolve.{StructMatches, OpaqueMatches, Matches, layout-matches, Normal, Resolved, decl-resolved, LeftTypes, left-types}
+use Rattle.model_laws.specs.Layout.{getD-layouts}
 use Rattle.answer.specs.Laws.Build.{row1-small}
 use Rattle.meaning.specs.Laws.Rows.{last-head-append, last-head-none}
 

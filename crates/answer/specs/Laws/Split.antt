@@ -38,7 +38,7 @@ use Rattle.model.specs.Decl.{Decl, no-decl, dtype-at, position}
 use Rattle.meaning.specs.Program.{arg-line, type-line, is-head, select, groups, trees, decl-of, program}
 use Rattle.meaning.specs.Rows.{line-at, raw, heads-before, row5, row6}
 use Rattle.model.specs.Names.{dtype-names, Declared, undeclared, Distinct}
-use Rattle.model.specs.Laws.Names.{position-name, position-first, position-append-left, position-append-right, undeclared-of, declared-cases, not-declared}
+use Rattle.model_laws.specs.Names.{position-name, position-first, position-append-left, position-append-right, undeclared-of, declared-cases, not-declared}
 use Rattle.answer.specs.Cut.{Sheets, Faultless, build, builds, join, Whole, Declarations, program-names, Cut}
 use Rattle.meaning.specs.Laws.Program.{none-append, Starts, None, select-append, program-append, groups-append, groups-none, length-program, HeadAt, head-at, heads-before-program, none-left, none-right}
 use Rattle.meaning.specs.Laws.Rows.{Ends, raw-rawly, ends-prefix, NoHeader, no-header}

@@ -7,7 +7,7 @@ use borrow.Author.Needs.{needs}
 use Rattle.search.specs.Search as spec
 use mathlib.Core.Bool.{false}
 use Rattle.model.specs.Reach.{cyclic}
-use Rattle.model.specs.Laws.Reach.{rank}
+use Rattle.model_laws.specs.Reach.{rank}
 use Rattle.search.specs.SearchLaws.{start-found, reached-all}
 use Rattle.loops.specs.Loops.{Ranked}
 use Rattle.loops.specs.LoopsLaws.{ranked-more, none-more, first-at, first-none-at, rank-small}

@@ -8,7 +8,7 @@ use Rattle.sheet.specs.Line.{Line}
 use Rattle.model.specs.Decl.{Ctor, Body, TAbstract, TAbbrev, TRecord, TVariant, Dtype, ctors-of-tydef, CtorLayout, L-erased, L-struct, L-opaque}
 use Rattle.model.specs.Layout.{ctor-layout, newtype-of, collapse}
 use Rattle.model.specs.Names.{ctors-names, body-names, dtype-names, Among, cls-names, layout-names}
-use Rattle.model.specs.Laws.Names.{among-append, kept-names, ctors-own}
+use Rattle.model_laws.specs.Names.{among-append, kept-names, ctors-own}
 use Rattle.locality.specs.Laws.Own.{Own, option-weaken, newtype-own, collapse-own}
 use Rattle.meaning.specs.Program.{keeps-of, ctor-layouts-by, abbreviated, layout-by, info-of}
 

@@ -125,13 +125,13 @@ use Rattle.meaning.specs.Program.{
 use Rattle.meaning.specs.Rows.{count-of}
 use Rattle.meaning.specs.Laws.Program.{select-append, flat, before-flat, heads, length-groups}
 use Rattle.meaning.specs.Output.{left-lines}
-use Rattle.model.specs.Laws.Cty.{all-names}
-use Rattle.model.specs.Laws.Resolve.{Stays, Normal, Fields, Ctors, BodyTypes, LeftTypes, Left}
-use Rattle.model.specs.Laws.Layout.{getD-candidates, getD-layouts, getD-layouts-past}
-use Rattle.model.specs.Laws.Run.{run-lefts}
+use Rattle.model_laws.specs.Cty.{all-names}
+use Rattle.model_laws.specs.Resolve.{Stays, Normal, Fields, Ctors, BodyTypes, LeftTypes, Left}
+use Rattle.model_laws.specs.Layout.{getD-candidates, getD-layouts, getD-layouts-past}
+use Rattle.model_laws.specs.Run.{run-lefts}
 use Rattle.meaning.specs.Laws.Output.{types-of-fields, types-of-ctors, types-of-body, types-of, TypeNumbers, TypesNumbers, FieldNumbers, CtorNumbers, BodyNumbers, DtypeNumbers, total, total-bound, ProgramFits, every-select, number-fits, left-fits, NamesIn, left-names, columns-positive}
-use Rattle.model.specs.Laws.Lists.{length-table, getD-table, getD-table-past}
-use Rattle.model.specs.Laws.Names.{declared-cases}
+use Rattle.model_laws.specs.Lists.{length-table, getD-table, getD-table-past}
+use Rattle.model_laws.specs.Names.{declared-cases}
 
 -- ---- the numbers of types
 module _ (Q : ℕ → Type 0) where

@@ -86,8 +86,8 @@ use Rattle.meaning.specs.Program.{
 }
 use Rattle.meaning.specs.Output.{fill-keeps, fill-verdict, all-slots, fill, fill-all, verdict-lines, left-lines}
 use Rattle.meaning.specs.Rows.{line-at, count-of, heads-before}
-use Rattle.model.specs.Laws.Lists.{getD-map}
-use Rattle.model.specs.Laws.Layout.{getD-candidates, getD-layouts}
+use Rattle.model_laws.specs.Lists.{getD-map}
+use Rattle.model_laws.specs.Layout.{getD-candidates, getD-layouts}
 
 -- ---- tests
 -- ---- lists

@@ -191,7 +191,7 @@ use Rattle.meaning.specs.Laws.Program.{
   before-after,
   before-header,
 }
-use Rattle.model.specs.Laws.Lists.{trues, length-table, getD-table}
+use Rattle.model_laws.specs.Lists.{trues, length-table, getD-table}
 
 none-some : {A B : Type 0} (a : A) → _≡_ {A = Option A} none (some a) → B
 none-some a e = let z : _≡_ {A = ℕ} 0 1 = cc in absurd (omega arith)

@@ -15,10 +15,10 @@ use Rattle.model.specs.Cty.{Cty}
 use Rattle.model.specs.Decl.{here, origin-at, no-decl, TAbstract, TAbbrev, TRecord, TVariant, ctors-of, ctors-of-tydef, bit, layout-number, TypeInfo, close-body, close-field, close-fields, Decl}
 use Rattle.model.specs.Erasure.{cty-erased, marked, erasure-fixpoint}
 use Rattle.model.specs.Run.{run, info-at}
-use Rattle.model.specs.Laws.Run.{getD-infos, length-infos, local-info}
+use Rattle.model_laws.specs.Run.{getD-infos, length-infos, local-info}
 use Rattle.model.specs.Layout.{slots, ctor-layouts}
-use Rattle.model.specs.Laws.Erasure.{close-erased}
-use Rattle.model.specs.Laws.Lists.{getD-map}
+use Rattle.model_laws.specs.Erasure.{close-erased}
+use Rattle.model_laws.specs.Lists.{getD-map}
 use Rattle.meaning.specs.Program.{local-line, import-line, field-line, ctor-line, verdict-line, is, is-head, select, before, Group, groups, type-at, field-of, ctor-of, body-of, dtype-of, decl-of, trees, program}
 use Rattle.meaning.specs.Rows.{line-at, heads-before, last-head, head-of}
 use Rattle.meaning.specs.Output.{fill-keeps, fill-verdict, all-slots, verdict-lines, verdict-line-of}

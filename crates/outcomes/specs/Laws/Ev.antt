@@ -64,7 +64,7 @@ use Rattle.model.specs.Resolve.{
   checkeds,
   resolve-checked,
 }
-use Rattle.model.specs.Laws.Cty.{
+use Rattle.model_laws.specs.Cty.{
   Any,
   Alls,
   append-nil,
@@ -77,7 +77,7 @@ use Rattle.model.specs.Laws.Cty.{
   size-positive,
   subst-none,
 }
-use Rattle.model.specs.Laws.Resolve.{On, Row, on-map, bind-on, Stays, Normal, resolve-sound, checked-stays}
+use Rattle.model_laws.specs.Resolve.{On, Row, on-map, bind-on, Stays, Normal, resolve-sound, checked-stays}
 use Rattle.outcomes.specs.Outcome.{
   coded,
   nodes,

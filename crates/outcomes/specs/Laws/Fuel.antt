@@ -28,7 +28,7 @@ use Rattle.model.specs.Cty.{
   cons,
 }
 use Rattle.model.specs.Resolve.{Unfold, gone, newtype, abbreviation, stays, Result, ok, fault, spent, bind, resolve-checked}
-use Rattle.model.specs.Laws.Resolve.{Unspent}
+use Rattle.model_laws.specs.Resolve.{Unspent}
 use Rattle.outcomes.specs.Outcome.{
   other,
   app,

@@ -39,7 +39,7 @@ use Rattle.model.specs.Cty.{
   subst-cty,
 }
 use Rattle.model.specs.Resolve.{attach, is-app}
-use Rattle.model.specs.Laws.Cty.{size-positive}
+use Rattle.model_laws.specs.Cty.{size-positive}
 use Rattle.outcomes.specs.Outcome.{
   coded,
   nodes,

@@ -35,7 +35,7 @@ use Rattle.calls.proofs.copy.Reads as copy-reads
 use Rattle.calls.proofs.params.Reads as params-reads
 use Rattle.kids.proofs.kid.Reads as kid-reads
 use Rattle.kids.proofs.kids.Reads as kids-reads
-use Rattle.memory.proofs.remember.Reads as remember-reads
+use Rattle.remembering.proofs.remember.Reads as remember-reads
 use Rattle.recalls.proofs.answered.Reads as answered-reads
 use Rattle.recalls.proofs.body.Reads as body-reads
 use Rattle.entries.proofs.entry.Reads as entry-reads

@@ -1,4 +1,4 @@
--- `spellings::spelled_before` meets its contract: no line passed has the text, and those between have other keys. Assumes nothing.
+-- `respellings::spelled_before` meets its contract: no line passed has the text, and those between have other keys. Assumes nothing.
 use mathlib.Core.Path.{_≡_, sym, _∙_}
 use Prim.Native.Nat.{_-_, _<_, _≤_}
 use native.Mathlib.Omega.{arith}
@@ -6,10 +6,10 @@ use lib.ListN.{getD}
 use borrow.Author.Needs.{needs}
 use Rattle.words.specs.Word.{keyOf}
 use Rattle.meaning.specs.Rows.{equal}
 use Rattle.spellings.specs.Spellings.{textAt}
 use Rattle.spellings.specs.Keys.{Last, Clear, clear-last, clear-next, clear-none, clear-found}
-use Rattle.spellings.proofs.spelled_before.Statement.{statement}
-use Rattle.spellings.proofs.spelled_before.Tie as tie
+use Rattle.respellings.proofs.spelled_before.Statement.{statement}
+use Rattle.respellings.proofs.spelled_before.Tie as tie
 
 abbrev Inv-loop : tie.InvT-loop
 Inv-loop s i last before own c₀ c = (own ≡ textAt 6 s i) × Clear s i c

@@ -1,13 +1,13 @@
--- `memory::fill` meets its contract: the loop has copied the outcomes that it passed. Assumes nothing.
+-- `remembering::fill` meets its contract: the loop has copied the outcomes that it passed. Assumes nothing.
 use mathlib.Core.Path.{_≡_, refl, sym, _∙_, subst}
 use Prim.Native.Nat.{_+_, _-_, _≤_}
 use native.Mathlib.Omega.{arith}
 use lib.ListN.{length}
 use Rattle.outcomes.specs.Scratch.{part}
 use Rattle.memory.specs.Slots.{Filled}
 use Rattle.memory.specs.SlotsLaws.{filled-none, filled-more}
-use Rattle.memory.proofs.fill.Statement.{statement}
-use Rattle.memory.proofs.fill.Tie as tie
+use Rattle.remembering.proofs.fill.Statement.{statement}
+use Rattle.remembering.proofs.fill.Tie as tie
 
 abbrev Inv-loop : tie.InvT-loop
 Inv-loop slots₀ base out at count i₀ slots i = (i ≤ count) × Filled base i (part at i out) slots₀ slots

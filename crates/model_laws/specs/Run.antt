@@ -5,16 +5,16 @@ use mathlib.Core.Bool.{false}
 use mathlib.Core.Option.{Option, none, some}
 use Prim.Native.Nat.{ℕ, _<_}
 use lib.ListN.{length, getD}
 use Rattle.model.specs.Cty.{Cty}
 use Rattle.model.specs.Decl.{Origin, imported, here, Dtype, Layout, L-opaque, TypeInfo, Decl, dtype-at, origin-at, table}
 use Rattle.model.specs.Erasure.{marked, erasure-fixpoint}
 use Rattle.model.specs.Reach.{cyclic}
 use Rattle.model.specs.Layout.{ctor-layouts, layout-of, type-names, steps}
 use Rattle.model.specs.Resolve.{Unfold, stays, unfolded, unfold-of, unfolds, unfold-name, resolve, resolve-checked}
 use Rattle.model.specs.Run.{record-of, rw-decl, info, layouts-of, run, lay, layout-of-decl, left-at, info-at, unfold-next, returns, resolves, fault-code, decl-fault}
-use Rattle.model.specs.Laws.Names.{position-same}
-use Rattle.model.specs.Laws.Layout.{positions-same, getD-layouts}
-use Rattle.model.specs.Laws.Lists.{length-table, getD-table, table-cong}
+use Rattle.model_laws.specs.Names.{position-same}
+use Rattle.model_laws.specs.Layout.{positions-same, getD-layouts}
+use Rattle.model_laws.specs.Lists.{length-table, getD-table, table-cong}
 
 -- ---- one declaration
 pub run-lefts : (fuel : ℕ) (ds : List Decl) → run fuel ds .lefts ≡ table (left-at fuel ds) (length ds)

@@ -12,19 +12,19 @@ use lib.ListN.{length, getD}
 use borrow.Author.Tests.{ltb-false}
 use Rattle.columns.specs.Column.{pick}
 use Rattle.sheet.specs.ListLaws.{false-true, same-test}
 use Rattle.model.specs.Cty.{Cty, names-of-cty}
 use Rattle.model.specs.Decl.{table, Field, Ctor, Body, TAbstract, TAbbrev, TRecord, TVariant, Dtype, NoNewtype, has-flag, ctors-of, ctors-of-tydef, CtorLayout, NewtypeLayout, Layout, L-newtype, L-opaque, Origin, here, imported, Decl, dtype-at, origin-at, position}
 use Rattle.model.specs.Erasure.{marked}
 use Rattle.model.specs.Layout.{Candidate, candidates-of, layouts-of-ctors, slots, kept, ctor-layout, ctor-layouts, newtype-of-ctor, newtype-of, candidate, candidates, positions, names-in, type-names, steps, payload, guard-next, dropped, collapse, layout-of-body, layout-of, compute-layouts}
 use Rattle.model.specs.Resolve.{Unfold, gone, newtype, abbreviation, stays, unfolded, unfolds}
 use Rattle.model.specs.Run.{unfold-next}
-use Rattle.model.specs.Laws.Erasure.{marked-same, ctor-layouts-local}
+use Rattle.model_laws.specs.Erasure.{marked-same, ctor-layouts-local}
 use Rattle.model.specs.Names.{fields-names, ctors-names, dtype-names, Declared, Agree, Pin}
-use Rattle.model.specs.Laws.Names.{position-name, position-same, agree-sym, kept-names, declared-cases, agree-foreign, ctors-own}
+use Rattle.model_laws.specs.Names.{position-name, position-same, agree-sym, kept-names, declared-cases, agree-foreign, ctors-own}
 use Rattle.model.specs.Reach.{Reach, one, more}
-use Rattle.model.specs.Laws.Reach.{reach-loop, reach-stays, cyclic-iff}
-use Rattle.model.specs.Laws.Lists.{getD-table, getD-table-past, table-cong}
-use Rattle.model.specs.Laws.Cty.{uninline-names}
+use Rattle.model_laws.specs.Reach.{reach-loop, reach-stays, cyclic-iff}
+use Rattle.model_laws.specs.Lists.{getD-table, getD-table-past, table-cong}
+use Rattle.model_laws.specs.Cty.{uninline-names}
 
 -- ---- tests
 -- ---- tables

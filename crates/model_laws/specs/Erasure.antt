@@ -11,14 +11,14 @@ use lib.Dec.{T, eqb, eqb→eq, eqb-refl}
 use lib.ListN.{length, getD, length-map, List·getD-map}
 use Rattle.columns.specs.Column.{pick}
 use Rattle.sheet.specs.ListLaws.{getD-within}
 use Rattle.model.specs.Cty.{walks, walk, Cty, Ctys, TUnit, TAny, TExn, TVar, TInt, TFloat, TConst, TArrow, TApp, TTuple, TBuf, TRef, TInline, nil, cons, gather, gathers, names-of-cty}
 use Rattle.model.specs.Decl.{member, close, Field, Ctor, Body, TAbstract, TAbbrev, TRecord, TVariant, Dtype, Erased, Realized, has-flag, ctors-of, CtorLayout, bit, TypeInfo, Origin, here, imported, Decl, no-decl, dtype-at, origin-at, table, position}
 use Rattle.model.specs.Erasure.{local, locals, is-pure, cty-erased, ctys-erased, fields-erased, body-erased, dtype-erased, marked, rule-of, rule, start-of, start, erasure-fixpoint, Made}
 use Rattle.model.specs.Layout.{layouts-of-ctors, slots, ctor-layout, ctor-layouts}
 use Rattle.model.specs.Names.{fields-names, ctors-names, body-names, dtype-names, Declared, Agree, Pin, Pinned}
-use Rattle.model.specs.Laws.Names.{position-name, position-declared, position-same, agree-sym, ctors-own}
-use Rattle.model.specs.Laws.Rounds.{At, Le, At-lt, Le-antisym, Monotone, Sound, Closed, settle-length, settle-sound, settle-least, settle-closed, settle-made, settle-rounds}
-use Rattle.model.specs.Laws.Lists.{true-of, T-ext, trues, length-table, getD-table}
+use Rattle.model_laws.specs.Names.{position-name, position-declared, position-same, agree-sym, ctors-own}
+use Rattle.model_laws.specs.Rounds.{At, Le, At-lt, Le-antisym, Monotone, Sound, Closed, settle-length, settle-sound, settle-least, settle-closed, settle-made, settle-rounds}
+use Rattle.model_laws.specs.Lists.{true-of, T-ext, trues, length-table, getD-table}
 
 -- ---- tests
 -- a conjunction of tests, each of which implies another

@@ -11,9 +11,9 @@ use lib.ListN.{length, getD, set, replicate, length-set, length-replicate}
 use lib.Seq.{getD-set-same, getD-set-other}
 use borrow.Author.Tests.{eqb-true, eqb-false}
 use Rattle.sheet.specs.ListLaws.{false-true}
-use Rattle.model.specs.Laws.Rounds.{At, Le, At-lt, cases-eq, trues-le, trues-mono}
+use Rattle.model_laws.specs.Rounds.{At, Le, At-lt, cases-eq, trues-le, trues-mono}
 use Rattle.model.specs.Reach.{Reach, one, more, go, cyclic}
-use Rattle.model.specs.Laws.Lists.{trues}
+use Rattle.model_laws.specs.Lists.{trues}
 
 -- ---- tests
 -- ---- marks

@@ -1,4 +1,4 @@
--- `spellings::respelled` meets its contract: the N lines come first, none passed has an earlier spelling, and those passed are kept by
+-- `respellings::respelled` meets its contract: the N lines come first, none passed has an earlier spelling, and those passed are kept by
 -- their keys. Assumes nothing.
 use mathlib.Core.Path.{_≡_, refl, ap, sym, _∙_}
 use Prim.Native.Nat.{_-_, _/_, _<_, _≤_}
@@ -10,11 +10,11 @@ use Rattle.sheet.specs.Sheet.{first, count, lines}
 use Rattle.meaning.specs.Program.{name-line}
 use Rattle.meaning.specs.Rows.{count-of}
 use Rattle.sheet.specs.FirstLaws.{first-more, first-found}
 use Rattle.spellings.specs.Spellings.{respelled, textAt}
 use Rattle.spellings.specs.SpellingsLaws.{name-counted, respelled-at, respelled-none}
 use Rattle.spellings.specs.Keys.{Last, Lasts, Befores, lasts-none, befores-none, lasts-more, befores-more, textAt-length, names-few}
-use Rattle.spellings.proofs.respelled.Statement.{statement}
-use Rattle.spellings.proofs.respelled.Tie as tie
+use Rattle.respellings.proofs.respelled.Statement.{statement}
+use Rattle.respellings.proofs.respelled.Tie as tie
 
 abbrev Inv-loop : tie.InvT-loop
 Inv-loop s names lasts₀ before₀ i₀ lasts before i = (i ≤ names) × (first (respelled (lines 6 s)) i ≡ i) × Lasts s i lasts × Befores s i before

@@ -41,7 +41,7 @@ use Rattle.model.specs.Cty.{
   names-of-cty,
   cty-vars,
 }
-use Rattle.model.specs.Laws.Cty.{
+use Rattle.model_laws.specs.Cty.{
   Any,
   All,
   Alls,
@@ -98,7 +98,7 @@ use Rattle.model.specs.Run.{
   fault-code,
   decl-fault,
 }
-use Rattle.model.specs.Laws.Lists.{true-of}
+use Rattle.model_laws.specs.Lists.{true-of}
 
 -- ---- results
 -- Q of an answer, F of a fault's code, and S where the fuel has run out

@@ -10,8 +10,8 @@ use native.Mathlib.Decide.{ℕ-discrete}
 use lib.Dec.{T}
 use lib.ListN.{length, getD, length-set}
 use lib.Seq.{getD-set-same, getD-set-other, ext-getD}
 use Rattle.model.specs.Erasure.{Made, round, rounds-made, update, sweep, same, Settled, settle}
-use Rattle.model.specs.Laws.Lists.{T-ext, trues}
+use Rattle.model_laws.specs.Lists.{T-ext, trues}
 
 -- ---- tests and lists of marks
 -- mark i is set

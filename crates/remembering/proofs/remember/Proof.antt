@@ -1,13 +1,13 @@
--- `memory::remember` meets its contract: the cells of one slot are the call's, all others as they were. Assumes nothing.
+-- `remembering::remember` meets its contract: the cells of one slot are the call's, all others as they were. Assumes nothing.
 use mathlib.Core.Path.{_≡_, refl, sym, _∙_}
 use Prim.Native.Nat.{_+_, _*_, _≤_}
 use native.Mathlib.Omega.{arith}
 use lib.ListN.{length-set}
 use borrow.Author.Needs.{needs}
 use Rattle.outcomes.specs.Scratch.{part}
 use Rattle.memory.specs.SlotsLaws.{put-written, put-all, written-same}
-use Rattle.memory.proofs.remember.Statement.{statement}
-use Rattle.memory.proofs.remember.Tie as tie
+use Rattle.remembering.proofs.remember.Statement.{statement}
+use Rattle.remembering.proofs.remember.Tie as tie
 
 returns : tie.Need-returns
 returns c = written-same _ _ _ _
