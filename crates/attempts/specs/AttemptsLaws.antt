@@ -16,7 +16,7 @@ use Rattle.model.specs.Cty.{Cty}
 use Rattle.model.specs.Decl.{Decl, close}
 use Rattle.model.specs.Resolve.{Result, ok, fault, spent, resolve-checked}
 use Rattle.model.specs.Run.{lay, fault-code, decl-fault}
-use Rattle.model.specs.Laws.Resolve.{Unspent}
+use Rattle.model_laws.specs.Resolve.{Unspent}
 use Rattle.meaning.specs.Program.{program}
 use Rattle.meaning.specs.Laws.Program.{length-program}
 use Rattle.locality.specs.Laws.Fuel.{NoReturn, fuel-unspent}

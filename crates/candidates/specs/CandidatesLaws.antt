@@ -15,8 +15,8 @@ use Rattle.sheet.specs.Sheet.{lines}
 use Rattle.model.specs.Decl.{close, close-fields, has-flag, NoNewtype, NewtypeLayout, dtype-at}
 use Rattle.model.specs.Erasure.{erasure-fixpoint, marked}
 use Rattle.model.specs.Layout.{candidate, newtype-of, payload}
-use Rattle.model.specs.Laws.Layout.{candidate-at, getD-candidates}
-use Rattle.model.specs.Laws.Rounds.{cases-eq}
+use Rattle.model_laws.specs.Layout.{candidate-at, getD-candidates}
+use Rattle.model_laws.specs.Rounds.{cases-eq}
 use Rattle.meaning.specs.Program.{type-line, field-line, import-line, is, dtype-of, program}
 use Rattle.meaning.specs.Rows.{count-of}
 use Rattle.meaning.specs.Laws.Program.{length-program}

@@ -12,8 +12,8 @@ use Rattle.sheet.specs.Line.{Line}
 use Rattle.model.specs.Decl.{close}
 use Rattle.model.specs.Erasure.{erasure-fixpoint}
 use Rattle.model.specs.Layout.{candidates-of, positions, names-in, type-names, steps, guard-next, dropped}
-use Rattle.model.specs.Laws.Cty.{close-names}
-use Rattle.model.specs.Laws.Layout.{guard-below}
+use Rattle.model_laws.specs.Cty.{close-names}
+use Rattle.model_laws.specs.Layout.{guard-below}
 use Rattle.meaning.specs.Program.{type-line, program}
 use Rattle.meaning.specs.Rows.{count-of}
 use Rattle.meaning.specs.Laws.Program.{length-program}

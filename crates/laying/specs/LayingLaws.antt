@@ -17,9 +17,9 @@ use Rattle.model.specs.Decl.{close, close-body, close-fields, TAbstract, TAbbre
 use Rattle.model.specs.Erasure.{erasure-fixpoint}
 use Rattle.model.specs.Layout.{collapse, layout-of-body, layout-of}
 use Rattle.model.specs.Run.{layouts-of, layout-of-decl}
-use Rattle.model.specs.Laws.Layout.{getD-layouts}
-use Rattle.model.specs.Laws.Rounds.{cases-eq}
-use Rattle.model.specs.Laws.Run.{import-layout}
+use Rattle.model_laws.specs.Layout.{getD-layouts}
+use Rattle.model_laws.specs.Rounds.{cases-eq}
+use Rattle.model_laws.specs.Run.{import-layout}
 use Rattle.meaning.specs.Program.{import-line, verdict-line, is, trees, body-of, dtype-of, abbreviated, layout-by, info-of, program}
 use Rattle.meaning.specs.Laws.Program.{length-program}
 use Rattle.limits.specs.Limits.{counts-of}

@@ -20,7 +20,7 @@ use Rattle.model.specs.Cty.{Cty, size}
 use Rattle.model.specs.Decl.{Dtype, bit, Decl, dtype-at, table, Layout, L-erased, L-newtype, L-struct, L-abbrev, L-opaque}
 use Rattle.model.specs.Resolve.{resolve}
 use Rattle.model.specs.Run.{with-body, rw-decl, run, somes, left-program, lay, layout-of-decl, left-at}
-use Rattle.model.specs.Laws.Run.{run-lefts}
+use Rattle.model_laws.specs.Run.{run-lefts}
 use Rattle.meaning.specs.Program.{Group, param-line, field-line, program}
 use Rattle.meaning.specs.Rows.{count-of, line-at}
 use Rattle.meaning.specs.Laws.Program.{length-program}

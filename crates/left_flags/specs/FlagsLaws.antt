@@ -46,9 +46,9 @@ use Rattle.model.specs.Cty.{
 use Rattle.model.specs.Decl.{TAbbrev, Dtype, bit, Layout, L-erased, L-newtype, L-struct, L-abbrev, L-opaque, Decl, dtype-at, position, member}
 use Rattle.model.specs.Resolve.{Unfold, gone, newtype, abbreviation, stays, resolve}
 use Rattle.model.specs.Run.{all-in, collapsed-abbrev, rw-decl, lay, layout-of-decl, left-at, with-body}
-use Rattle.model.specs.Laws.Cty.{all-names}
-use Rattle.model.specs.Laws.Names.{position-distinct}
-use Rattle.model.specs.Laws.Resolve.{Stays, Unfolds}
+use Rattle.model_laws.specs.Cty.{all-names}
+use Rattle.model_laws.specs.Names.{position-distinct}
+use Rattle.model_laws.specs.Resolve.{Stays, Unfolds}
 use Rattle.meaning.specs.Program.{program, param-line}
 use Rattle.meaning.specs.Rows.{row6}
 use Rattle.meaning.specs.Laws.Program.{length-program}

@@ -13,8 +13,8 @@ use Rattle.sheet.specs.ListLaws.{false-true}
 use Rattle.model.specs.Decl.{Body, Dtype, Decl, dtype-at, Layout, L-erased, L-newtype, L-struct, L-abbrev, L-opaque, close-fields, table, bit}
 use Rattle.model.specs.Run.{with-body, rw-decl, somes, run, left-program, lay, layout-of-decl, left-at}
 use Rattle.model.specs.Resolve.{resolve}
-use Rattle.model.specs.Laws.Run.{run-lefts}
-use Rattle.model.specs.Laws.Lists.{table-cong}
+use Rattle.model_laws.specs.Run.{run-lefts}
+use Rattle.model_laws.specs.Lists.{table-cong}
 use Rattle.meaning.specs.Program.{program, dtype-of}
 use Rattle.meaning.specs.Output.{Written, Lines, decl-lines, program-lines}
 use Rattle.meaning.specs.Laws.Output.{grows-args, grows-types, program-adds, program-append-written, program-append-lines}

@@ -17,7 +17,7 @@ use Rattle.model.specs.Cty.{Cty, size}
 use Rattle.model.specs.Decl.{Dtype, dtype-at}
 use Rattle.model.specs.Resolve.{resolve}
 use Rattle.model.specs.Run.{lay, layout-of-decl, left-at, left-program, run, resolves}
-use Rattle.model.specs.Laws.Resolve.{Resolved, LeftTypes, left-types}
+use Rattle.model_laws.specs.Resolve.{Resolved, LeftTypes, left-types}
 use Rattle.meaning.specs.Program.{program}
 use Rattle.meaning.specs.Rows.{row7}
 use Rattle.meaning.specs.Laws.Output.{nothing, types-of, total, total-bound, program-adds}

@@ -18,7 +18,7 @@ use Rattle.model.specs.Cty.{Cty, size}
 use Rattle.model.specs.Decl.{close, Decl, position, Layout, L-erased, L-newtype, L-struct, L-abbrev, L-opaque}
 use Rattle.model.specs.Resolve.{Unfold, gone, newtype, abbreviation, stays, resolve}
 use Rattle.model.specs.Run.{lay, layout-of-decl, resolves}
-use Rattle.model.specs.Laws.Resolve.{Resolved}
+use Rattle.model_laws.specs.Resolve.{Resolved}
 use Rattle.meaning.specs.Program.{program, type-line, param-line}
 use Rattle.meaning.specs.Rows.{count-of}
 use Rattle.meaning.specs.Laws.Program.{length-program}

@@ -16,8 +16,8 @@ use Rattle.model.specs.Cty.{Cty, size}
 use Rattle.model.specs.Decl.{close, Decl, position}
 use Rattle.model.specs.Resolve.{Unfold, gone, newtype, abbreviation, stays}
 use Rattle.model.specs.Run.{lay}
-use Rattle.model.specs.Laws.Cty.{All, all-of, all-map}
-use Rattle.model.specs.Laws.Resolve.{Unfolds}
+use Rattle.model_laws.specs.Cty.{All, all-of, all-map}
+use Rattle.model_laws.specs.Resolve.{Unfolds}
 use Rattle.meaning.specs.Program.{program}
 use Rattle.answer.specs.Answer.{input-refusal}
 use Rattle.answer.specs.declared.Refusal.the-variants.{Accepted}

@@ -16,7 +16,7 @@ use Rattle.model.specs.Cty.{uninline}
 use Rattle.model.specs.Decl.{Body, TAbstract, TAbbrev, TRecord, TVariant, Dtype, has-flag, dtype-at, position, close, close-body, close-fields}
 use Rattle.model.specs.Resolve.{newtype, abbreviation, stays, unfold-body, unfold-dtype, unfold-of, unfolds, unfold-name}
 use Rattle.model.specs.Run.{layouts-of, layout-of-decl}
-use Rattle.model.specs.Laws.Lists.{getD-table, getD-table-past}
+use Rattle.model_laws.specs.Lists.{getD-table, getD-table-past}
 use Rattle.meaning.specs.Program as program
 use Rattle.meaning.specs.Program.{type-line, dtype-of, program}
 use Rattle.meaning.specs.Rows.{count-of}

@@ -21,7 +21,7 @@ use Rattle.model.specs.Decl.{NewtypeLayout, Body, TAbstract, TAbbrev, TRecord, 
 use Rattle.model.specs.Erasure.{marked, erasure-fixpoint}
 use Rattle.model.specs.Layout.{collapse, newtype-of, dropped, candidates-of, ctor-layouts, layout-of-body, layout-of}
 use Rattle.model.specs.Run.{layouts-of, layout-of-decl}
-use Rattle.model.specs.Laws.Layout.{getD-layouts}
+use Rattle.model_laws.specs.Layout.{getD-layouts}
 use Rattle.meaning.specs.Program.{import-line, verdict-line, is, is-head, select, before, Group, groups, trees, dtype-of, abbreviated, layout-by, info-of, verdict-of, program}
 use Rattle.meaning.specs.Rows.{line-at, heads-before, last-head, kept-after, one-ctor, good-verdict, row7}
 use Rattle.meaning.specs.Laws.Program.{none-before, select-append, select-none, select-yes, flat, before-flat, length-program, body-number, body-of-number, close-number, Whole}

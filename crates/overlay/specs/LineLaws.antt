@@ -19,7 +19,7 @@ use Rattle.sheet.specs.ListLaws.{contrary, both, false-true, every-at}
 use Rattle.model.specs.Decl.{Decl, bit, layout-number, origin-at, here}
 use Rattle.model.specs.Erasure.{cty-erased, marked, erasure-fixpoint}
 use Rattle.model.specs.Run.{info-at, layout-of-decl, left-at, record-of}
-use Rattle.model.specs.Laws.Run.{local-info}
+use Rattle.model_laws.specs.Run.{local-info}
 use Rattle.meaning.specs.Program.{local-line, import-line, field-line, verdict-line, is, is-head, select, type-at, trees, program}
 use Rattle.meaning.specs.Rows.{line-at, count-of, count-before, heads-before, some-below, zeros-from, good-numbers, last-head, head-of, kept-after, good-verdict, good-verdicts, row7}
 use Rattle.meaning.specs.Output.{verdict-line-of}

@@ -18,7 +18,7 @@ use Rattle.model.specs.Decl.{Dtype, Body, TAbstract, TAbbrev, TRecord, TVariant
 use Rattle.model.specs.Erasure.{cty-erased, marked, erasure-fixpoint}
 use Rattle.model.specs.Layout.{collapse, layout-of-body, layout-of}
 use Rattle.model.specs.Run.{layouts-of, layout-of-decl, left-at, record-of}
-use Rattle.model.specs.Laws.Layout.{getD-layouts}
+use Rattle.model_laws.specs.Layout.{getD-layouts}
 use Rattle.meaning.specs.Program.{field-line, import-line, is, type-at, trees, program}
 use Rattle.meaning.specs.Rows.{line-at, count-of, count-before, heads-before}
 use Rattle.meaning.specs.Laws.Program.{length-program}

@@ -18,8 +18,8 @@ use Rattle.sheet.specs.Sheet.{first}
 use Rattle.sheet.specs.FirstLaws.{first-none, first-found}
 use Rattle.model.specs.Decl.{bit, table}
 use Rattle.model.specs.Reach.{Reach, one, more, cyclic}
-use Rattle.model.specs.Laws.Lists.{true-of, trues, length-table, getD-table, table-cong}
-use Rattle.model.specs.Laws.Reach.{reached, rank, length-reached, reached-iff, cyclic-iff}
+use Rattle.model_laws.specs.Lists.{true-of, trues, length-table, getD-table, table-cong}
+use Rattle.model_laws.specs.Reach.{reached, rank, length-reached, reached-iff, cyclic-iff}
 use Rattle.bits.specs.Bits.{digit, has}
 use Rattle.bits.specs.BitsLaws.{digit-lt}
 use Rattle.search.specs.Search.{Steps, steps}

@@ -21,11 +21,11 @@ use Rattle.model.specs.Layout.{positions, names-in, type-names, steps}
 use Rattle.model.specs.Reach.{cyclic}
 use Rattle.model.specs.Resolve.{Unfold, gone, newtype, abbreviation, stays, unfolded, unfolds, unfold-name}
 use Rattle.model.specs.Run.{layouts-of, lay, unfold-next, returns}
-use Rattle.model.specs.Laws.Cty.{names-all, close-names}
-use Rattle.model.specs.Laws.Layout.{names-in-iff, unfold-below}
-use Rattle.model.specs.Laws.Names.{position-distinct}
-use Rattle.model.specs.Laws.Resolve as resolve
-use Rattle.model.specs.Laws.Resolve.{Unfolds}
+use Rattle.model_laws.specs.Cty.{names-all, close-names}
+use Rattle.model_laws.specs.Layout.{names-in-iff, unfold-below}
+use Rattle.model_laws.specs.Names.{position-distinct}
+use Rattle.model_laws.specs.Resolve as resolve
+use Rattle.model_laws.specs.Resolve.{Unfolds}
 use Rattle.locality.specs.Laws.Fuel.{NoReturn, rank-of, ranked}
 use Rattle.meaning.specs.Program.{type-line, program}
 use Rattle.meaning.specs.Rows.{count-of, row6}
