@@ -19,11 +19,9 @@ pub record Through (ls : List Line) (u : List ℕ) (n : ℕ) (bodies : List ℕ)
   pub long : length bodies ≡ n
   pub each : (d : ℕ) → d < n → getD bodies d 0 ≡ through (count-of type-line ls) u d
 
--- what the search of n declarations is lent, in sets of so many words
-pub record Room (n words : ℕ) (bodies steps marks queue rank : List ℕ) : Type 0 where
-  pub limit : words ≤ 1024
+-- what n declarations are lent, in sets of so many words
+pub record Room (n words : ℕ) (bodies steps rank : List ℕ) : Type 0 where
+  pub limit : words < 1024
   pub bodies-long : length bodies ≡ n
   pub steps-long : n * words ≤ length steps
-  pub marks-long : words ≤ length marks
-  pub queue-long : n ≤ length queue
   pub rank-long : n ≤ length rank

@@ -1,4 +1,4 @@
-// Row 8: whether an unfolded name returns to itself, by the search over the bodies of unfolded declarations.
+// Row 8: whether an unfolded name returns to itself, by what is reached through the bodies of unfolded declarations.
 ghost use mathlib.Core.Path.{_≡_};
 ghost use Prim.Native.Nat.{_+_, _*_, _≤_, _<_};
 ghost use lib.ListN.{length};
@@ -49,19 +49,17 @@ pub fn returning(
     words: usize,
     bodies: &mut [u16],
     steps: &mut [u64],
-    marks: &mut [u64],
-    queue: &mut [u16],
     rank: &mut [u16],
 ) -> usize
     requires { ⌜ tables.Tabled (now s) (now t) ⌝ }
     requires { ⌜ Settled (now s) (now u) ⌝ }
     requires { ⌜ Mentioned (sheet.lines 6 (now s)) words (now sets) (rows.count-of program.type-line (sheet.lines 6 (now s))) ⌝ }
-    requires { ⌜ Room (tables.decls-of (sheet.lines 6 (now s))) words (now bodies) (now steps) (now marks) (now queue) (now rank) ⌝ }
+    requires { ⌜ Room (tables.decls-of (sheet.lines 6 (now s))) words (now bodies) (now steps) (now rank) ⌝ }
     ensures { λ r. ⌜ First (run.unfold-next (program.program (sheet.lines 6 (now (s .entry)))) (run.layouts-of (program.program (sheet.lines 6 (now (s .entry)))))) (tables.decls-of (sheet.lines 6 (now (s .entry)))) r (now (rank .entry)) (now (rank .exit)) ⌝ }
 {
     put_bodies(s, t, u, bodies);
     let types = tables::types(s, t);
     edges::edges(sets, words, types, bodies, steps);
     let n = tables::decls(s, t);
-    loops::ranks(steps, words, n, marks, queue, rank)
+    ranks::ranks(steps, words, n, rank)
 }

@@ -1,0 +1,82 @@
+// Rows 8 to 12 and both sheets, over the table of a sheet that passed rows 1 to 7.
+use answer::Refusal;
+use built::Built;
+ghost use mathlib.Core.Path.{_≡_};
+ghost use Prim.Native.Nat.{_*_, _≤_};
+ghost use lib.ListN.{length};
+ghost use Rattle.sheet.specs.Sheet.{lines};
+ghost use Rattle.model.specs.Run.{run};
+ghost use Rattle.meaning.specs.Program.{name-line, field-line, program};
+ghost use Rattle.meaning.specs.Rows.{count-of};
+ghost use Rattle.tables.specs.Tables.{Tabled, decls-of};
+ghost use Rattle.built.specs.Built.{Gives};
+ghost use Rattle.deciding.specs.Deciding.{Found, Clear};
+
+// Row 11, then row 12 and the sheets.
+fn written(
+    s: &[u8],
+    t: &[u32],
+    names: usize,
+    rounds: usize,
+    u: &[u16],
+    rank: &[u16],
+    keep: &[u8],
+    v: &mut [u8],
+    l: &mut [u8],
+) -> Built
+    requires { ⌜ Clear (now s) (now t) (now u) (now rank) (now keep) ⌝ }
+    requires { ⌜ (names ≡ count-of name-line (lines 6 (now s))) × (rounds ≡ run 100 (program (lines 6 (now s))) .rounds) ⌝ }
+    ensures { λ r. ⌜ Gives (now (s .entry)) (now (v .entry)) (now (l .entry)) r (now (v .exit)) (now (l .exit)) ⌝ }
+{
+    if v.len() < s.len() {
+        return built::refused(11, s.len());
+    }
+    outputs::outputs(s, t, names, rounds, u, rank, keep, v, l)
+}
+
+// Rows 9 and 10, where nothing returns to itself.
+fn resolved(
+    s: &[u8],
+    t: &[u32],
+    names: usize,
+    rounds: usize,
+    u: &[u16],
+    rank: &[u16],
+    keep: &[u8],
+    v: &mut [u8],
+    l: &mut [u8],
+) -> Built
+    requires { ⌜ Found (now s) (now t) (now u) (now rank) (now keep) ⌝ }
+    requires { ⌜ (names ≡ count-of name-line (lines 6 (now s))) × (rounds ≡ run 100 (program (lines 6 (now s))) .rounds) ⌝ }
+    ensures { λ r. ⌜ Gives (now (s .entry)) (now (v .entry)) (now (l .entry)) r (now (v .exit)) (now (l .exit)) ⌝ }
+{
+    let r = rows9::rows9_10(s, t, u, keep);
+    match r {
+        Refusal::Accepted => written(s, t, names, rounds, u, rank, keep, v, l),
+        Refusal::Refused { code, place } => built::refused(code, place),
+    }
+}
+
+// The passes and row 8, in memory that is lent for the keep table, for what becomes of each name, and for ranks.
+pub fn decided(
+    s: &[u8],
+    t: &[u32],
+    names: usize,
+    keep: &mut [u8],
+    u: &mut [u16],
+    rank: &mut [u16],
+    v: &mut [u8],
+    l: &mut [u8],
+) -> Built
+    requires { ⌜ Tabled (now s) (now t) × (count-of field-line (lines 6 (now s)) ≤ length (now keep)) ⌝ }
+    requires { ⌜ (length (now u) ≡ 2 * decls-of (lines 6 (now s))) × (length (now rank) ≡ decls-of (lines 6 (now s))) ⌝ }
+    requires { ⌜ names ≡ count-of name-line (lines 6 (now s)) ⌝ }
+    ensures { λ r. ⌜ Gives (now (s .entry)) (now (v .entry)) (now (l .entry)) r (now (v .exit)) (now (l .exit)) ⌝ }
+{
+    let p = passes::passes(s, t, keep, u, rank);
+    let returning = p.returning;
+    if returning < tables::decls(s, t) {
+        return built::refused(8, tables::line_of(s, t, returning));
+    }
+    resolved(s, t, names, p.rounds, u, rank, keep, v, l)
+}
