@@ -109,14 +109,7 @@ fn words_for(n: usize) -> usize
 }
 
 // In as many words as the sheet's types need: few for nearly every sheet.
-fn named(
-    s: &[u8],
-    t: &[u32],
-    decl: &[u8],
-    keep: &[u8],
-    u: &mut [u16],
-    rank: &mut [u16],
-) -> usize
+fn named(s: &[u8], t: &[u32], decl: &[u8], keep: &[u8], u: &mut [u16], rank: &mut [u16]) -> usize
     requires { ⌜ Tabled (now s) (now t) × Ruled (lines 6 (now s)) (now decl) (now keep) ⌝ }
     requires { ⌜ (length (now u) ≡ 2 * decls-of (lines 6 (now s))) × (length (now rank) ≡ decls-of (lines 6 (now s))) ⌝ }
     ensures { λ r. ⌜ Judged (now (s .entry)) (now (u .exit)) r (now (rank .entry)) (now (rank .exit)) ⌝ }
@@ -131,13 +124,7 @@ fn named(
 }
 
 // All passes: the keep table, what becomes of each name, and the ranks of declarations where none returns to itself.
-pub fn passes(
-    s: &[u8],
-    t: &[u32],
-    keep: &mut [u8],
-    u: &mut [u16],
-    rank: &mut [u16],
-) -> Run
+pub fn passes(s: &[u8], t: &[u32], keep: &mut [u8], u: &mut [u16], rank: &mut [u16]) -> Run
     requires { ⌜ Tabled (now s) (now t) × (count-of field-line (lines 6 (now s)) ≤ length (now keep)) ⌝ }
     requires { ⌜ (length (now u) ≡ 2 * decls-of (lines 6 (now s))) × (length (now rank) ≡ decls-of (lines 6 (now s))) ⌝ }
     ensures { λ r. ⌜ Ran (now (s .entry)) (now (keep .exit)) (now (u .exit)) r (now (rank .entry)) (now (rank .exit)) ⌝ }
