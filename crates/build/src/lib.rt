@@ -16,7 +16,7 @@ ghost use Rattle.built.specs.Built.{Gives};
 // Cells that nearly every sheet's table fits, and those that every sheet's fits.
 const FEW: usize = 480;
 
-const CELLS: usize = 7456;
+const CELLS: usize = 8336;
 
 // Memory for the passes, of as many declarations as a sheet may have.
 fn tabled(s: &[u8], t: &[u32], names: usize, v: &mut [u8], l: &mut [u8]) -> Built

@@ -1,8 +1,5 @@
 // The build for callers in C and Rust (bindings/): what `build::build` gives, its numbers in an array that the caller lends.
-ghost use mathlib.Core.Path.{_≡_};
-ghost use mathlib.Core.List.{_∷_, []};
-ghost use Rattle.sheet.specs.Format.{base};
-ghost use Rattle.answer.specs.Answer.{called};
+ghost use Rattle.layout_c.specs.Numbers.{Told, ToldSized};
 
 // Code, place and rounds.
 #[no_mangle]
@@ -11,7 +8,9 @@ pub extern "C" fn layout_build(
     verdict: &mut [u8],
     left: &mut [u8],
     answer: &mut [u64; 3],
-) {
+)
+    ensures { λ _. ⌜ Told (now (sheet .entry)) (now (verdict .entry)) (now (left .entry)) (now (answer .exit)) (now (verdict .exit)) (now (left .exit)) ⌝ }
+{
     let r = build::build(sheet, verdict, left);
     answer[0] = r.code as u64;
     answer[1] = r.place as u64;
@@ -25,7 +24,9 @@ pub extern "C" fn layout_build_sized(
     verdict: &mut [u8],
     left: &mut [u8],
     answer: &mut [u64; 5],
-) {
+)
+    ensures { λ _. ⌜ ToldSized (now (sheet .entry)) (now (verdict .entry)) (now (left .entry)) (now (answer .exit)) (now (verdict .exit)) (now (left .exit)) ⌝ }
+{
     let r = build::build(sheet, verdict, left);
     answer[0] = r.code as u64;
     answer[1] = r.place as u64;
