@@ -1,6 +1,6 @@
 // The layout pass as a program: reads a sheet from standard input, and writes line R and, where the code is 0, the verdict sheet and
 // the left sheet. A read or a write that fails is told on standard error.
-use build::Built;
+use built::Built;
 use libc::STDIN_FILENO;
 use libc::STDOUT_FILENO;
 ghost use Prim.Native.Nat.{_≤_};

@@ -1,5 +1,5 @@
 // What is written of an answer, and how bytes are compared.
-use build::Built;
+use built::Built;
 use libc::STDOUT_FILENO;
 ghost use Prim.Native.Nat.{_≤_};
 ghost use lib.ListN.{length};
