@@ -43,7 +43,7 @@ use Rattle.lefts.specs.BodyLaws.{left-body, body-lines, left-is, left-types-are
 use Rattle.lefts.specs.declared.Count.{Count}
 use Rattle.left_types.specs.Sums.{sum-args, sum-types, Told, Sums, Added}
 use Rattle.left_types.specs.SumsLaws.{told, Rest, added-lines, added-more, added-short, kept-few}
-use Rattle.left_count.specs.Counts.{decl-types, decl-count}
+use Rattle.left_count.specs.Counts.{decl-types, decl-count, Few}
 
 -- ---- types written
 all-args : (ls : List Line) (d : ℕ) (ys : List ℕ) (w : Written) → length (emit-all (map (λ y. left-type ls d y) ys) w .args) ≡ length (w .args) + sum-args ls d ys
@@ -347,3 +347,9 @@ counted-all b u keep n d c h l x t =
 pub counted-short : (b u keep : List ℕ) (n : ℕ) (c : Count) → c .room ≡ false → n < 1024 → Counted b u keep n c
 counted-short b u keep n c e h =
     record { args = λ z. contrary (c .room) z e; types = λ z. contrary (c .room) z e; lines-are = λ z. contrary (c .room) z e; fit = λ z. contrary (c .room) z e; short = λ z. h }
+
+pub few-upto : (b u keep : List ℕ) (n d : ℕ) (c : Count) → d ≤ 96 → Upto b u keep n d c → Few c
+few-upto b u keep n d c h x = record { args = λ e. omega (arith, x .few-args); types = λ e. omega (arith, x .few-types); lines = λ e. omega (arith, x .few-lines) }
+
+pub few-short : (c : Count) → c .room ≡ false → Few c
+few-short c e = record { args = λ z. contrary (c .room) z e; types = λ z. contrary (c .room) z e; lines = λ z. contrary (c .room) z e }

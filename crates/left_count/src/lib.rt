@@ -11,7 +11,7 @@ ghost use Rattle.states.specs.States.{state, resolves-of};
 ghost use Rattle.lefts.specs.Lefts.{Ready, Flagged, Counted};
 ghost use Rattle.lefts.specs.BodyLaws.{left-body, body-lines};
 ghost use Rattle.left_types.specs.Sums.{Added};
-ghost use Rattle.left_count.specs.Counts.{decl-types, decl-count};
+ghost use Rattle.left_count.specs.Counts.{decl-types, decl-count, Few};
 use left_types::add_lines;
 use left_types::count_fields;
 use left_types::count_type;
@@ -84,7 +84,7 @@ pub fn count(
     scratch: &mut [u64],
 ) -> Count
     requires { ⌜ Ready (now s) (now t) (now u) (now f) (now keep) × (count-of field-line (lines 6 (now s)) ≤ length (now keep)) × Flagged (now s) (now left) ⌝ }
-    ensures { λ r. ⌜ Counted (now (s .entry)) (now (u .entry)) (now (keep .entry)) (length (now (scratch .entry))) r ⌝ }
+    ensures { λ r. ⌜ Counted (now (s .entry)) (now (u .entry)) (now (keep .entry)) (length (now (scratch .entry))) r × Few r ⌝ }
 {
     let n = tables::decls(s, t);
     let mut c = Count {

@@ -1,6 +1,6 @@
 -- Laws of the writing of both sheets. Assumes nothing.
 use mathlib.Core.Logic.{_⊎_, inl, inr, ⊎-elim}
-use mathlib.Core.Path.{_≡_, refl, sym, _∙_, ap}
+use mathlib.Core.Path.{_≡_, refl, sym, _∙_, ap, subst}
 use mathlib.Core.List.{List, []}
 use mathlib.Core.Bool.{Bool, true, false}
 use Prim.Native.Nat.{ℕ, _+_, _*_, _≤_, _<_}
@@ -22,13 +22,19 @@ use Rattle.answer.specs.Answer.{left-sheet, verdict-sheet, after, input-refusal
 use Rattle.answer.specs.declared.Refusal.the-variants.{Accepted}
 use Rattle.answer.specs.Laws.Build.{verdict-sheet-length}
 use Rattle.answer.specs.Laws.Left.{pass-fit}
-use Rattle.lefts.specs.Lefts.{left-written}
+use Rattle.limits.specs.Limits.{counts-of}
+use Rattle.refusals.specs.Rows.{Passed}
+use Rattle.refusals.specs.RowsLaws.{passed-kept}
+use Rattle.normal_forms.specs.Ranks.{Formed}
+use Rattle.lefts.specs.declared.Count.{Count}
+use Rattle.lefts.specs.Lefts.{left-written, Counted}
+use Rattle.lefts.specs.RoomLaws.{never-short}
 use Rattle.lefts.specs.ReadyLaws.{room-verdict, room-left, accepted-all}
 use Rattle.built.specs.declared.Built.{Built}
 use Rattle.built.specs.declared.Tried.{Tried}
-use Rattle.built.specs.Built.{Gives, Tries}
-use Rattle.built.specs.BuiltLaws.{needed, rows-none, gives-accepted}
-use Rattle.sheets.specs.Sheets.{no-room, Written}
+use Rattle.built.specs.Built.{refused-as, Gives, Tries}
+use Rattle.built.specs.BuiltLaws.{needed, rows-twelve, rows-none, gives-refused, gives-accepted}
+use Rattle.sheets.specs.Sheets.{no-room, Known, Owed, Written, Lent}
 
 module _ (b : List ℕ) (accepted : input-refusal base b ≡ Accepted) where
   abbrev ls : List Line
@@ -74,3 +80,49 @@ tries-gives Short b v l r v′ l′ g =
 
 pub tries-less : (S T : Type 0) → (S → T) → (b v l : List ℕ) (r : Tried) (v′ l′ : List ℕ) → Tries S b v l r v′ l′ → Tries T b v l r v′ l′
 tries-less S T f b v l r v′ l′ h = record { gives = h .gives; verdict-kept = h .verdict-kept; left-kept = h .left-kept; short = λ e. f (h .short e) }
+
+-- row 12
+pub tries-twelve : (Short : Type 0) (b v l : List ℕ) (n : ℕ) (r : Built) → input-refusal base b ≡ Accepted → length b ≤ length v → n ≡ needed b → length l < n → r ≡ refused-as 12 n
+    → Tries Short b v l (record { room = true; built = r }) v l
+tries-twelve Short b v l n r a h e q z =
+    tries-gives Short b v l r v l (rw (z, e) (gives-refused b v l 12 (needed b) (rows-twelve b (length v) (length l) a h (rw e at q))))
+
+-- ---- the counts
+pub names-few : (b : List ℕ) → Passed b → count-of name-line (lines 6 b) ≤ 256
+unfolding counts-of
+names-few b p = passed-kept b p .names
+
+module _ (b u keep : List ℕ) (n : ℕ) where
+  pub needed-of : input-refusal base b ≡ Accepted → (r : Count) (names : ℕ) → names ≡ count-of name-line (lines 6 b) → Counted b u keep n r → r .room ≡ true
+      → 32 * (names + r .args + r .types + r .lines) ≡ needed b
+  needed-of a r names e x t = rw (e, x .args t, x .types t, x .lines-are t) (sym (needed-is b a))
+
+  pub owed-of : (l : List ℕ) (r : Count) → Counted b u keep n r → r .room ≡ true → needed b ≤ length l → Owed b u keep l n (r .args) (r .types)
+  owed-of l r x t h = record { fit = x .fit t; args-are = x .args t; types-are = x .types t; left-room = h }
+
+-- ---- the normal forms
+module _ (b t u rank keep v : List ℕ) (forms scratch stack : ℕ) (f₀ f : List ℕ) (e : ℕ) (lent : Lent b t u rank keep v forms scratch stack) (x : Formed b u rank scratch f₀ f e) where
+  pub known-of : e ≤ length f → Known b t u f keep v scratch stack
+  known-of h =
+      record {
+        ready = record { tabled = lent .ranked .tabled; settled = lent .settled; slotted = lent .slotted; accepted = lent .accepted; place = e; forms = x .table (omega (arith, x .same)) };
+        keeps = lent .keeps;
+        verdict-room = lent .verdict-room;
+        small = lent .small;
+        stacked = lent .stacked;
+      }
+
+  pub short-of : length f < e → (length f₀ < 98496) ⊎ (scratch < 1024)
+  short-of h = go (decLt (length f₀) 98496) (decLt scratch 1024)
+    where
+      go : Dec (length f₀ < 98496) → Dec (scratch < 1024) → (length f₀ < 98496) ⊎ (scratch < 1024)
+      go (yes p) q = inl p
+      go (no p) (yes q) = inr q
+      go (no p) (no q) = absurd (never-short b t u rank keep (lent .ranked) (lent .settled) (lent .accepted) (lent .slotted) scratch (length f₀) (omega arith) (omega arith) (x .short (omega (arith, x .same))))
+
+-- ---- lent memory is as long as it was
+pub known-long : (b t u f keep v : List ℕ) (n n′ m : ℕ) → n′ ≡ n → Known b t u f keep v n m → Known b t u f keep v n′ m
+known-long b t u f keep v n n′ m e h = subst (λ (k : ℕ). Known b t u f keep v k m) (sym e) h
+
+pub owed-long : (b u keep l : List ℕ) (n n′ args types : ℕ) → n′ ≡ n → Owed b u keep l n args types → Owed b u keep l n′ args types
+owed-long b u keep l n n′ args types e h = subst (λ (k : ℕ). Owed b u keep l k args types) (sym e) h

@@ -9,7 +9,7 @@ use Rattle.tables.specs.Tables.{decls-of}
 use Rattle.arguments.specs.ParamsLaws.{decls-few}
 use Rattle.left_types.specs.Sums.{Added}
 use Rattle.left_count.specs.Counts.{decl-types, decl-count}
-use Rattle.left_count.specs.CountsLaws.{Upto, upto-none, upto-more, counted-all, counted-short}
+use Rattle.left_count.specs.CountsLaws.{Upto, upto-none, upto-more, counted-all, counted-short, few-upto, few-short}
 use borrow.Author.Needs.{needs}
 use borrow.Author.Tests.{not-true, not-false}
 use Rattle.left_count.proofs.count.Statement.{statement}
@@ -46,7 +46,7 @@ returns c =
     let a = c .before .before .before .before .before .before .before .before .before .before .before .before .before .before .before .before .args in
     let x = c .before .before .before .before .count-decl in
     let z = not-true _ (c .if1 .taken) in
-    counted-short (a .s .now) (a .u .now) (a .keep .now) (length (a .scratch .now)) (x .result) z (omega (arith, x .ensures .short z, c .before .before .before .before .before .before .before .loop .inv .2))
+    (counted-short (a .s .now) (a .u .now) (a .keep .now) (length (a .scratch .now)) (x .result) z (omega (arith, x .ensures .short z, c .before .before .before .before .before .before .before .loop .inv .2)), few-short (x .result) z)
 
 add-d : tie.Need-add-d Inv-loop μ-loop
 add-d c = omega (arith, c .before .before .before .before .before .before .loop-test .taken, c .before .before .before .before .before .before .before .loop .inv .1, decls-few (c .before .before .before .before .before .before .before .before .before .before .before .before .before .before .before .before .args .s .now) (c .before .before .before .before .before .before .before .before .before .before .before .before .before .before .before .before .pre .0 .tabled .passed))
@@ -77,7 +77,8 @@ returns-2 : tie.Need-returns-2 Inv-loop μ-loop
 returns-2 c =
     let a = c .before .before .before .before .before .before .before .before .before .before .args in
     let l = c .before .loop in
-    counted-all (a .s .now) (a .u .now) (a .keep .now) (length (a .scratch .now)) (l .d) (l .c) (omega (arith, c .loop-test .left, l .inv .1)) (omega (arith, l .inv .0, l .inv .1)) (l .inv .4) (l .inv .3)
+    let w = decls-few (a .s .now) (c .before .before .before .before .before .before .before .before .before .before .pre .0 .tabled .passed) in
+    (counted-all (a .s .now) (a .u .now) (a .keep .now) (length (a .scratch .now)) (l .d) (l .c) (omega (arith, c .loop-test .left, l .inv .1)) (omega (arith, l .inv .0, l .inv .1)) (l .inv .4) (l .inv .3), few-upto (a .s .now) (a .u .now) (a .keep .now) (length (a .scratch .now)) (l .d) (l .c) (omega (arith, l .inv .0, l .inv .1, w)) (l .inv .4))
 
 pub count-spec : {M : Type 1} → statement M
 count-spec =

@@ -1,0 +1,22 @@
+-- `sheets::formed` meets its contract. Assumes nothing.
+use borrow.Author.Needs.{needs}
+use Rattle.keeps.specs.KeepsLaws.{decls-few}
+use Rattle.sheets.proofs.formed.Statement.{statement}
+use Rattle.sheets.proofs.formed.Tie as tie
+
+flags-requires : tie.Need-flags-requires
+flags-requires c κs = let p = c .before .before .before .before .before .before .before .before .before .before .pre .0 in (p .ready, decls-few _ (p .ready .tabled .passed))
+
+pub formed-spec : {M : Type 1} → statement M
+formed-spec =
+    tie.close
+    (tie.spec
+    (λ c. search needs)
+    flags-requires
+    (λ c. search needs)
+    (λ c κs. search needs)
+    (λ c. search needs)
+    (λ c. search needs)
+    (λ c. search needs)
+    (λ c. search needs)
+    (λ c. search needs))
