@@ -1,7 +1,7 @@
 -- What the passes after row 7 find, together. Assumes nothing.
 use mathlib.Core.Path.{_≡_}
 use mathlib.Core.List.{List}
-use Prim.Native.Nat.{ℕ, _*_, _≤_, _<_}
+use Prim.Native.Nat.{ℕ, _*_, _≤_}
 use lib.ListN.{length}
 use Rattle.sheet.specs.Sheet.{lines}
 use Rattle.model.specs.Erasure.{erasure-fixpoint}

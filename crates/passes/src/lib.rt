@@ -1,6 +1,6 @@
 // The passes after row 7, over the table of a sheet: erasure, kept fields, layouts, what becomes of each name, and row 8.
 ghost use mathlib.Core.Path.{_≡_};
-ghost use Prim.Native.Nat.{_*_, _≤_, _<_};
+ghost use Prim.Native.Nat.{_*_, _≤_};
 ghost use lib.ListN.{length};
 ghost use Rattle.sheet.specs.Sheet.{lines};
 ghost use Rattle.meaning.specs.Program.{type-line, field-line};
