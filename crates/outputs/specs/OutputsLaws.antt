@@ -31,6 +31,10 @@ lent-less b t u rank keep v forms scratch stack p q r h =
       stacked = r;
     }
 
+-- an output that stands as it was
+pub lent-kept : (b t u rank keep v v′ : List ℕ) → v′ ≡ v → Lent b t u rank keep v 98496 1024 1024 → Lent b t u rank keep v′ 98496 1024 1024
+lent-kept b t u rank keep v v′ e h = subst (λ (x : List ℕ). Lent b t u rank keep x 98496 1024 1024) (sym e) h
+
 -- an attempt without room left the outputs as they were
 pub tries-again : (S : Type 0) (b v l : List ℕ) (r : Tried) (v′ l′ : List ℕ) (q : Built) (v″ l″ : List ℕ) → Tries S b v l r v′ l′ → r .room ≡ false → Gives b v′ l′ q v″ l″ → Gives b v l q v″ l″
 tries-again S b v l r v′ l′ q v″ l″ h e g = subst (λ (x : List ℕ). Gives b x l q v″ l″) (h .verdict-kept e) (subst (λ (x : List ℕ). Gives b v′ x q v″ l″) (h .left-kept e) g)
