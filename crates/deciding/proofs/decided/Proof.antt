@@ -1,8 +1,8 @@
+use native.Mathlib.Omega.{arith}
+use Rattle.deciding.specs.DecidingLaws.{gives-eight, found-of, rounds-of}
 use borrow.Author.Needs.{needs}
 use Rattle.deciding.proofs.decided.Statement.{statement}
 use Rattle.deciding.proofs.decided.Tie as tie
-use Rattle.deciding.proofs.decided.Reads as reads
-use Rattle.deciding.proofs.decided.Lts as lts
 use Rattle.built.proofs.refused.Reads as refused-reads
 use Rattle.deciding.proofs.resolved.Reads as resolved-reads
 use Rattle.passes.proofs.passes.Reads as passes-reads
@@ -39,11 +39,21 @@ same-length-3 c = search needs
 
 -- src/lib.rt:79:9
 returns : tie.Need-returns
-returns c = ?
+returns c =
+    let a = c .before .before .before .before .before .before .before .before .before .before .before .before .before .before .before .before .before .before .before .before .before .args in
+    let p = c .before .before .before .before .before .before .before .before .before .before .before .before .before .before .before .before .before .before .before .before .before .pre in
+    let e = c .before .before .before .decls .ensures in
+    let h = c .before .before .if1 .taken in
+    rw (c .refused .ensures, c .before .line-of .ensures) (gives-eight _ _ _ _ _ _ _ (p .0 .0) (c .before .before .before .before .before .before .before .before .before .before .passes .ensures) (a .v .now) (a .l .now) (omega (arith, e, h)))
 
 -- src/lib.rt:81:5
 resolved-requires : tie.Need-resolved-requires
-resolved-requires c κs = ?
+resolved-requires c κs =
+    let p = c .before .before .before .before .before .before .before .before .before .before .before .before .before .before .before .before .before .before .before .before .before .before .before .before .pre in
+    let e = c .before .before .before .before .before .before .decls .ensures in
+    let h = c .before .before .before .before .before .if1 .left in
+    let ran = c .before .before .before .before .before .before .before .before .before .before .before .before .before .passes .ensures in
+    (found-of _ _ _ _ _ _ _ (p .0 .0) ran (p .1 .0 .1) (omega (arith, e, h)), (p .1 .1, rounds-of _ _ _ _ _ _ _ (p .0 .0) ran))
 
 -- src/lib.rt:61:1
 same-length-4 : tie.Need-same-length-4

@@ -1,8 +1,8 @@
+use native.Mathlib.Omega.{arith}
+use Rattle.deciding.specs.DecidingLaws.{gives-eleven, lent-of}
 use borrow.Author.Needs.{needs}
 use Rattle.deciding.proofs.written.Statement.{statement}
 use Rattle.deciding.proofs.written.Tie as tie
-use Rattle.deciding.proofs.written.Reads as reads
-use Rattle.deciding.proofs.written.Lts as lts
 use Rattle.built.proofs.refused.Reads as refused-reads
 use Rattle.outputs.proofs.outputs.Reads as outputs-reads
 
@@ -12,11 +12,13 @@ refused-requires c κs = search needs
 
 -- src/lib.rt:32:9
 returns : tie.Need-returns
-returns c = ?
+returns c =
+    let a = c .before .before .before .before .before .before .before .before .before .args in
+    rw (c .refused .ensures) (gives-eleven _ _ _ _ _ (c .before .before .before .before .before .before .before .before .before .pre .0) (a .v .now) (a .l .now) (c .before .if1 .taken))
 
 -- src/lib.rt:34:5
 outputs-requires : tie.Need-outputs-requires
-outputs-requires c κs = ?
+outputs-requires c κs = let p = c .before .before .before .before .before .before .before .before .before .before .pre in (lent-of _ _ _ _ _ (p .0) _ (omega (arith, c .before .before .if1 .left)), p .1)
 
 -- src/lib.rt:16:1
 same-length : tie.Need-same-length
