@@ -5,7 +5,7 @@ use mathlib.Core.Bool.{Bool, true, false, _||_}
 use Prim.Native.Nat.{ℕ, _+_, _*_, _-_, _≤_, _<_}
 use native.Mathlib.Omega.{arith}
 use lib.Dec.{eqb}
-use lib.ListN.{length, take, replicate, length-replicate}
+use lib.ListN.{length, take, take-length, replicate, length-replicate}
 use lib.Seq.{length-take-le}
 use borrow.Author.Tests.{eqb-true}
 use Rattle.columns.specs.Column.{pick}
@@ -21,6 +21,7 @@ use Rattle.answer.specs.declared.Refusal.{Refusal}
 use Rattle.answer.specs.declared.Refusal.the-variants.{Accepted, Refused}
 use Rattle.limits.specs.declared.Counts.{Counts}
 use Rattle.limits.specs.Limits.{counts-of}
+use Rattle.limits.specs.LimitsLaws.{fields-kept}
 use Rattle.refusals.specs.declared.Checked.{Checked}
 use Rattle.refusals.specs.Rows.{with-counts, checked-of, Passed}
 use Rattle.refusals.specs.RowsLaws.{accepted-passed, passed-checked, passed-kept}
@@ -113,3 +114,8 @@ part-length m n h = let e : n - 0 ≡ n = omega arith in rw e (length-take-le n 
 pub decls-few : (b : List ℕ) → Passed b → decls-of (lines 6 b) ≤ 96
 unfolding counts-of
 decls-few b p = passed-kept b p .decls
+
+pub fields-few : (b : List ℕ) → Passed b → count-of field-line (lines 6 b) ≤ 512
+fields-few b p =
+    let ls = lines 6 b in
+    rw (take-length ls) at (fields-kept base ls (rw (length-lines 6 b) (p .in-limits)) (length ls) (omega arith))
