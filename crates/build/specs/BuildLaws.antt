@@ -5,8 +5,8 @@ use mathlib.Core.Bool.{Bool, true, false, _||_}
 use Prim.Native.Nat.{ℕ, _+_, _*_, _-_, _≤_, _<_}
 use native.Mathlib.Omega.{arith}
 use lib.Dec.{eqb}
-use lib.ListN.{length, take, take-length, replicate, length-replicate}
-use lib.Seq.{length-take-le}
+use lib.ListN.{length, take, replicate, length-replicate}
+use lib.Seq.{length-take-le, take-length}
 use borrow.Author.Tests.{eqb-true}
 use Rattle.columns.specs.Column.{pick}
 use Rattle.sheet.specs.Format.{base}

@@ -14,7 +14,7 @@ fill-requires c κs = search needs
 tabled-requires : tie.Need-tabled-requires
 tabled-requires c κs =
     let a = c .before .before .before .before .before .before .before .before .before .before .before in
-    (c .before .before .before .before .before .fill .ensures, ap (λ (z : Sizes). z .names) (a .pre .1 .0))
+    (c .before .before .before .before .before .fill .ensures, ap (λ (z : Sizes). z .names) (a .pre .1))
 
 -- src/lib.rt:43:1
 same-length : tie.Need-same-length

@@ -70,7 +70,7 @@ filled-requires-2 c κs =
     let a = c .before .before .before .before .before .before .before .before .before in
     let e = c .before .before .before .before .cells .ensures in
     let h : c .before .before .before .before .cells .result ≤ 8336 = rw (e, c .before .before .before .before .before .sizes-of .ensures) (cells-few (a .args .s .now) (a .pre .0)) in
-    (a .pre .0, (c .before .before .before .before .before .sizes-of .ensures, part-length 8336 (c .before .before .before .before .cells .result) h ∙ e))
+    (a .pre .0, c .before .before .before .before .before .sizes-of .ensures, part-length 8336 (c .before .before .before .before .cells .result) h ∙ e)
 
 -- src/lib.rt:53:1
 same-length-3 : tie.Need-same-length-3
