@@ -42,12 +42,12 @@ fn tried(s: &[u8], t: &[u32], u: &[u16], keep: &[u8], out: &mut [u16], slots: &m
     told(answer, decl)
 }
 
-// With 4,096 slots.
+// With 1,024 slots.
 fn remembering(s: &[u8], t: &[u32], u: &[u16], keep: &[u8], out: &mut [u16]) -> Outcome
     requires { ⌜ attempts.Asked (now s) (now t) (now u) (now keep) ⌝ }
     ensures { λ r. ⌜ attempts.Comes (now (s .entry)) (length (now (out .entry))) r ⌝ }
 {
-    let mut slots = [0u16; 45056];
+    let mut slots = [0u16; 11264];
     tried(s, t, u, keep, out, &mut slots)
 }
 
@@ -61,7 +61,7 @@ pub fn small(s: &[u8], t: &[u32], u: &[u16], keep: &[u8]) -> Outcome
     tried(s, t, u, keep, &mut out, &mut slots)
 }
 
-// 2,048 outcomes and 4,096 slots: where many declarations are unfolded, few slots would be slow.
+// 2,048 outcomes and 1,024 slots: where many declarations are unfolded, few slots would be slow.
 pub fn wide(s: &[u8], t: &[u32], u: &[u16], keep: &[u8]) -> Outcome
     requires { ⌜ attempts.Asked (now s) (now t) (now u) (now keep) ⌝ }
     ensures { λ r. ⌜ attempts.Comes (now (s .entry)) 2048 r ⌝ }
@@ -70,7 +70,7 @@ pub fn wide(s: &[u8], t: &[u32], u: &[u16], keep: &[u8]) -> Outcome
     remembering(s, t, u, keep, &mut out)
 }
 
-// 97 * 1,024 outcomes, of which any sheet has enough, and 4,096 slots.
+// 97 * 1,024 outcomes, of which any sheet has enough, and 1,024 slots.
 pub fn large(s: &[u8], t: &[u32], u: &[u16], keep: &[u8]) -> Outcome
     requires { ⌜ attempts.Asked (now s) (now t) (now u) (now keep) ⌝ }
     ensures { λ r. ⌜ attempts.Comes (now (s .entry)) 99328 r ⌝ }

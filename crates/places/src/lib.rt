@@ -8,8 +8,8 @@ ghost use Rattle.sheet.specs.Sheet.{lines};
 ghost use Rattle.lefts.specs.Lefts.{left-type};
 ghost use Rattle.places.specs.Places.{one, typed, Room, Writes, Typed};
 use emitter::Pen;
-use emitter::write_nodes;
 use forms::emit;
+use node_rows::write_nodes;
 use writer::row_at;
 
 // Where the A and the Y lines begin, how many of each are written, and the line at which declarations go on.

@@ -135,7 +135,7 @@ pub fn sheets(
     requires { ⌜ (names ≡ count-of name-line (lines 6 (now s))) × (rounds ≡ run 100 (program (lines 6 (now s))) .rounds) ⌝ }
     ensures { λ r. ⌜ Tries ((length (now (f .entry)) < 98496) ⊎ (length (now (scratch .entry)) < 1024)) (now (s .entry)) (now (v .entry)) (now (l .entry)) r (now (v .exit)) (now (l .exit)) ⌝ }
 {
-    let e = normal_forms::normal_forms(s, t, u, rank, f, scratch);
+    let e = form_tables::normal_forms(s, t, u, rank, f, scratch);
     if e > f.len() {
         return none();
     }
