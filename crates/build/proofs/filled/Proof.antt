@@ -1,5 +1,6 @@
 use mathlib.Core.Path.{_≡_, ap}
 use Rattle.tables.specs.declared.Sizes.{Sizes}
+use Rattle.tables.specs.Tables.{sizes-of}
 use borrow.Author.Needs.{needs}
 use Rattle.build.proofs.filled.Statement.{statement}
 use Rattle.build.proofs.filled.Tie as tie
@@ -12,6 +13,7 @@ fill-requires c κs = search needs
 
 -- src/lib.rt:49:5
 tabled-requires : tie.Need-tabled-requires
+unfolding sizes-of
 tabled-requires c κs =
     let a = c .before .before .before .before .before .before .before .before .before .before .before in
     (c .before .before .before .before .before .fill .ensures, ap (λ (z : Sizes). z .names) (a .pre .1))
