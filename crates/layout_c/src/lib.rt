@@ -9,7 +9,7 @@ pub extern "C" fn layout_build(
     left: &mut [u8],
     answer: &mut [u64; 3],
 )
-    ensures { λ _. ⌜ Told (now (sheet .entry)) (now (verdict .entry)) (now (left .entry)) (now (answer .exit)) (now (verdict .exit)) (now (left .exit)) ⌝ }
+    ensures { λ _. ⌜ Told (now (sheet .entry)) (now (verdict .entry)) (now (left .entry)) (now (answer .entry)) (now (answer .exit)) (now (verdict .exit)) (now (left .exit)) ⌝ }
 {
     let r = build::build(sheet, verdict, left);
     answer[0] = r.code as u64;
@@ -25,7 +25,7 @@ pub extern "C" fn layout_build_sized(
     left: &mut [u8],
     answer: &mut [u64; 5],
 )
-    ensures { λ _. ⌜ ToldSized (now (sheet .entry)) (now (verdict .entry)) (now (left .entry)) (now (answer .exit)) (now (verdict .exit)) (now (left .exit)) ⌝ }
+    ensures { λ _. ⌜ ToldSized (now (sheet .entry)) (now (verdict .entry)) (now (left .entry)) (now (answer .entry)) (now (answer .exit)) (now (verdict .exit)) (now (left .exit)) ⌝ }
 {
     let r = build::build(sheet, verdict, left);
     answer[0] = r.code as u64;
