@@ -17,6 +17,7 @@ use Rattle.model.specs.Decl.{bit}
 use Rattle.meaning.specs.Program.{name-line, arg-line, type-line, local-line, import-line, param-line, ctor-line, field-line, is, select}
 use Rattle.meaning.specs.Rows.{count-of}
 use Rattle.answer.specs.Answer.{refusal, sheet-rows}
+use Rattle.answer.specs.Cut.{Call}
 use Rattle.answer.specs.declared.Refusal.{Refusal}
 use Rattle.answer.specs.declared.Refusal.the-variants.{Accepted, Refused}
 use Rattle.limits.specs.declared.Counts.{Counts}
@@ -28,7 +29,8 @@ use Rattle.refusals.specs.RowsLaws.{accepted-passed, passed-checked, passed-kep
 use Rattle.tables.specs.Tables.{decls-of, sizes-of, cells}
 use Rattle.sizing.specs.Sizing.{Counted}
 use Rattle.sizing.specs.SizingLaws.{lines-few}
-use Rattle.built.specs.Built.{refused-as, Gives}
+use Rattle.built.specs.declared.Built.{Built}
+use Rattle.built.specs.Built.{refused-as, given, Gives}
 use Rattle.built.specs.BuiltLaws.{rows-sheet, gives-refused}
 
 -- ---- the lines of all letters together
@@ -119,3 +121,8 @@ pub fields-few : (b : List ℕ) → Passed b → count-of field-line (lines 6 b)
 fields-few b p =
     let ls = lines 6 b in
     rw (take-length ls) at (fields-kept base ls (rw (length-lines 6 b) (p .in-limits)) (length ls) (omega arith))
+
+-- ---- calls
+-- A call of the build is a call that the claims speak of (`cut-calls`).
+pub call-of : (b v l : List ℕ) (r : Built) (v′ l′ : List ℕ) → Gives b v l r v′ l′ → Call base
+call-of b v l r v′ l′ g = record { sheet = b; verdict = v; left = l; gave = given r v′ l′; is-called = g .is-called }

@@ -294,6 +294,9 @@ cut = cut-builds
 -- one call with the whole sheet. All calls have outputs of v and l bytes, and whatever these held: every call
 -- shows code 0 exactly where the whole's does, and then the last call's outputs and the whole's begin with
 -- the same two sheets, past which each output holds what it held.
+-- How this is about the code: the contract of `build::build` is `Gives` (`built`), whose equation is the one that a
+-- `Call` holds: what the call gave, `given r v′ l′`, is `called base b v l`. So a call of `build` is a `Call base`
+-- (`call-of` in `build`), with nothing to be shown beside it, and calls made in turn are the list that is spoken of here.
 pub cut-calls : (f : Format) (v l : ℕ) (b header u : List ℕ) (us : List (List ℕ)) → 0 < f .columns → Cut (f .columns) b header (u ∷ us)
     → (c : Call f) (cs : List (Call f)) → InTurn f v l header u us c cs → (whole : Call f) → Over f v l [] b whole
     → (AllAccept c cs ↔ (whole .gave .code ≡ 0)) × (whole .gave .code ≡ 0 → (x : Sheets) × Wrote whole x × Wrote (last-call c cs) x)

@@ -27,10 +27,10 @@ pub extern "C" fn layout_build_sized(
 )
     ensures { λ _. ⌜ ToldSized (now (sheet .entry)) (now (verdict .entry)) (now (left .entry)) (now (answer .entry)) (now (answer .exit)) (now (verdict .exit)) (now (left .exit)) ⌝ }
 {
-    let r = build::build(sheet, verdict, left);
-    answer[0] = r.code as u64;
-    answer[1] = r.place as u64;
-    answer[2] = r.rounds as u64;
-    answer[3] = r.verdict as u64;
-    answer[4] = r.left as u64;
+    let b = build::build(sheet, verdict, left);
+    answer[0] = b.code as u64;
+    answer[1] = b.place as u64;
+    answer[2] = b.rounds as u64;
+    answer[3] = b.verdict as u64;
+    answer[4] = b.left as u64;
 }
