@@ -1,45 +1,13 @@
+-- `deciding::resolved` meets its contract, by rows 9 and 10. Assumes nothing.
 use mathlib.Core.Path.{sym, _∙_}
-use Rattle.deciding.specs.DecidingLaws.{gives-faults, clear-of}
 use borrow.Author.Needs.{needs}
+use Rattle.deciding.specs.DecidingLaws.{gives-faults, clear-of}
 use Rattle.deciding.proofs.resolved.Statement.{statement}
 use Rattle.deciding.proofs.resolved.Tie as tie
-use Rattle.built.proofs.refused.Reads as refused-reads
-use Rattle.deciding.proofs.written.Reads as written-reads
-use Rattle.rows9.proofs.rows9_10.Reads as rows9-10-reads
 
--- src/lib.rt:53:9
-rows9-10-requires : tie.Need-rows9-10-requires
-rows9-10-requires c κs = search needs
-
--- src/lib.rt:55:74
-enum-told : tie.Need-enum-told
-enum-told c = search needs
-
--- src/lib.rt:55:30
 written-requires : tie.Need-written-requires
 written-requires c κs = let p = c .before .before .before .before .before .before .before .before .before .before .before .before .pre in (clear-of _ _ _ _ _ (p .0) (sym (c .before .before .before .before .rows9-10 .ensures) ∙ c .before .before .enum-told .given .1), p .1)
 
--- src/lib.rt:56:28
-enum-known-r : tie.Need-enum-known-r
-enum-known-r c = search needs
-
--- src/lib.rt:56:45
-refused-requires : tie.Need-refused-requires
-refused-requires c κs = search needs
-
--- src/lib.rt:38:1
-same-length : tie.Need-same-length
-same-length c = search needs
-
--- src/lib.rt:38:1
-same-length-2 : tie.Need-same-length-2
-same-length-2 c = search needs
-
--- src/lib.rt:38:1
-returns : tie.Need-returns
-returns c = search needs
-
--- src/lib.rt:38:1
 returns-2 : tie.Need-returns-2
 returns-2 c =
     let a = c .before .before .before .before .before .before .before .before .before .before .before .before .args in
@@ -49,12 +17,12 @@ pub resolved-spec : {M : Type 1} → statement M
 resolved-spec =
     tie.close
     (tie.spec
-    rows9-10-requires
-    enum-told
+    (λ c κs. search needs)
+    (λ c. search needs)
     written-requires
-    enum-known-r
-    refused-requires
-    same-length
-    same-length-2
-    returns
+    (λ c. search needs)
+    (λ c κs. search needs)
+    (λ c. search needs)
+    (λ c. search needs)
+    (λ c. search needs)
     returns-2)
