@@ -68,22 +68,28 @@ pub struct Lengths {
     pub left: usize,
 }
 
+/// A difference in words, with the call that shows it where it is one from the reference.
+pub struct Difference {
+    pub words: String,
+    pub call: Option<Call>,
+}
+
 /// What an accepted build hands on: the verdict sheet, and the whole left output.
 type Two = Option<(Vec<u8>, Vec<u8>)>;
 
-/// One build, compared with the reference: what it hands on, or where it differs in words.
-fn two(build: &dyn Build, sheet: &[u8], lengths: Lengths) -> Result<Two, String> {
+/// One build, compared with the reference: what it hands on, or where it differs.
+fn two(build: &dyn Build, sheet: &[u8], lengths: Lengths) -> Result<Two, Difference> {
     let call = Call { sheet: sheet.to_vec(), verdict_length: lengths.verdict, left_length: lengths.left, old: 7 };
     if let Some(words) = call.difference(build, &expected(sheet)) {
-        return Err(words);
+        return Err(Difference { words, call: Some(call) });
     }
     let After { said, mut verdict, left } = call.made(build);
     verdict.truncate(sheet.len());
     Ok((said.answer.code == 0).then_some((verdict, left)))
 }
 
-/// Builds the units in turn; what the last one hands on, or nothing where one is refused.
-fn in_turn(build: &dyn Build, sheet: &[u8], chosen: &[usize], lengths: Lengths) -> Result<Two, String> {
+/// Builds the units between two cuts or more in turn; what the last one hands on, or nothing where one is refused.
+fn in_turn(build: &dyn Build, sheet: &[u8], chosen: &[usize], lengths: Lengths) -> Result<Two, Difference> {
     let mut before = sheet[..chosen[0] * LINE].to_vec();
     let mut last = None;
     for unit in chosen.windows(2) {
@@ -95,15 +101,15 @@ fn in_turn(build: &dyn Build, sheet: &[u8], chosen: &[usize], lengths: Lengths) 
     Ok(last)
 }
 
-/// Where a unit differs from the reference, or the units from the whole, in words.
-pub fn difference(build: &dyn Build, sheet: &[u8], chosen: &[usize], lengths: Lengths) -> Option<String> {
+/// Where a unit differs from the reference, or the units from the whole.
+pub fn difference(build: &dyn Build, sheet: &[u8], chosen: &[usize], lengths: Lengths) -> Option<Difference> {
     let both = two(build, sheet, lengths).and_then(|whole| Ok((whole, in_turn(build, sheet, chosen, lengths)?)));
-    match both {
-        Err(words) => Some(words),
-        Ok((None, None)) => None,
-        Ok((Some(_), None)) => Some("the whole is accepted, a unit is refused".to_string()),
-        Ok((None, Some(_))) => Some("the whole is refused, every unit is accepted".to_string()),
-        Ok((Some(whole), Some(units))) if whole == units => None,
-        Ok((Some(_), Some(_))) => Some("the last unit's sheets are not those of the whole".to_string()),
-    }
+    let words = match both {
+        Err(difference) => return Some(difference),
+        Ok((whole, units)) if whole == units => return None,
+        Ok((Some(_), None)) => "the whole is accepted, a unit is refused",
+        Ok((None, _)) => "the whole is refused, every unit is accepted",
+        Ok((Some(_), Some(_))) => "the last unit's sheets are not those of the whole",
+    };
+    Some(Difference { words: words.to_string(), call: None })
 }

@@ -21,6 +21,17 @@ pub struct Found {
     pub bytes: usize,
 }
 
+/// The smallest sheet found that still shows a difference, from that of a call that does.
+fn smaller(build: &dyn Build, seed: u64, index: u64, one: &Call) -> Vec<u8> {
+    let fails = |sheet: &[u8]| {
+        let said = expected(sheet);
+        let verdict_length = (sheet.len() + one.verdict_length).saturating_sub(one.sheet.len());
+        Call { sheet: sheet.to_vec(), verdict_length, ..one.clone() }.difference(build, &said).is_some()
+            || call(seed, index, sheet.to_vec(), &said).difference(build, &said).is_some()
+    };
+    shrink::shrink(&one.sheet, &fails)
+}
+
 /// Sheet number `index`, built and compared.
 pub fn compare(build: &dyn Build, seed: u64, index: u64, counts: &Counts) -> Option<Found> {
     let bytes = sheet(seed, index);
@@ -28,13 +39,7 @@ pub fn compare(build: &dyn Build, seed: u64, index: u64, counts: &Counts) -> Opt
     let one = call(seed, index, bytes, &said);
     counts.codes[one.owed(&said).said.answer.code as usize].fetch_add(1, Ordering::Relaxed);
     if let Some(words) = one.difference(build, &said) {
-        let fails = |sheet: &[u8]| {
-            let said = expected(sheet);
-            let verdict_length = (sheet.len() + one.verdict_length).saturating_sub(one.sheet.len());
-            Call { sheet: sheet.to_vec(), verdict_length, ..one.clone() }.difference(build, &said).is_some()
-                || call(seed, index, sheet.to_vec(), &said).difference(build, &said).is_some()
-        };
-        return Some(Found { index, words, small: shrink::shrink(&one.sheet, &fails), bytes: one.sheet.len() });
+        return Some(Found { index, words, small: smaller(build, seed, index, &one), bytes: one.sheet.len() });
     }
     if index % 5 != 0 {
         return None;
@@ -45,9 +50,12 @@ pub fn compare(build: &dyn Build, seed: u64, index: u64, counts: &Counts) -> Opt
     let lengths = cut::Lengths { verdict: one.verdict_length, left: one.left_length };
     counts.cut.fetch_add(1, Ordering::Relaxed);
     counts.units.fetch_add(chosen.len() as u64 - 1, Ordering::Relaxed);
-    let words = cut::difference(build, &one.sheet, &chosen, lengths)?;
-    let fails =
-        |sheet: &[u8]| cut::cuts(sheet).is_some_and(|cuts| cut::difference(build, sheet, &cuts, lengths).is_some());
-    let small = if fails(&one.sheet) { shrink::shrink(&one.sheet, &fails) } else { one.sheet.clone() };
-    Some(Found { index, words: format!("cut at lines {chosen:?}: {words}"), small, bytes: one.sheet.len() })
+    let difference = cut::difference(build, &one.sheet, &chosen, lengths)?;
+    let small = match &difference.call {
+        Some(unit) => smaller(build, seed, index, unit),
+        // the reference does the same: the sheet as it is
+        None => one.sheet.clone(),
+    };
+    let words = format!("cut at lines {chosen:?}: {}", difference.words);
+    Some(Found { index, words, small, bytes: one.sheet.len() })
 }
