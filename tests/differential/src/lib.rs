@@ -41,8 +41,11 @@ pub struct Product;
 #[cfg(feature = "product")]
 impl Build for Product {
     fn build(&self, sheet: &[u8], verdict: &mut [u8], left: &mut [u8]) -> Said {
-        let (mut other_verdict, mut other_left) = (verdict.to_vec(), left.to_vec());
-        let other = layout::call(sheet, &mut other_verdict, &mut other_left);
+        let (old_verdict, old_left) = (verdict.to_vec(), left.to_vec());
+        let other = layout::call(sheet, verdict, left);
+        let (other_verdict, other_left) = (verdict.to_vec(), left.to_vec());
+        verdict.copy_from_slice(&old_verdict);
+        left.copy_from_slice(&old_left);
         let [code, place, rounds, written @ ..] = layout::call_sized(sheet, verdict, left);
         if other != [code, place, rounds] || other_verdict != verdict || other_left != left {
             // no answer of a build, so a difference
@@ -67,7 +70,7 @@ pub struct Call {
     pub old: u8,
 }
 
-/// What a call answers, and what the outputs hold after it.
+/// What a call answers, and what the outputs and the bytes behind them hold after it.
 #[derive(Clone, Debug)]
 pub struct After {
     pub said: Said,
@@ -75,24 +78,31 @@ pub struct After {
     pub left: Vec<u8>,
 }
 
+/// How many bytes stand behind each output, so that a write past its end shows.
+const BEHIND: usize = 64;
+
 /// Bytes that differ from place to place, so that a copy from a wrong place shows.
 fn old_bytes(old: u8, length: usize) -> Vec<u8> {
     (0..length).map(|i| old.wrapping_add((i % 251) as u8)).collect()
 }
 
 impl Call {
+    /// Both outputs before the call, with what stands behind them.
+    fn before(&self) -> (Vec<u8>, Vec<u8>) {
+        let verdict = old_bytes(self.old, self.verdict_length + BEHIND);
+        (verdict, old_bytes(self.old ^ 0x5a, self.left_length + BEHIND))
+    }
+
     /// What the build makes of it.
     pub fn made(&self, build: &dyn Build) -> After {
-        let mut verdict = old_bytes(self.old, self.verdict_length);
-        let mut left = old_bytes(self.old ^ 0x5a, self.left_length);
-        let said = build.build(&self.sheet, &mut verdict, &mut left);
+        let (mut verdict, mut left) = self.before();
+        let said = build.build(&self.sheet, &mut verdict[..self.verdict_length], &mut left[..self.left_length]);
         After { said, verdict, left }
     }
 
     /// What is to come of it, by what the reference says of its sheet.
     pub fn owed(&self, said: &Result<Sheets, Refusal>) -> After {
-        let mut verdict = old_bytes(self.old, self.verdict_length);
-        let mut left = old_bytes(self.old ^ 0x5a, self.left_length);
+        let (mut verdict, mut left) = self.before();
         let refused = |code: u64, place: usize| Answer { code, place: place as u64, rounds: 0 };
         let mut written = [0, 0];
         let answer = match said {
