@@ -1,6 +1,7 @@
 //! Families: chains of names each of which stands for something made of the one before, so that
 //! resolution goes deep, types double, arguments are dropped and surpluses travel. Sizes end up on
-//! both sides of the limit, and rows 9 and 10 meet in one declaration.
+//! both sides of the limit, and rows 9 and 10 meet in one declaration. And names that are called with
+//! arguments of many sizes.
 
 use crate::random::Random;
 use reference::line::Line;
@@ -32,6 +33,16 @@ impl Draft {
     fn tuple(&mut self, members: &[u32]) -> u32 {
         let (first, count) = self.list(members);
         self.ty([9, first, count, 0, 0])
+    }
+
+    /// The sheet's lines, with names up to the last.
+    fn lines(self, last: u32) -> Vec<Line> {
+        let name = |i: u32| Line { letter: b'N', numbers: [i, 0, 0, 0, 0], text: format!("n{i}").into_bytes() };
+        let mut all: Vec<Line> = (0..=last).map(name).collect();
+        all.extend(self.args.iter().map(|&t| Line::row(b'A', [t, 0, 0, 0, 0])));
+        all.extend(self.types.iter().map(|&t| Line::row(b'Y', t)));
+        all.extend(self.decls);
+        all
     }
 }
 
@@ -100,12 +111,57 @@ pub fn family(random: &mut Random) -> Vec<Line> {
     } else {
         d.decls.splice(0..0, lines);
     }
-    let name = |i: u32| Line { letter: b'N', numbers: [i, 0, 0, 0, 0], text: format!("n{i}").into_bytes() };
-    let mut all: Vec<Line> = (0..=user).map(name).collect();
-    all.extend(d.args.iter().map(|&t| Line::row(b'A', [t, 0, 0, 0, 0])));
-    all.extend(d.types.iter().map(|&t| Line::row(b'Y', t)));
-    all.extend(d.decls);
-    all
+    d.lines(user)
+}
+
+/// The lines of a type of about 1,024 nodes, made of calls of a few names with arguments of many sizes:
+/// a call that is taken for another one changes its size, and so whether it is refused.
+pub fn sizes(random: &mut Random) -> Vec<Line> {
+    let names = random.between(1, 5);
+    // calls are told apart by their names' numbers, too
+    let step = random.between(1, 40);
+    let name = |k: usize| CTORS + (names + k * step) as u32;
+    let two = random.percent(40);
+    let params: &[u32] = if two { &[A, B] } else { &[A] };
+    let mut d = Draft::default();
+    let variables: Vec<u32> = params.iter().map(|&p| d.ty([3, p, 0, 0, 0])).collect();
+    // a tuple for each name, and how often it has each parameter
+    let mut times = Vec::new();
+    for k in 0..names {
+        let often: Vec<usize> = params.iter().map(|_| random.between(1, 3)).collect();
+        let members: Vec<u32> = variables.iter().zip(&often).flat_map(|(&v, &n)| vec![v; n]).collect();
+        let body = d.tuple(&members);
+        declare(random, &mut d, name(k), CTORS + k as u32, params, body);
+        times.push(often);
+    }
+    // types of 1 node, of 2 nodes and so on
+    let mut towers = vec![d.ty([4, 0, 32, 0, 0])];
+    for i in 0..random.between(8, 40) {
+        towers.push(d.ty([10, towers[i], 0, 0, 0]));
+    }
+    // a tuple of calls, and of what is then missing
+    let end = random.between(1_004, 1_044);
+    let mut size = 1;
+    let mut members = Vec::new();
+    loop {
+        let k = random.below(names);
+        let at: Vec<usize> = params.iter().map(|_| random.below(towers.len())).collect();
+        let more: usize = 1 + at.iter().zip(&times[k]).map(|(i, n)| (i + 1) * n).sum::<usize>();
+        if size + more > end {
+            break;
+        }
+        size += more;
+        members.push(d.app(name(k), &at.iter().map(|&i| towers[i]).collect::<Vec<u32>>()));
+    }
+    while size < end {
+        let more = (end - size).min(towers.len());
+        size += more;
+        members.push(towers[more - 1]);
+    }
+    let all = d.tuple(&members);
+    let user = name(names);
+    d.decls.extend([Line::row(b'D', [user, 0, 1, 0, all]), Line::row(b'V', [0; 5])]);
+    d.lines(user)
 }
 
 /// What one name of the chain stands for.

@@ -159,7 +159,8 @@ pub fn sheet(seed: u64, index: u64) -> Vec<u8> {
         0..=1 => damage::long(&mut random),
         2..=5 => damage::limit(&mut random),
         6..=21 => damage::noise(&mut random),
-        22..=121 => generate::bytes(&family::family(&mut random)),
+        22..=111 => generate::bytes(&family::family(&mut random)),
+        112..=121 => generate::bytes(&family::sizes(&mut random)),
         122..=371 => {
             let plan = generate::Plan::any(&mut random);
             let mut sheet = generate::bytes(&generate::generate(&mut random, plan));
