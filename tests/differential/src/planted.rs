@@ -1,5 +1,6 @@
-//! Builds with a fault planted, to see that the tests find it: the reference's answer changed where
-//! a slip in the product would change it.
+//! Builds with a fault planted, to see that it is found and shrunk: the reference's answer changed where
+//! a slip in the product would change it. This tests the comparison and needs no product; tests/planted
+//! plants faults in the product itself.
 
 use crate::{Answer, Build, Said};
 use reference::pass::Way;
