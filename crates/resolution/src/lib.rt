@@ -79,19 +79,48 @@ fn args(
 {
     let n = kids::kids(s, t, y);
     let mut next = top;
+    let mut last = y;
     for i in 0..n {
         if next >= out.len() {
             return resolving::NO_ROOM;
         }
         let kid = kids::kid(s, t, y, i);
-        let r = node(s, t, u, out, slots, k, kid, d, at, count, 0, next);
+        let r = once(s, t, u, out, slots, k, kid, d, at, count, last, next);
         if r < resolving::VALUE {
             return r;
         }
         out[next] = r as u16;
         next += 1;
+        last = kid;
     }
     resolving::VALUE
+}
+
+// The outcome of a part, Y line y's type. Where the part before it is the same Y line, its outcome
+// stands before place `top`, and is not found anew.
+fn once(
+    s: &[u8],
+    t: &[u32],
+    u: &[u16],
+    out: &mut [u16],
+    slots: &mut [u16],
+    k: usize,
+    y: usize,
+    d: usize,
+    at: usize,
+    count: usize,
+    last: usize,
+    top: usize,
+) -> usize
+    requires { ⌜ resolver.Place (now s) (now t) (now u) y d ⌝ }
+    requires { ⌜ resolver.Args (now out) at count top × resolver.Again (sheet.lines 6 (now s)) (now u) d (scratch.part at count (now out)) y last top (now out) ⌝ }
+    requires { ⌜ Slots (resolver.call-of (sheet.lines 6 (now s)) (now u)) (now slots) ⌝ }
+    ensures { λ r. ⌜ resolver.Found (resolver.eval-of (sheet.lines 6 (now (s .entry))) (now (u .entry)) d (scratch.part at count (now (out .entry))) y (resolver.last-of at count 0 (now (out .entry)))) k (top + cty.size (nodes.type-of (sheet.lines 6 (now (s .entry))) y) + 0) top (now (out .entry)) (now (out .exit)) (resolver.call-of (sheet.lines 6 (now (s .entry))) (now (u .entry))) (now (slots .exit)) r ⌝ }
+{
+    if y == last {
+        return out[top - 1] as usize;
+    }
+    node(s, t, u, out, slots, k, y, d, at, count, 0, top)
 }
 
 // The outcome of name n at the `count` outcomes from place `at` on. Places behind them are free.

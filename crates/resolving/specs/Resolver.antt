@@ -68,6 +68,12 @@ pub record Place (b t u : List ℕ) (y d : ℕ) : Type 0 where
   pub type : y < count-of type-line (lines 6 b)
   pub decl : d < decls-of (lines 6 b)
 
+-- Where Y line y is the one last evaluated, its outcome stands before place `top`.
+pub record Again (ls : List Line) (u : List ℕ) (d : ℕ) (os : List ℕ) (y last top : ℕ) (out : List ℕ) : Type 0 where
+  pub behind : y ≡ last → 0 < top
+  pub node : y ≡ last → 4 ≤ getD out (top - 1) 0
+  pub gives : y ≡ last → (j : ℕ) → Leads (eval-of ls u d os y [] j) (ok (getD out (top - 1) 0))
+
 -- ---- what is answered
 -- Short: how little room there is, with fuel k, for what has yet to wait above place `top`
 abbrev pub Short : List ℕ → ℕ → ℕ → Type 0

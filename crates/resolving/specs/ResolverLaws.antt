@@ -8,6 +8,7 @@ use native.Mathlib.Omega.{arith}
 use native.Mathlib.Numerals.{add-one}
 use lib.Dec.{eqb, leb}
 use lib.ListN.{length, getD, set, drop}
+use lib.Seq.{getD-set-same}
 use borrow.Author.Tests.{eqb-true, eqb-false, ne-eqb, leb-true, leb-false, le-leb}
 use Rattle.sheet.specs.Line.{Line, number}
 use Rattle.sheet.specs.Sheet.{lines}
@@ -40,7 +41,7 @@ use Rattle.weighing.specs.Weigh.{kid-types, weight-of}
 use Rattle.calls.specs.CallsLaws.{Copied}
 use Rattle.memory.specs.Slots.{Slots, Written, Recalled, slots-written}
 use Rattle.states.specs.States.{unfold-at, lay-of}
-use Rattle.resolving.specs.Resolver.{States, Setup, call-of, enter-of, eval-of, evals-of, type-of-decl, last-of, Args, Place, Short, Found, FoundAll, Done, Answered, Entered}
+use Rattle.resolving.specs.Resolver.{States, Setup, call-of, enter-of, eval-of, evals-of, type-of-decl, last-of, Args, Place, Again, Short, Found, FoundAll, Done, Answered, Entered}
 
 -- a cell past the end
 pub getD-past : (xs : List ℕ) (i v : ℕ) → length xs ≤ i → getD xs i v ≡ v
@@ -136,6 +137,18 @@ module _ (b t u : List ℕ) where
           let n : 4 ≤ r = omega (arith, argument-nodes (params-of ls d) os (number (y-line ls y) 1) (args .nodes)) in
           record {
             told = says-told E k (Short out room k) (ok r) r (λ j. eval-var o q j ∙ ap ok (sym e)) (record { decided = omega arith; small = small; is = sym (answer-value r r n) });
+            small = small;
+            kept = same-refl top out;
+            slots = s;
+          }
+
+      -- the one last evaluated
+      pub node-again : (k room last r : ℕ) (slots : List ℕ) → over ≡ 0 → Again ls u d os y last top out → y ≡ last → r ≡ getD out (top - 1) 0 → r < 65536 → Slots call slots → Found E k room top out out call slots r
+      node-again k room last r slots o again q er small s =
+          let n : 4 ≤ r = omega (arith, er, again .node q) in
+          let leads : (j : ℕ) → Leads (eval-of ls u d os y [] j) (answer r r) = λ j. subst (λ (x : Result ℕ). Leads (eval-of ls u d os y [] j) x) (ap ok (sym er) ∙ sym (answer-value r r n)) (again .gives q j) in
+          record {
+            told = told-known E k r (Short out room k) r (omega arith) (λ j. subst (λ (xs : List ℕ). Leads (eval-of ls u d os y xs j) (answer r r)) (sym (no-surplus o)) (leads j));
             small = small;
             kept = same-refl top out;
             slots = s;
@@ -256,6 +269,14 @@ module _ (b t u : List ℕ) where
       args-none slots s =
           record { leads = λ j. ap ok (sym (part-none top out₀)); kept = same-refl top out₀; fit = omega (arith, args .room); nodes = subst Nodes (sym (part-none top out₀)) nodes-none; slots = s }
 
+      -- no part is its own node
+      pub again-none : (z next : ℕ) (out : List ℕ) → z < y → Again ls u d os₀ z y next out
+      again-none z next out h = record { behind = λ e. absurd (omega arith); node = λ e. absurd (omega arith); gives = λ e. absurd (omega arith) }
+
+      -- the arguments stand as they did
+      pub again-kept : (i z last next : ℕ) (out slots : List ℕ) → Done (evals-of ls u d os₀ y) top i out₀ out call slots → Again ls u d os₀ z last next out → Again ls u d (part at count out) z last next out
+      again-kept i z last next out slots done g = subst (λ (xs : List ℕ). Again ls u d xs z last next out) (sym (part-same at count top out out₀ (args .inside) (done .kept))) g
+
       upto-last : (i j : ℕ) → upto (suc i) j ≡ bind (upto i j) (λ xs. bind (eval-of ls u d os₀ (kid-of ls y i) [] j) (λ x. ok (xs ++ (x ∷ []))))
       unfolding listed
       upto-last i j = evals-last 1024 lay (ev 1024 lay j) (params-of ls d) os₀ (listed f i) (f i)
@@ -288,6 +309,19 @@ module _ (b t u : List ℕ) where
               nodes = subst Nodes (sym p) (nodes-append (part top i out) (r ∷ []) (done .nodes) (nodes-one r q));
               slots = found .slots;
             })
+
+        -- and it is the one last evaluated
+        pub args-again : 4 ≤ r → top + i < length out → (z : ℕ) → Again ls u d os₀ z kid (top + i + 1) (set out′ (top + i) r)
+        args-again q w z =
+            let e : top + i + 1 - 1 ≡ top + i = omega arith in
+            let l : length out′ ≡ length out = found .kept .long in
+            let g : getD (set out′ (top + i) r) (top + i + 1 - 1) 0 ≡ r = ap (λ (x : ℕ). getD (set out′ (top + i) r) x 0) e ∙ getD-set-same out′ (top + i) r 0 (omega arith) in
+            let leads : (j : ℕ) → Leads (eval-of ls u d os₀ (kid-of ls y i) [] j) (ok (getD (set out′ (top + i) r) (top + i + 1 - 1) 0)) = λ j. subst (λ (x : Result ℕ). Leads (eval-of ls u d os₀ (kid-of ls y i) [] j) x) (answer-value r r q ∙ ap ok (sym g)) (told-here (Unit {0}) (λ x. tt) .knows (omega arith) j) in
+            record {
+              behind = λ x. omega arith;
+              node = λ x. omega (arith, g);
+              gives = λ x j. subst (λ (v : ℕ). Leads (eval-of ls u d os₀ v [] j) (ok (getD (set out′ (top + i) r) (top + i + 1 - 1) 0))) (sym (x ∙ ek)) (leads j);
+            }
 
         -- a part stops the list
         stopped-up : (S : Type 0) (v : List ℕ) (m n : ℕ) → r < 4 → m ≤ n → Told (upto m) k v S r → Told (upto n) k v S r

@@ -1,5 +1,5 @@
 -- The functions of the resolution by outcomes meet their contracts. The measure falls with the fuel, then with the Y line,
--- then from a node to its parts. Assumes nothing.
+-- then from a part to its node and from a node to its parts. Assumes nothing.
 use mathlib.Core.Path.{_≡_, refl, sym, _∙_, ap, subst}
 use mathlib.Core.Bool.{Bool, true, false, not}
 use Prim.Native.Nat.{_+_, _-_, _*_, _≤_, suc, ℕ, _<_}
@@ -14,22 +14,25 @@ use Rattle.kids.specs.NodesLaws.{types-few}
 use Rattle.arguments.specs.ParamsLaws.{decls-few}
 use Rattle.calls.specs.CallsLaws.{Copy}
 use Rattle.memory.specs.Slots.{Slots}
-use Rattle.resolving.specs.Resolver.{evals-of, call-of, Args, Found, Done}
-use Rattle.resolving.specs.ResolverLaws.{node-var, node-stop, node-built, node-full, joined-args, node-apply, args-none, args-more, args-stop, args-full, args-done, unfolded-here, body-here, apply-enter, kid-below, name-within, names-few, apply-kept}
+use Rattle.resolving.specs.Resolver.{evals-of, call-of, Args, Again, Found, Done}
+use Rattle.resolving.specs.ResolverLaws.{node-var, node-again, node-stop, node-built, node-full, joined-args, node-apply, args-none, again-none, again-kept, args-more, args-again, args-stop, args-full, args-done, unfolded-here, body-here, apply-enter, kid-below, name-within, names-few, apply-kept}
 use borrow.Fn.Kinds.{In}
 use borrow.Fn.PlainCycle.{Measures, is, falls, and}
 use Rattle.resolution.proofs.apply.Reads as apply
 use Rattle.resolution.proofs.apply.Kinds as apply-kinds
-use Rattle.resolution.proofs.+apply+args+enter+node.Lts-apply as apply-lts
+use Rattle.resolution.proofs.+apply+args+enter+node+once.Lts-apply as apply-lts
 use Rattle.resolution.proofs.args.Reads as args
 use Rattle.resolution.proofs.args.Kinds as args-kinds
-use Rattle.resolution.proofs.+apply+args+enter+node.Lts-args as args-lts
+use Rattle.resolution.proofs.+apply+args+enter+node+once.Lts-args as args-lts
 use Rattle.resolution.proofs.enter.Reads as enter
 use Rattle.resolution.proofs.enter.Kinds as enter-kinds
-use Rattle.resolution.proofs.+apply+args+enter+node.Lts-enter as enter-lts
+use Rattle.resolution.proofs.+apply+args+enter+node+once.Lts-enter as enter-lts
 use Rattle.resolution.proofs.node.Reads as node
 use Rattle.resolution.proofs.node.Kinds as node-kinds
-use Rattle.resolution.proofs.+apply+args+enter+node.Lts-node as node-lts
+use Rattle.resolution.proofs.+apply+args+enter+node+once.Lts-node as node-lts
+use Rattle.resolution.proofs.once.Reads as once
+use Rattle.resolution.proofs.once.Kinds as once-kinds
+use Rattle.resolution.proofs.+apply+args+enter+node+once.Lts-once as once-lts
 use Rattle.arguments.proofs.argument.Reads as argument-reads
 use Rattle.calls.proofs.copy.Reads as copy-reads
 use Rattle.calls.proofs.params.Reads as params-reads
@@ -42,8 +45,8 @@ use Rattle.entries.proofs.entry.Reads as entry-reads
 use Rattle.sums.proofs.built.Reads as built-reads
 use Rattle.tables.proofs.decl_of.Reads as decl-of-reads
 use Rattle.tables.proofs.type_number.Reads as type-number-reads
-use Rattle.resolution.proofs.+apply+args+enter+node.{statement}
-use Rattle.resolution.proofs.+apply+args+enter+node.Tie.{close}
+use Rattle.resolution.proofs.+apply+args+enter+node+once.{statement}
+use Rattle.resolution.proofs.+apply+args+enter+node+once.Tie.{close}
 
 abbrev μ-apply : Measures 5 apply-kinds.ps ℕ
 μ-apply κs a = 4100 * a .1 .1 .1 .1 .1 .0 + 1
@@ -56,6 +59,9 @@ abbrev μ-enter : Measures 5 enter-kinds.ps ℕ
 
 abbrev μ-node : Measures 5 node-kinds.ps ℕ
 μ-node κs a = 4100 * a .1 .1 .1 .1 .1 .0 + 4 * a .1 .1 .1 .1 .1 .1 .0 + 2
+
+abbrev μ-once : Measures 5 once-kinds.ps ℕ
+μ-once κs a = 4100 * a .1 .1 .1 .1 .1 .0 + 4 * a .1 .1 .1 .1 .1 .1 .0 + 3
 
 abbrev apply-at : ℕ → In 5 apply-kinds.ps
 apply-at t = and 5 apply-kinds.ps (is 5 apply-kinds.ps μ-apply t) apply.Pre
@@ -80,6 +86,12 @@ node-at t = and 5 node-kinds.ps (is 5 node-kinds.ps μ-node t) node.Pre
 
 abbrev node-below : ℕ → In 5 node-kinds.ps
 node-below t = and 5 node-kinds.ps (falls 5 node-kinds.ps _<_ μ-node t) node.Pre
+
+abbrev once-at : ℕ → In 5 once-kinds.ps
+once-at t = and 5 once-kinds.ps (is 5 once-kinds.ps μ-once t) once.Pre
+
+abbrev once-below : ℕ → In 5 once-kinds.ps
+once-below t = and 5 once-kinds.ps (falls 5 once-kinds.ps _<_ μ-once t) once.Pre
 
 apply-answered-requires : (t : ℕ) → apply-lts.Need-answered-requires (
   answered-reads.Asked,
@@ -210,18 +222,18 @@ apply-returns-2 t c =
     (c .before .before .remember .ensures)
 
 abbrev args-Inv-loop : args-lts.InvT-loop
-args-Inv-loop s t u out₀ slots₀ k y d at count top n next₀ i₀ out slots next i = (i ≤ n) × (next ≡ top + i) × (length slots ≡ length slots₀) × Done (evals-of (lines 6 s) u d (part at count out₀) y) top i out₀ out (call-of (lines 6 s) u) slots
+args-Inv-loop s t u out₀ slots₀ k y d at count top n next₀ last₀ i₀ out slots next last i = (i ≤ n) × (next ≡ top + i) × (length slots ≡ length slots₀) × Done (evals-of (lines 6 s) u d (part at count out₀) y) top i out₀ out (call-of (lines 6 s) u) slots × ((z : ℕ) → z < y → Again (lines 6 s) u d (part at count out₀) z last next out)
 
 abbrev args-μ-loop : args-lts.MeasureT-loop
-args-μ-loop s t u out₀ slots₀ k y d at count top n next₀ i₀ out slots next i = n - i
+args-μ-loop s t u out₀ slots₀ k y d at count top n next₀ last₀ i₀ out slots next last i = n - i
 
 args-kids-requires : (t : ℕ) → args-lts.Need-kids-requires (
   kids-reads.Asked,
   kids-reads.Learnt,
   kid-reads.Asked,
   kid-reads.Learnt,
-  node-below t,
-  node.Post,
+  once-below t,
+  once.Post,
 ) (args-at t) args.Post args-Inv-loop args-μ-loop
 args-kids-requires t c κs = let p = c .before .before .before .before .before .pre .1 in (p .0 .setup .tabled, p .0 .type)
 
@@ -230,21 +242,21 @@ args-loop-holds : (t : ℕ) → args-lts.Need-loop-holds (
   kids-reads.Learnt,
   kid-reads.Asked,
   kid-reads.Learnt,
-  node-below t,
-  node.Post,
+  once-below t,
+  once.Post,
 ) (args-at t) args.Post args-Inv-loop args-μ-loop
 args-loop-holds t c =
     let a = c .before .before .before .before .before .before .args in
     let p = c .before .before .before .before .before .before .pre .1 in
-    (omega arith, omega arith, refl, args-none (a .s .now) (a .t .now) (a .u .now) (a .y) (a .d) (p .0) (a .at) (a .count) (a .top) (a .out .now) (p .1 .0) (a .slots .now) (p .1 .1))
+    (omega arith, omega arith, refl, args-none (a .s .now) (a .t .now) (a .u .now) (a .y) (a .d) (p .0) (a .at) (a .count) (a .top) (a .out .now) (p .1 .0) (a .slots .now) (p .1 .1), λ z h. again-none (a .s .now) (a .t .now) (a .u .now) (a .y) (a .d) (p .0) (a .at) (a .count) (a .top) (a .out .now) (p .1 .0) z (a .top) (a .out .now) h)
 
 args-same-length : (t : ℕ) → args-lts.Need-same-length (
   kids-reads.Asked,
   kids-reads.Learnt,
   kid-reads.Asked,
   kid-reads.Learnt,
-  node-below t,
-  node.Post,
+  once-below t,
+  once.Post,
 ) (args-at t) args.Post args-Inv-loop args-μ-loop
 args-same-length t c = c .before .before .loop .inv .3 .kept .long
 
@@ -253,8 +265,8 @@ args-same-length-2 : (t : ℕ) → args-lts.Need-same-length-2 (
   kids-reads.Learnt,
   kid-reads.Asked,
   kid-reads.Learnt,
-  node-below t,
-  node.Post,
+  once-below t,
+  once.Post,
 ) (args-at t) args.Post args-Inv-loop args-μ-loop
 args-same-length-2 t c = c .before .before .loop .inv .2
 
@@ -263,8 +275,8 @@ args-returns : (t : ℕ) → args-lts.Need-returns (
   kids-reads.Learnt,
   kid-reads.Asked,
   kid-reads.Learnt,
-  node-below t,
-  node.Post,
+  once-below t,
+  once.Post,
 ) (args-at t) args.Post args-Inv-loop args-μ-loop
 args-returns t c =
     let a = c .before .before .before .before .before .before .before .before .before .args in
@@ -276,20 +288,20 @@ args-kid-requires : (t : ℕ) → args-lts.Need-kid-requires (
   kids-reads.Learnt,
   kid-reads.Asked,
   kid-reads.Learnt,
-  node-below t,
-  node.Post,
+  once-below t,
+  once.Post,
 ) (args-at t) args.Post args-Inv-loop args-μ-loop
 args-kid-requires t c κs = let p = c .before .before .before .before .before .before .before .before .before .pre .1 in (p .0 .setup .tabled, (p .0 .type, omega (arith, c .before .before .before .kids .ensures, c .before .loop-test .taken)))
 
-args-node-requires : (t : ℕ) → args-lts.Need-node-requires (
+args-once-requires : (t : ℕ) → args-lts.Need-once-requires (
   kids-reads.Asked,
   kids-reads.Learnt,
   kid-reads.Asked,
   kid-reads.Learnt,
-  node-below t,
-  node.Post,
+  once-below t,
+  once.Post,
 ) (args-at t) args.Post args-Inv-loop args-μ-loop
-args-node-requires t c κs =
+args-once-requires t c κs =
     let a = c .before .before .before .before .before .before .before .before .before .before .before .before .args in
     let p = c .before .before .before .before .before .before .before .before .before .before .before .before .pre .1 in
     let l = kid-below (a .s .now) (p .0 .setup .tabled .passed) (a .y) (p .0 .type) (c .before .before .before .before .before .loop .i) (omega (arith, c .before .before .before .before .before .before .kids .ensures, c .before .before .before .before .loop-test .taken)) in (
@@ -297,7 +309,7 @@ args-node-requires t c κs =
       (
         record { setup = p .0 .setup; type = omega (arith, l, c .before .before .kid .ensures, p .0 .type); decl = p .0 .decl },
         (
-          (record { inside = omega (arith, p .1 .0 .inside, c .before .before .before .before .before .loop .inv .1); room = omega (arith, c .before .before .before .if1 .left); nodes = subst Nodes (sym (part-same (a .at) (a .count) (a .top) (c .before .before .before .before .before .loop .out) (a .out .now) (p .1 .0 .inside) (c .before .before .before .before .before .loop .inv .3 .kept))) (p .1 .0 .nodes) }, omega arith, λ e. refl),
+          (record { inside = omega (arith, p .1 .0 .inside, c .before .before .before .before .before .loop .inv .1); room = omega (arith, c .before .before .before .if1 .left); nodes = subst Nodes (sym (part-same (a .at) (a .count) (a .top) (c .before .before .before .before .before .loop .out) (a .out .now) (p .1 .0 .inside) (c .before .before .before .before .before .loop .inv .3 .kept))) (p .1 .0 .nodes) }, again-kept (a .s .now) (a .t .now) (a .u .now) (a .y) (a .d) (p .0) (a .at) (a .count) (a .top) (a .out .now) (p .1 .0) (c .before .before .before .before .before .loop .i) _ _ _ (c .before .before .before .before .before .loop .out) (c .before .before .before .before .before .loop .slots) (c .before .before .before .before .before .loop .inv .3) (c .before .before .before .before .before .loop .inv .4 _ (omega (arith, l, c .before .before .kid .ensures)))),
           c .before .before .before .before .before .loop .inv .3 .slots,
         ),
       ),
@@ -308,18 +320,18 @@ args-same-length-3 : (t : ℕ) → args-lts.Need-same-length-3 (
   kids-reads.Learnt,
   kid-reads.Asked,
   kid-reads.Learnt,
-  node-below t,
-  node.Post,
+  once-below t,
+  once.Post,
 ) (args-at t) args.Post args-Inv-loop args-μ-loop
-args-same-length-3 t c = c .before .before .before .before .before .node .ensures .kept .long ∙ c .before .before .before .before .before .before .before .before .before .before .before .loop .inv .3 .kept .long
+args-same-length-3 t c = c .before .before .before .before .before .once .ensures .kept .long ∙ c .before .before .before .before .before .before .before .before .before .before .before .loop .inv .3 .kept .long
 
 args-same-length-4 : (t : ℕ) → args-lts.Need-same-length-4 (
   kids-reads.Asked,
   kids-reads.Learnt,
   kid-reads.Asked,
   kid-reads.Learnt,
-  node-below t,
-  node.Post,
+  once-below t,
+  once.Post,
 ) (args-at t) args.Post args-Inv-loop args-μ-loop
 args-same-length-4 t c = search needs
 
@@ -328,31 +340,31 @@ args-returns-2 : (t : ℕ) → args-lts.Need-returns-2 (
   kids-reads.Learnt,
   kid-reads.Asked,
   kid-reads.Learnt,
-  node-below t,
-  node.Post,
+  once-below t,
+  once.Post,
 ) (args-at t) args.Post args-Inv-loop args-μ-loop
 args-returns-2 t c =
     let a = c .before .before .before .before .before .before .before .before .before .before .before .before .before .before .before .before .before .before .args in
     let p = c .before .before .before .before .before .before .before .before .before .before .before .before .before .before .before .before .before .before .pre .1 in
-    args-stop (a .s .now) (a .t .now) (a .u .now) (a .y) (a .d) (p .0) (a .at) (a .count) (a .top) (a .out .now) (p .1 .0) (c .before .before .before .before .before .before .before .before .before .before .before .loop .i) _ (c .before .before .before .before .before .before .before .before .before .before .before .loop .out) (c .before .before .before .before .before .before .before .before .before .before .before .loop .slots) (c .before .before .before .before .before .before .before .before .before .before .before .loop .inv .3) (omega (arith, c .before .before .before .before .before .before .before .before .before .before .before .before .kids .ensures, c .before .before .before .before .before .before .before .before .before .before .loop-test .taken)) (c .before .before .before .before .before .before .before .before .kid .ensures) (a .k) _ _ _ (rw (c .before .before .before .before .before .before .before .before .before .before .before .loop .inv .1) at (c .before .before .before .before .before .node .ensures)) (c .if2 .taken) (omega (arith, c .before .before .before .before .before .before .before .before .before .if1 .left, c .before .before .before .before .before .before .before .before .before .before .before .loop .inv .1))
+    args-stop (a .s .now) (a .t .now) (a .u .now) (a .y) (a .d) (p .0) (a .at) (a .count) (a .top) (a .out .now) (p .1 .0) (c .before .before .before .before .before .before .before .before .before .before .before .loop .i) _ (c .before .before .before .before .before .before .before .before .before .before .before .loop .out) (c .before .before .before .before .before .before .before .before .before .before .before .loop .slots) (c .before .before .before .before .before .before .before .before .before .before .before .loop .inv .3) (omega (arith, c .before .before .before .before .before .before .before .before .before .before .before .before .kids .ensures, c .before .before .before .before .before .before .before .before .before .before .loop-test .taken)) (c .before .before .before .before .before .before .before .before .kid .ensures) (a .k) _ _ _ (rw (c .before .before .before .before .before .before .before .before .before .before .before .loop .inv .1) at (c .before .before .before .before .before .once .ensures)) (c .if2 .taken) (omega (arith, c .before .before .before .before .before .before .before .before .before .if1 .left, c .before .before .before .before .before .before .before .before .before .before .before .loop .inv .1))
 
 args-cast-out : (t : ℕ) → args-lts.Need-cast-out (
   kids-reads.Asked,
   kids-reads.Learnt,
   kid-reads.Asked,
   kid-reads.Learnt,
-  node-below t,
-  node.Post,
+  once-below t,
+  once.Post,
 ) (args-at t) args.Post args-Inv-loop args-μ-loop
-args-cast-out t c = omega (arith, c .before .before .before .before .before .node .ensures .small)
+args-cast-out t c = omega (arith, c .before .before .before .before .before .once .ensures .small)
 
 args-mul-out : (t : ℕ) → args-lts.Need-mul-out (
   kids-reads.Asked,
   kids-reads.Learnt,
   kid-reads.Asked,
   kid-reads.Learnt,
-  node-below t,
-  node.Post,
+  once-below t,
+  once.Post,
 ) (args-at t) args.Post args-Inv-loop args-μ-loop
 args-mul-out t c = omega (arith, c .before .before .before .before .before .before .before .before .before .if1 .left, c .before .before .before .before .before .before .before .before .before .before .before .loop .inv .3 .kept .long, c .before .before .before .before .before .before .before .before .before .before .before .before .before .before .before .before .before .before .good .1 .1 .1 .0)
 
@@ -361,18 +373,18 @@ args-slice-write-out : (t : ℕ) → args-lts.Need-slice-write-out (
   kids-reads.Learnt,
   kid-reads.Asked,
   kid-reads.Learnt,
-  node-below t,
-  node.Post,
+  once-below t,
+  once.Post,
 ) (args-at t) args.Post args-Inv-loop args-μ-loop
-args-slice-write-out t c = omega (arith, c .before .before .before .before .before .before .before .before .before .if1 .left, c .before .before .before .before .before .node .ensures .kept .long)
+args-slice-write-out t c = omega (arith, c .before .before .before .before .before .before .before .before .before .if1 .left, c .before .before .before .before .before .once .ensures .kept .long)
 
 args-add-next : (t : ℕ) → args-lts.Need-add-next (
   kids-reads.Asked,
   kids-reads.Learnt,
   kid-reads.Asked,
   kid-reads.Learnt,
-  node-below t,
-  node.Post,
+  once-below t,
+  once.Post,
 ) (args-at t) args.Post args-Inv-loop args-μ-loop
 args-add-next t c = omega (arith, c .before .before .before .before .before .before .before .before .before .if1 .left, c .before .before .before .before .before .before .before .before .before .before .before .loop .inv .3 .kept .long, c .before .before .before .before .before .before .before .before .before .before .before .before .before .before .before .before .before .before .good .1 .1 .1 .0)
 
@@ -381,8 +393,8 @@ args-add-i : (t : ℕ) → args-lts.Need-add-i (
   kids-reads.Learnt,
   kid-reads.Asked,
   kid-reads.Learnt,
-  node-below t,
-  node.Post,
+  once-below t,
+  once.Post,
 ) (args-at t) args.Post args-Inv-loop args-μ-loop
 args-add-i t c = omega (arith, c .before .before .before .before .before .before .before .before .before .before .loop-test .taken)
 
@@ -391,8 +403,8 @@ args-loop-less : (t : ℕ) → args-lts.Need-loop-less (
   kids-reads.Learnt,
   kid-reads.Asked,
   kid-reads.Learnt,
-  node-below t,
-  node.Post,
+  once-below t,
+  once.Post,
 ) (args-at t) args.Post args-Inv-loop args-μ-loop
 args-loop-less t c = omega (arith, c .before .before .before .before .before .before .before .before .before .before .loop-test .taken)
 
@@ -401,8 +413,8 @@ args-loop-again : (t : ℕ) → args-lts.Need-loop-again (
   kids-reads.Learnt,
   kid-reads.Asked,
   kid-reads.Learnt,
-  node-below t,
-  node.Post,
+  once-below t,
+  once.Post,
 ) (args-at t) args.Post args-Inv-loop args-μ-loop
 args-loop-again t c =
     let a = c .before .before .before .before .before .before .before .before .before .before .before .before .before .before .before .before .before .before .args in
@@ -410,7 +422,8 @@ args-loop-again t c =
       omega (arith, c .before .before .before .before .before .before .before .before .before .before .loop-test .taken),
       omega (arith, c .before .before .before .before .before .before .before .before .before .before .before .loop .inv .1),
       search needs,
-      rw (sym (c .before .before .before .before .before .before .before .before .before .before .before .loop .inv .1)) at (args-more (a .s .now) (a .t .now) (a .u .now) (a .y) (a .d) (p .0) (a .at) (a .count) (a .top) (a .out .now) (p .1 .0) (c .before .before .before .before .before .before .before .before .before .before .before .loop .i) _ (c .before .before .before .before .before .before .before .before .before .before .before .loop .out) (c .before .before .before .before .before .before .before .before .before .before .before .loop .slots) (c .before .before .before .before .before .before .before .before .before .before .before .loop .inv .3) (omega (arith, c .before .before .before .before .before .before .before .before .before .before .before .before .kids .ensures, c .before .before .before .before .before .before .before .before .before .before .loop-test .taken)) (c .before .before .before .before .before .before .before .before .kid .ensures) (a .k) _ _ _ (rw (c .before .before .before .before .before .before .before .before .before .before .before .loop .inv .1) at (c .before .before .before .before .before .node .ensures)) (c .if2 .left) (omega (arith, c .before .before .before .before .before .before .before .before .before .if1 .left, c .before .before .before .before .before .before .before .before .before .before .before .loop .inv .1))),
+      rw (sym (c .before .before .before .before .before .before .before .before .before .before .before .loop .inv .1)) at (args-more (a .s .now) (a .t .now) (a .u .now) (a .y) (a .d) (p .0) (a .at) (a .count) (a .top) (a .out .now) (p .1 .0) (c .before .before .before .before .before .before .before .before .before .before .before .loop .i) _ (c .before .before .before .before .before .before .before .before .before .before .before .loop .out) (c .before .before .before .before .before .before .before .before .before .before .before .loop .slots) (c .before .before .before .before .before .before .before .before .before .before .before .loop .inv .3) (omega (arith, c .before .before .before .before .before .before .before .before .before .before .before .before .kids .ensures, c .before .before .before .before .before .before .before .before .before .before .loop-test .taken)) (c .before .before .before .before .before .before .before .before .kid .ensures) (a .k) _ _ _ (rw (c .before .before .before .before .before .before .before .before .before .before .before .loop .inv .1) at (c .before .before .before .before .before .once .ensures)) (c .if2 .left) (omega (arith, c .before .before .before .before .before .before .before .before .before .if1 .left, c .before .before .before .before .before .before .before .before .before .before .before .loop .inv .1))),
+      λ z h. rw (sym (c .before .before .before .before .before .before .before .before .before .before .before .loop .inv .1)) at (args-again (a .s .now) (a .t .now) (a .u .now) (a .y) (a .d) (p .0) (a .at) (a .count) (a .top) (a .out .now) (p .1 .0) (c .before .before .before .before .before .before .before .before .before .before .before .loop .i) _ (c .before .before .before .before .before .before .before .before .before .before .before .loop .out) (c .before .before .before .before .before .before .before .before .before .before .before .loop .slots) (c .before .before .before .before .before .before .before .before .before .before .before .loop .inv .3) (omega (arith, c .before .before .before .before .before .before .before .before .before .before .before .before .kids .ensures, c .before .before .before .before .before .before .before .before .before .before .loop-test .taken)) (c .before .before .before .before .before .before .before .before .kid .ensures) (a .k) _ _ _ (rw (c .before .before .before .before .before .before .before .before .before .before .before .loop .inv .1) at (c .before .before .before .before .before .once .ensures)) (c .if2 .left) (omega (arith, c .before .before .before .before .before .before .before .before .before .if1 .left, c .before .before .before .before .before .before .before .before .before .before .before .loop .inv .1)) z),
     )
 
 args-same-length-5 : (t : ℕ) → args-lts.Need-same-length-5 (
@@ -418,8 +431,8 @@ args-same-length-5 : (t : ℕ) → args-lts.Need-same-length-5 (
   kids-reads.Learnt,
   kid-reads.Asked,
   kid-reads.Learnt,
-  node-below t,
-  node.Post,
+  once-below t,
+  once.Post,
 ) (args-at t) args.Post args-Inv-loop args-μ-loop
 args-same-length-5 t c = c .before .loop .inv .3 .kept .long
 
@@ -428,8 +441,8 @@ args-same-length-6 : (t : ℕ) → args-lts.Need-same-length-6 (
   kids-reads.Learnt,
   kid-reads.Asked,
   kid-reads.Learnt,
-  node-below t,
-  node.Post,
+  once-below t,
+  once.Post,
 ) (args-at t) args.Post args-Inv-loop args-μ-loop
 args-same-length-6 t c = c .before .loop .inv .2
 
@@ -438,8 +451,8 @@ args-returns-3 : (t : ℕ) → args-lts.Need-returns-3 (
   kids-reads.Learnt,
   kid-reads.Asked,
   kid-reads.Learnt,
-  node-below t,
-  node.Post,
+  once-below t,
+  once.Post,
 ) (args-at t) args.Post args-Inv-loop args-μ-loop
 args-returns-3 t c =
     let a = c .before .before .before .before .before .before .before .before .args in
@@ -1130,8 +1143,67 @@ node-returns-5 t c =
     let p = c .before .before .before .before .before .before .before .before .before .before .before .before .before .before .before .before .before .before .before .before .pre .1 in
     node-built (a .s .now) (a .t .now) (a .u .now) (a .y) (a .d) (p .0) (a .at) (a .count) (a .over) (a .top) (a .out .now) (p .1 .0 .0) (a .k) _ _ _ (λ e. c .before .before .before .before .before .before .before .before .before .before .before .before .if1 .left (c .before .before .before .before .before .before .before .before .before .before .before .before .before .before .type-number .ensures ∙ e)) (c .before .before .before .before .before .before .before .before .before .args2 .ensures) _ _ (c .before .before .before .before .if2 .left) (c .before .before .before .kids .ensures) (λ e. c .before .before .if3 .left (c .before .before .before .before .before .before .before .before .before .before .before .before .before .before .type-number .ensures ∙ e)) (c .built .ensures)
 
-pub +apply+args+enter+node-spec : {M : Type 1} → statement M
-+apply+args+enter+node-spec = close μ-apply μ-args μ-enter μ-node (λ t. apply-lts.spec (
+once-sub-result : (t : ℕ) → once-lts.Need-sub-result (
+  node-below t,
+  node.Post,
+) (once-at t) once.Post
+once-sub-result t c = omega (arith, c .before .before .before .before .before .before .pre .1 .1 .0 .1 .behind (c .if1 .taken))
+
+once-mul-result : (t : ℕ) → once-lts.Need-mul-result (
+  node-below t,
+  node.Post,
+) (once-at t) once.Post
+once-mul-result t c = omega (arith, c .before .before .before .before .before .before .pre .1 .1 .0 .0 .room, c .before .before .before .before .before .before .good .1 .1 .1 .0)
+
+once-slice-read-result : (t : ℕ) → once-lts.Need-slice-read-result (
+  node-below t,
+  node.Post,
+) (once-at t) once.Post
+once-slice-read-result t c = omega (arith, c .before .before .before .before .before .before .before .pre .1 .1 .0 .1 .behind (c .before .if1 .taken), c .before .before .before .before .before .before .before .pre .1 .1 .0 .0 .room)
+
+once-cast-result : (t : ℕ) → once-lts.Need-cast-result (
+  node-below t,
+  node.Post,
+) (once-at t) once.Post
+once-cast-result t c = omega (arith, c .slice-known3 .given (c .before .before .before .before .before .before .before .args .top - 1))
+
+once-returns : (t : ℕ) → once-lts.Need-returns (
+  node-below t,
+  node.Post,
+) (once-at t) once.Post
+once-returns t c =
+    let a = c .before .before .before .before .before .before .before .args in
+    let p = c .before .before .before .before .before .before .before .pre .1 in
+    node-again (a .s .now) (a .t .now) (a .u .now) (a .y) (a .d) (p .0) (a .at) (a .count) 0 (a .top) (a .out .now) (p .1 .0 .0) (a .k) _ (a .last) _ (a .slots .now) refl (p .1 .0 .1) (c .before .if1 .taken) refl (omega (arith, c .slice-known3 .given (a .top - 1))) (p .1 .1)
+
+once-node-requires : (t : ℕ) → once-lts.Need-node-requires (
+  node-below t,
+  node.Post,
+) (once-at t) once.Post
+once-node-requires t c κs =
+    let p = c .before .before .before .before .before .before .before .before .pre .1 in
+    (omega (arith, c .before .before .before .before .before .before .before .before .pre .0), (p .0, ((p .1 .0 .0, omega arith, λ e. refl), p .1 .1)))
+
+once-same-length : (t : ℕ) → once-lts.Need-same-length (
+  node-below t,
+  node.Post,
+) (once-at t) once.Post
+once-same-length t c = c .before .before .before .before .node .ensures .kept .long
+
+once-same-length-2 : (t : ℕ) → once-lts.Need-same-length-2 (
+  node-below t,
+  node.Post,
+) (once-at t) once.Post
+once-same-length-2 t c = search needs
+
+once-returns-2 : (t : ℕ) → once-lts.Need-returns-2 (
+  node-below t,
+  node.Post,
+) (once-at t) once.Post
+once-returns-2 t c = c .before .before .before .before .node .ensures
+
+pub +apply+args+enter+node+once-spec : {M : Type 1} → statement M
++apply+args+enter+node+once-spec = close μ-apply μ-args μ-enter μ-node μ-once (λ t. apply-lts.spec (
   answered-reads.Asked,
   answered-reads.Learnt,
   decl-of-reads.Asked,
@@ -1158,8 +1230,8 @@ pub +apply+args+enter+node-spec : {M : Type 1} → statement M
       kids-reads.Learnt,
       kid-reads.Asked,
       kid-reads.Learnt,
-      node-below t,
-      node.Post,
+      once-below t,
+      once.Post,
     )
     (args-at t)
     args.Post
@@ -1171,7 +1243,7 @@ pub +apply+args+enter+node-spec : {M : Type 1} → statement M
     (args-same-length-2 t)
     (args-returns t)
     (args-kid-requires t)
-    (args-node-requires t)
+    (args-once-requires t)
     (args-same-length-3 t)
     (args-same-length-4 t)
     (args-returns-2 t)
@@ -1209,7 +1281,7 @@ pub +apply+args+enter+node-spec : {M : Type 1} → statement M
     (enter-same-length-2 t)
     (enter-same-length-3 t)
     (enter-returns-2 t))
-    λ t. node-lts.spec (
+    (λ t. node-lts.spec (
       type-number-reads.Asked,
       type-number-reads.Learnt,
       argument-reads.Asked,
@@ -1253,4 +1325,19 @@ pub +apply+args+enter+node-spec : {M : Type 1} → statement M
     (node-built-requires t)
     (node-same-length-8 t)
     (node-same-length-9 t)
-    (node-returns-5 t)
+    (node-returns-5 t))
+    λ t. once-lts.spec (
+      node-below t,
+      node.Post,
+    )
+    (once-at t)
+    once.Post
+    (once-sub-result t)
+    (once-mul-result t)
+    (once-slice-read-result t)
+    (once-cast-result t)
+    (once-returns t)
+    (once-node-requires t)
+    (once-same-length t)
+    (once-same-length-2 t)
+    (once-returns-2 t)
