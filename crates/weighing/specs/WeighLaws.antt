@@ -2,7 +2,7 @@
 use mathlib.Core.Path.{_≡_, refl, ap, sym, _∙_}
 use mathlib.Core.List.{List}
 use mathlib.Core.Bool.{Bool, true, false}
-use Prim.Native.Nat.{ℕ, zero, suc, _+_, _/_, _≤_, _<_}
+use Prim.Native.Nat.{ℕ, zero, suc, _+_, _-_, _/_, _≤_, _<_}
 use native.Mathlib.Omega.{arith}
 use native.Mathlib.Numerals.{add-one}
 use lib.Dec.{eqb, leb}
@@ -17,7 +17,7 @@ use Rattle.outcomes.specs.Outcome.{nodes, argument, weight, weights}
 use Rattle.outcomes.specs.Answer.{parts, listed}
 use Rattle.outcomes.specs.Scratch.{capped}
 use Rattle.outcomes.specs.Laws.Answer.{weight-parts, weights-last}
-use Rattle.outcomes.specs.Laws.Scratch.{capped-small, capped-large, capped-add, capped-over}
+use Rattle.outcomes.specs.Laws.Scratch.{capped-small, capped-large, capped-add, capped-over, capped-under}
 use Rattle.kids.specs.Nodes.{y-line, kind-of, type-of, kids-of, kid-of}
 use Rattle.kids.specs.NodesLaws.{var-type, app-type, plain-type}
 use Rattle.weighing.specs.Weigh.{kid-types}
@@ -94,3 +94,12 @@ module _ (ps os : List ℕ) (f : ℕ → Cty) (from : ℕ) where
   kids-over i n w h e q =
       let o : 1024 < from + weights ps os (listed f i) = capped-over 1024 (from + weights ps os (listed f i)) (omega arith) in
       e ∙ (capped-large 1024 (from + weights ps os (listed f i)) o ∙ sym (capped-large 1024 (from + weights ps os (listed f n)) (omega (arith, weights-le i n h))))
+
+-- a part like the one before it
+pub once-more : (from prior weight r : ℕ) → from ≡ prior + weight → r ≡ capped 1024 (from + (from - prior)) → r ≡ capped 1024 (from + weight)
+once-more from prior weight r e q =
+    let a : from - prior ≡ weight = omega arith in
+    q ∙ ap (λ (n : ℕ). capped 1024 (from + n)) a
+
+pub once-last : (from weight r : ℕ) → r ≡ capped 1024 (from + weight) → r ≤ 1024 → r ≡ from + weight
+once-last from weight r e h = e ∙ capped-under 1024 (from + weight) (omega arith) .1

@@ -50,12 +50,42 @@ fn weigh_kids(
 {
     let n = kids::kids(s, t, y);
     let mut w = from;
+    let mut last = y;
+    let mut prior = from;
     for i in 0..n {
         if w > sums::LIMIT {
             return w;
         }
         let kid = kids::kid(s, t, y, i);
-        w = weigh(s, t, kid, d, out, at, count, w);
+        let sum = weigh_once(s, t, kid, d, out, at, count, w, last, prior);
+        last = kid;
+        prior = w;
+        w = sum;
     }
     w
+}
+
+// The nodes of a part, Y line y's type, added to `from`. Where the part before it is the same Y line,
+// they are what was added to `prior`.
+fn weigh_once(
+    s: &[u8],
+    t: &[u32],
+    y: usize,
+    d: usize,
+    out: &[u16],
+    at: usize,
+    count: usize,
+    from: usize,
+    last: usize,
+    prior: usize,
+) -> usize
+    requires { ⌜ tables.Tabled (now s) (now t) × (y < rows.count-of program.type-line (sheet.lines 6 (now s))) ⌝ }
+    requires { ⌜ (d < tables.decls-of (sheet.lines 6 (now s))) × (at + count ≤ length (now out)) × (from ≤ 1025) ⌝ }
+    requires { ⌜ (y ≡ last → from ≡ prior + weigh.weight-of (sheet.lines 6 (now s)) d (now out) at count y) ⌝ }
+    ensures { λ r. ⌜ r ≡ scratch.capped 1024 (from + weigh.weight-of (sheet.lines 6 (now (s .entry))) d (now (out .entry)) at count y) ⌝ }
+{
+    if y == last {
+        return sums::more(from, from - prior);
+    }
+    weigh(s, t, y, d, out, at, count, from)
 }

@@ -1,4 +1,5 @@
--- `weighing::weigh` and `weighing::weigh_kids` meet their contracts. The measure falls with the Y line. Assumes nothing.
+-- `weighing::weigh`, `weighing::weigh_kids` and `weighing::weigh_once` meet their contracts. The measure falls with the Y line, then from a
+-- part to its node and from a node to its parts. Assumes nothing.
 use mathlib.Core.Path.{_≡_, sym, _∙_, ap}
 use Prim.Native.Nat.{_+_, _-_, _*_, _≤_, ℕ, _<_}
 use native.Mathlib.Omega.{arith}
@@ -10,28 +11,34 @@ use Rattle.kids.specs.Nodes.{kids-of, kid-of, type-of}
 use Rattle.kids.specs.NodesLaws.{node-at}
 use Rattle.arguments.specs.Params.{params-of}
 use Rattle.weighing.specs.Weigh.{weight-of, weights-of}
-use Rattle.weighing.specs.WeighLaws.{weigh-var, weigh-node, kids-none, kids-more, kids-over}
+use Rattle.weighing.specs.WeighLaws.{weigh-var, weigh-node, kids-none, kids-more, kids-over, once-more, once-last}
 use borrow.Fn.Kinds.{In}
 use borrow.Fn.PlainCycle.{Measures, is, falls, and}
 use Rattle.weighing.proofs.weigh.Reads as weigh
 use Rattle.weighing.proofs.weigh.Kinds as weigh-kinds
-use Rattle.weighing.proofs.+weigh+weigh_kids.Lts-weigh as weigh-lts
+use Rattle.weighing.proofs.+weigh+weigh_kids+weigh_once.Lts-weigh as weigh-lts
 use Rattle.weighing.proofs.weigh_kids.Reads as weigh-kids
 use Rattle.weighing.proofs.weigh_kids.Kinds as weigh-kids-kinds
-use Rattle.weighing.proofs.+weigh+weigh_kids.Lts-weigh_kids as weigh-kids-lts
+use Rattle.weighing.proofs.+weigh+weigh_kids+weigh_once.Lts-weigh_kids as weigh-kids-lts
+use Rattle.weighing.proofs.weigh_once.Reads as weigh-once
+use Rattle.weighing.proofs.weigh_once.Kinds as weigh-once-kinds
+use Rattle.weighing.proofs.+weigh+weigh_kids+weigh_once.Lts-weigh_once as weigh-once-lts
 use Rattle.arguments.proofs.argument.Reads as argument-reads
 use Rattle.kids.proofs.kid.Reads as kid-reads
 use Rattle.kids.proofs.kids.Reads as kids-reads
 use Rattle.sums.proofs.more.Reads as more-reads
 use Rattle.tables.proofs.type_number.Reads as type-number-reads
-use Rattle.weighing.proofs.+weigh+weigh_kids.{statement}
-use Rattle.weighing.proofs.+weigh+weigh_kids.Tie.{close}
+use Rattle.weighing.proofs.+weigh+weigh_kids+weigh_once.{statement}
+use Rattle.weighing.proofs.+weigh+weigh_kids+weigh_once.Tie.{close}
 
 abbrev μ-weigh : Measures 3 weigh-kinds.ps ℕ
-μ-weigh κs a = 2 * a .1 .1 .0 + 1
+μ-weigh κs a = 3 * a .1 .1 .0 + 1
 
 abbrev μ-weigh-kids : Measures 3 weigh-kids-kinds.ps ℕ
-μ-weigh-kids κs a = 2 * a .1 .1 .0
+μ-weigh-kids κs a = 3 * a .1 .1 .0
+
+abbrev μ-weigh-once : Measures 3 weigh-once-kinds.ps ℕ
+μ-weigh-once κs a = 3 * a .1 .1 .0 + 2
 
 abbrev weigh-at : ℕ → In 3 weigh-kinds.ps
 weigh-at t = and 3 weigh-kinds.ps (is 3 weigh-kinds.ps μ-weigh t) weigh.Pre
@@ -46,6 +53,14 @@ weigh-kids-at t =
 abbrev weigh-kids-below : ℕ → In 3 weigh-kids-kinds.ps
 weigh-kids-below t =
     and 3 weigh-kids-kinds.ps (falls 3 weigh-kids-kinds.ps _<_ μ-weigh-kids t) weigh-kids.Pre
+
+abbrev weigh-once-at : ℕ → In 3 weigh-once-kinds.ps
+weigh-once-at t =
+    and 3 weigh-once-kinds.ps (is 3 weigh-once-kinds.ps μ-weigh-once t) weigh-once.Pre
+
+abbrev weigh-once-below : ℕ → In 3 weigh-once-kinds.ps
+weigh-once-below t =
+    and 3 weigh-once-kinds.ps (falls 3 weigh-once-kinds.ps _<_ μ-weigh-once t) weigh-once.Pre
 
 weigh-type-number-requires : (t : ℕ) → weigh-lts.Need-type-number-requires (
   type-number-reads.Asked,
@@ -164,18 +179,18 @@ weigh-returns-2 t c =
     weigh-node (a .s .now) (p .0 .0 .passed) (params-of (lines 6 (a .s .now)) (a .d)) (part (a .at) (a .count) (a .out .now)) (a .y) (p .0 .1) (a .from) _ _ (λ e. c .before .before .if1 .left (c .before .before .before .type-number .ensures ∙ e)) (c .before .more2 .ensures) (c .weigh-kids .ensures)
 
 abbrev weigh-kids-Inv-loop : weigh-kids-lts.InvT-loop
-weigh-kids-Inv-loop s t y d out at count from n w₀ i₀ w i = (i ≤ n) × (w ≡ capped 1024 (from + weights-of (lines 6 s) d out at count y i))
+weigh-kids-Inv-loop s t y d out at count from n w₀ last₀ prior₀ i₀ w last prior i = (i ≤ n) × (w ≡ capped 1024 (from + weights-of (lines 6 s) d out at count y i)) × ((z : ℕ) → z < y → w ≤ 1024 → z ≡ last → w ≡ prior + weight-of (lines 6 s) d out at count z)
 
 abbrev weigh-kids-μ-loop : weigh-kids-lts.MeasureT-loop
-weigh-kids-μ-loop s t y d out at count from n w₀ i₀ w i = n - i
+weigh-kids-μ-loop s t y d out at count from n w₀ last₀ prior₀ i₀ w last prior i = n - i
 
 weigh-kids-kids-requires : (t : ℕ) → weigh-kids-lts.Need-kids-requires (
   kids-reads.Asked,
   kids-reads.Learnt,
   kid-reads.Asked,
   kid-reads.Learnt,
-  weigh-below t,
-  weigh.Post,
+  weigh-once-below t,
+  weigh-once.Post,
 ) (weigh-kids-at t) weigh-kids.Post weigh-kids-Inv-loop weigh-kids-μ-loop
 weigh-kids-kids-requires t c κs = let p = c .before .before .before .pre .1 in (p .0 .0, p .0 .1)
 
@@ -184,20 +199,20 @@ weigh-kids-loop-holds : (t : ℕ) → weigh-kids-lts.Need-loop-holds (
   kids-reads.Learnt,
   kid-reads.Asked,
   kid-reads.Learnt,
-  weigh-below t,
-  weigh.Post,
+  weigh-once-below t,
+  weigh-once.Post,
 ) (weigh-kids-at t) weigh-kids.Post weigh-kids-Inv-loop weigh-kids-μ-loop
 weigh-kids-loop-holds t c =
     let a = c .before .before .before .before .args in
-    (omega arith, kids-none (params-of (lines 6 (a .s .now)) (a .d)) (part (a .at) (a .count) (a .out .now)) (λ i. type-of (lines 6 (a .s .now)) (kid-of (lines 6 (a .s .now)) (a .y) i)) (a .from) (c .before .before .before .before .pre .1 .1 .2))
+    (omega arith, kids-none (params-of (lines 6 (a .s .now)) (a .d)) (part (a .at) (a .count) (a .out .now)) (λ i. type-of (lines 6 (a .s .now)) (kid-of (lines 6 (a .s .now)) (a .y) i)) (a .from) (c .before .before .before .before .pre .1 .1 .2), λ z h f e. absurd (omega arith))
 
 weigh-kids-returns : (t : ℕ) → weigh-kids-lts.Need-returns (
   kids-reads.Asked,
   kids-reads.Learnt,
   kid-reads.Asked,
   kid-reads.Learnt,
-  weigh-below t,
-  weigh.Post,
+  weigh-once-below t,
+  weigh-once.Post,
 ) (weigh-kids-at t) weigh-kids.Post weigh-kids-Inv-loop weigh-kids-μ-loop
 weigh-kids-returns t c =
     let a = c .before .before .before .before .before .before .before .args in
@@ -208,32 +223,32 @@ weigh-kids-kid-requires : (t : ℕ) → weigh-kids-lts.Need-kid-requires (
   kids-reads.Learnt,
   kid-reads.Asked,
   kid-reads.Learnt,
-  weigh-below t,
-  weigh.Post,
+  weigh-once-below t,
+  weigh-once.Post,
 ) (weigh-kids-at t) weigh-kids.Post weigh-kids-Inv-loop weigh-kids-μ-loop
 weigh-kids-kid-requires t c κs = let p = c .before .before .before .before .before .before .before .pre .1 in (p .0 .0, (p .0 .1, omega (arith, c .before .before .before .kids .ensures, c .before .loop-test .taken)))
 
-weigh-kids-weigh-requires : (t : ℕ) → weigh-kids-lts.Need-weigh-requires (
+weigh-kids-weigh-once-requires : (t : ℕ) → weigh-kids-lts.Need-weigh-once-requires (
   kids-reads.Asked,
   kids-reads.Learnt,
   kid-reads.Asked,
   kid-reads.Learnt,
-  weigh-below t,
-  weigh.Post,
+  weigh-once-below t,
+  weigh-once.Post,
 ) (weigh-kids-at t) weigh-kids.Post weigh-kids-Inv-loop weigh-kids-μ-loop
-weigh-kids-weigh-requires t c κs =
+weigh-kids-weigh-once-requires t c κs =
     let a = c .before .before .before .before .before .before .before .before .args in
     let p = c .before .before .before .before .before .before .before .before .pre .1 in
     let l = node-at (a .s .now) (p .0 .0 .passed) (a .y) (p .0 .1) .lower (c .before .before .before .loop .i) (omega (arith, c .before .before .before .before .kids .ensures, c .before .before .loop-test .taken)) in
-    (omega (arith, l, c .kid .ensures, c .before .before .before .before .before .before .before .before .pre .0), ((p .0 .0, omega (arith, l, c .kid .ensures, p .0 .1)), (p .1 .0, p .1 .1, omega (arith, c .before .if1 .left))))
+    (omega (arith, l, c .kid .ensures, c .before .before .before .before .before .before .before .before .pre .0), ((p .0 .0, omega (arith, l, c .kid .ensures, p .0 .1)), ((p .1 .0, p .1 .1, omega (arith, c .before .if1 .left)), c .before .before .before .loop .inv .2 _ (omega (arith, l, c .kid .ensures)) (c .before .if1 .left))))
 
 weigh-kids-add-i : (t : ℕ) → weigh-kids-lts.Need-add-i (
   kids-reads.Asked,
   kids-reads.Learnt,
   kid-reads.Asked,
   kid-reads.Learnt,
-  weigh-below t,
-  weigh.Post,
+  weigh-once-below t,
+  weigh-once.Post,
 ) (weigh-kids-at t) weigh-kids.Post weigh-kids-Inv-loop weigh-kids-μ-loop
 weigh-kids-add-i t c = omega (arith, c .before .before .before .loop-test .taken)
 
@@ -242,8 +257,8 @@ weigh-kids-loop-less : (t : ℕ) → weigh-kids-lts.Need-loop-less (
   kids-reads.Learnt,
   kid-reads.Asked,
   kid-reads.Learnt,
-  weigh-below t,
-  weigh.Post,
+  weigh-once-below t,
+  weigh-once.Post,
 ) (weigh-kids-at t) weigh-kids.Post weigh-kids-Inv-loop weigh-kids-μ-loop
 weigh-kids-loop-less t c = omega (arith, c .before .before .before .loop-test .taken)
 
@@ -252,27 +267,67 @@ weigh-kids-loop-again : (t : ℕ) → weigh-kids-lts.Need-loop-again (
   kids-reads.Learnt,
   kid-reads.Asked,
   kid-reads.Learnt,
-  weigh-below t,
-  weigh.Post,
+  weigh-once-below t,
+  weigh-once.Post,
 ) (weigh-kids-at t) weigh-kids.Post weigh-kids-Inv-loop weigh-kids-μ-loop
 weigh-kids-loop-again t c =
     let a = c .before .before .before .before .before .before .before .before .before .args in
-    (omega (arith, c .before .before .before .loop-test .taken), kids-more (params-of (lines 6 (a .s .now)) (a .d)) (part (a .at) (a .count) (a .out .now)) (λ i. type-of (lines 6 (a .s .now)) (kid-of (lines 6 (a .s .now)) (a .y) i)) (a .from) (c .before .before .before .before .loop .i) (c .before .before .before .before .loop .w) _ (c .before .before .before .before .loop .inv .1) (c .weigh .ensures ∙ ap (λ k. capped 1024 (c .before .before .before .before .loop .w + weight-of (lines 6 (a .s .now)) (a .d) (a .out .now) (a .at) (a .count) k)) (c .before .kid .ensures)))
+    (omega (arith, c .before .before .before .loop-test .taken), kids-more (params-of (lines 6 (a .s .now)) (a .d)) (part (a .at) (a .count) (a .out .now)) (λ i. type-of (lines 6 (a .s .now)) (kid-of (lines 6 (a .s .now)) (a .y) i)) (a .from) (c .before .before .before .before .loop .i) (c .before .before .before .before .loop .w) _ (c .before .before .before .before .loop .inv .1) (c .weigh-once .ensures ∙ ap (λ k. capped 1024 (c .before .before .before .before .loop .w + weight-of (lines 6 (a .s .now)) (a .d) (a .out .now) (a .at) (a .count) k)) (c .before .kid .ensures)), λ z h f e. once-last (c .before .before .before .before .loop .w) (weight-of (lines 6 (a .s .now)) (a .d) (a .out .now) (a .at) (a .count) z) _ (c .weigh-once .ensures ∙ ap (λ k. capped 1024 (c .before .before .before .before .loop .w + weight-of (lines 6 (a .s .now)) (a .d) (a .out .now) (a .at) (a .count) k)) (sym e)) f)
 
 weigh-kids-returns-2 : (t : ℕ) → weigh-kids-lts.Need-returns-2 (
   kids-reads.Asked,
   kids-reads.Learnt,
   kid-reads.Asked,
   kid-reads.Learnt,
-  weigh-below t,
-  weigh.Post,
+  weigh-once-below t,
+  weigh-once.Post,
 ) (weigh-kids-at t) weigh-kids.Post weigh-kids-Inv-loop weigh-kids-μ-loop
 weigh-kids-returns-2 t c =
     let a = c .before .before .before .before .before .before .args in
     c .before .loop .inv .1 ∙ ap (λ k. capped 1024 (a .from + weights-of (lines 6 (a .s .now)) (a .d) (a .out .now) (a .at) (a .count) (a .y) k)) (omega (arith, c .before .before .kids .ensures, c .before .loop .inv .0, c .loop-test .left))
 
-pub +weigh+weigh-kids-spec : {M : Type 1} → statement M
-+weigh+weigh-kids-spec = close μ-weigh μ-weigh-kids (λ t. weigh-lts.spec (
+weigh-once-sub-more : (t : ℕ) → weigh-once-lts.Need-sub-more (
+  more-reads.Asked,
+  more-reads.Learnt,
+  weigh-below t,
+  weigh.Post,
+) (weigh-once-at t) weigh-once.Post
+weigh-once-sub-more t c = omega (arith, c .before .before .before .before .pre .1 .1 .1 (c .if1 .taken))
+
+weigh-once-more-requires : (t : ℕ) → weigh-once-lts.Need-more-requires (
+  more-reads.Asked,
+  more-reads.Learnt,
+  weigh-below t,
+  weigh.Post,
+) (weigh-once-at t) weigh-once.Post
+weigh-once-more-requires t c κs = (omega (arith, c .before .before .before .before .pre .1 .1 .0 .2), omega (arith, c .before .before .before .before .pre .1 .1 .0 .2))
+
+weigh-once-returns : (t : ℕ) → weigh-once-lts.Need-returns (
+  more-reads.Asked,
+  more-reads.Learnt,
+  weigh-below t,
+  weigh.Post,
+) (weigh-once-at t) weigh-once.Post
+weigh-once-returns t c = once-more _ _ _ _ (c .before .before .before .before .before .pre .1 .1 .1 (c .before .if1 .taken)) (c .more .ensures)
+
+weigh-once-weigh-requires : (t : ℕ) → weigh-once-lts.Need-weigh-requires (
+  more-reads.Asked,
+  more-reads.Learnt,
+  weigh-below t,
+  weigh.Post,
+) (weigh-once-at t) weigh-once.Post
+weigh-once-weigh-requires t c κs = let p = c .before .before .before .before .pre .1 in (omega (arith, c .before .before .before .before .pre .0), (p .0, p .1 .0))
+
+weigh-once-returns-2 : (t : ℕ) → weigh-once-lts.Need-returns-2 (
+  more-reads.Asked,
+  more-reads.Learnt,
+  weigh-below t,
+  weigh.Post,
+) (weigh-once-at t) weigh-once.Post
+weigh-once-returns-2 t c = c .weigh .ensures
+
+pub +weigh+weigh-kids+weigh-once-spec : {M : Type 1} → statement M
++weigh+weigh-kids+weigh-once-spec = close μ-weigh μ-weigh-kids μ-weigh-once (λ t. weigh-lts.spec (
   type-number-reads.Asked,
   type-number-reads.Learnt,
   argument-reads.Asked,
@@ -293,13 +348,13 @@ pub +weigh+weigh-kids-spec : {M : Type 1} → statement M
     (weigh-more-requires-2 t)
     (weigh-weigh-kids-requires t)
     (weigh-returns-2 t))
-    λ t. weigh-kids-lts.spec (
+    (λ t. weigh-kids-lts.spec (
       kids-reads.Asked,
       kids-reads.Learnt,
       kid-reads.Asked,
       kid-reads.Learnt,
-      weigh-below t,
-      weigh.Post,
+      weigh-once-below t,
+      weigh-once.Post,
     )
     (weigh-kids-at t)
     weigh-kids.Post
@@ -309,8 +364,21 @@ pub +weigh+weigh-kids-spec : {M : Type 1} → statement M
     (weigh-kids-loop-holds t)
     (weigh-kids-returns t)
     (weigh-kids-kid-requires t)
-    (weigh-kids-weigh-requires t)
+    (weigh-kids-weigh-once-requires t)
     (weigh-kids-add-i t)
     (weigh-kids-loop-less t)
     (weigh-kids-loop-again t)
-    (weigh-kids-returns-2 t)
+    (weigh-kids-returns-2 t))
+    λ t. weigh-once-lts.spec (
+      more-reads.Asked,
+      more-reads.Learnt,
+      weigh-below t,
+      weigh.Post,
+    )
+    (weigh-once-at t)
+    weigh-once.Post
+    (weigh-once-sub-more t)
+    (weigh-once-more-requires t)
+    (weigh-once-returns t)
+    (weigh-once-weigh-requires t)
+    (weigh-once-returns-2 t)
