@@ -13,8 +13,10 @@ ghost use Rattle.tables.specs.Tables.{Tabled, sizes-of, cells};
 ghost use Rattle.sizing.specs.Sizing.{Counted};
 ghost use Rattle.built.specs.Built.{Gives};
 
-// Cells that nearly every sheet's table fits, and those that every sheet's fits.
+// Cells that a small sheet's table fits, those that nearly every sheet's fits, and those that every sheet's fits.
 const FEW: usize = 480;
+
+const MANY: usize = 2048;
 
 const CELLS: usize = 8336;
 
@@ -66,6 +68,10 @@ fn passed(
     let m = sizing::cells(z);
     if m <= FEW {
         let mut t = [0u32; FEW];
+        return filled(s, z, &mut t[0..m], v, l);
+    }
+    if m <= MANY {
+        let mut t = [0u32; MANY];
         return filled(s, z, &mut t[0..m], v, l);
     }
     let mut t = [0u32; CELLS];

@@ -14,18 +14,18 @@ cells-requires c κs =
     let h : cells (c .sizes-of .result) ≤ 8336 = rw (c .sizes-of .ensures) (cells-few (a .args .s .now) (a .pre .0)) in
     omega arith
 
-part-t-end-2 : tie.Need-part-t-end-2
-part-t-end-2 c =
-    let a = c .before .before .before .before .before .before in
-    let h : c .before .cells .result ≤ 8336 = rw (c .before .cells .ensures, c .before .before .sizes-of .ensures) (cells-few (a .args .s .now) (a .pre .0)) in
+part-t-end-3 : tie.Need-part-t-end-3
+part-t-end-3 c =
+    let a = c .before .before .before .before .before .before .before in
+    let h : c .before .before .cells .result ≤ 8336 = rw (c .before .before .cells .ensures, c .before .before .before .sizes-of .ensures) (cells-few (a .args .s .now) (a .pre .0)) in
     search needs
 
-filled-requires-2 : tie.Need-filled-requires-2
-filled-requires-2 c κs =
-    let a = c .before .before .before .before .before .before .before .before .before in
-    let e = c .before .before .before .before .cells .ensures in
-    let h : c .before .before .before .before .cells .result ≤ 8336 = rw (e, c .before .before .before .before .before .sizes-of .ensures) (cells-few (a .args .s .now) (a .pre .0)) in
-    (a .pre .0, c .before .before .before .before .before .sizes-of .ensures, part-length 8336 (c .before .before .before .before .cells .result) h ∙ e)
+filled-requires-3 : tie.Need-filled-requires-3
+filled-requires-3 c κs =
+    let a = c .before .before .before .before .before .before .before .before .before .before in
+    let e = c .before .before .before .before .before .cells .ensures in
+    let h : c .before .before .before .before .before .cells .result ≤ 8336 = rw (e, c .before .before .before .before .before .before .sizes-of .ensures) (cells-few (a .args .s .now) (a .pre .0)) in
+    (a .pre .0, c .before .before .before .before .before .before .sizes-of .ensures, part-length 8336 (c .before .before .before .before .before .cells .result) h ∙ e)
 
 pub passed-spec : {M : Type 1} → statement M
 passed-spec =
@@ -42,8 +42,15 @@ passed-spec =
     (λ c. search needs)
     (λ c. search needs)
     (λ c. search needs)
-    part-t-end-2
-    filled-requires-2
+    (λ c. search needs)
+    (λ c κs. search needs)
+    (λ c. search needs)
+    (λ c. search needs)
+    (λ c. search needs)
+    (λ c. search needs)
+    (λ c. search needs)
+    part-t-end-3
+    filled-requires-3
     (λ c. search needs)
     (λ c. search needs)
     (λ c. search needs))
