@@ -5,6 +5,7 @@ ghost use lib.ListN.{length, getD};
 ghost use Rattle.sheet.specs.Sheet.{lines};
 ghost use Rattle.tables.specs.Tables.{decls-of};
 ghost use Rattle.normal_forms.specs.Ranks.{Ranked, Formed};
+ghost use Rattle.rank_bounds.specs.Bounds.{Starts, Ends};
 
 // Zeros in the first k cells.
 fn clear(f: &mut [u64], k: usize)
@@ -14,6 +15,57 @@ fn clear(f: &mut [u64], k: usize)
     for i in 0..k {
         f[i] = 0;
     }
+}
+
+// The normal forms of all ranks, whose declarations stand from `start` to before `end`.
+fn ranked(
+    s: &[u8],
+    t: &[u32],
+    u: &[u16],
+    rank: &[u16],
+    start: &[u16],
+    end: &[u16],
+    f: &mut [u64],
+    scratch: &mut [u64],
+) -> usize
+    requires { ⌜ Ranked (now s) (now t) (now u) (now rank) × (2 * decls-of (lines 6 (now s)) ≤ length (now f)) ⌝ }
+    requires { ⌜ Starts (now rank) (length (now start)) (now start) × Ends (now rank) (length (now end)) (now end) ⌝ }
+    requires { ⌜ (decls-of (lines 6 (now s)) ≤ length (now start)) × (decls-of (lines 6 (now s)) ≤ length (now end)) ⌝ }
+    ensures { λ e. ⌜ Formed (now (s .entry)) (now (u .entry)) (now (rank .entry)) (length (now (scratch .entry))) (now (f .entry)) (now (f .exit)) e ⌝ }
+{
+    let n = tables::decls(s, t);
+    clear(f, 2 * n);
+    let mut p = 2 * n;
+    for r in 0..n {
+        let from = start[r] as usize;
+        let to = end[r] as usize;
+        p = rank_forms::forms_of_rank(s, t, u, rank, f, scratch, r, from, to, p);
+        if p > f.len() {
+            return p;
+        }
+    }
+    p
+}
+
+// In memory that is lent for the bounds of ranks.
+fn bounded(
+    s: &[u8],
+    t: &[u32],
+    u: &[u16],
+    rank: &[u16],
+    start: &mut [u16],
+    end: &mut [u16],
+    f: &mut [u64],
+    scratch: &mut [u64],
+) -> usize
+    requires { ⌜ Ranked (now s) (now t) (now u) (now rank) × (2 * decls-of (lines 6 (now s)) ≤ length (now f)) ⌝ }
+    requires { ⌜ (decls-of (lines 6 (now s)) ≤ length (now start)) × (decls-of (lines 6 (now s)) ≤ length (now end)) ⌝ }
+    requires { ⌜ ((r : ℕ) → getD (now end) r 0 ≡ 0) ⌝ }
+    ensures { λ e. ⌜ Formed (now (s .entry)) (now (u .entry)) (now (rank .entry)) (length (now (scratch .entry))) (now (f .entry)) (now (f .exit)) e ⌝ }
+{
+    rank_bounds::starts(rank, start);
+    rank_bounds::ends(rank, end);
+    ranked(s, t, u, rank, start, end, f, scratch)
 }
 
 // The normal forms of all unfolded declarations, callees first, and the place after them; a place past the end where the list
@@ -29,14 +81,7 @@ pub fn normal_forms(
     requires { ⌜ Ranked (now s) (now t) (now u) (now rank) × (2 * decls-of (lines 6 (now s)) ≤ length (now f)) ⌝ }
     ensures { λ e. ⌜ Formed (now (s .entry)) (now (u .entry)) (now (rank .entry)) (length (now (scratch .entry))) (now (f .entry)) (now (f .exit)) e ⌝ }
 {
-    let n = tables::decls(s, t);
-    clear(f, 2 * n);
-    let mut p = 2 * n;
-    for r in 0..n {
-        p = rank_forms::forms_of_rank(s, t, u, rank, f, scratch, r, p);
-        if p > f.len() {
-            return p;
-        }
-    }
-    p
+    let mut start = [0u16; 96];
+    let mut end = [0u16; 96];
+    bounded(s, t, u, rank, &mut start, &mut end, f, scratch)
 }

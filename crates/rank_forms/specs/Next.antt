@@ -15,6 +15,21 @@ pub record Next (rank : List ℕ) (r from n e : ℕ) : Type 0 where
   pub high : e ≤ n
   pub passed : (i : ℕ) → from ≤ i → i < e → getD rank i 0 ≡ r → ⊥
 
+-- the declarations of rank r, of n, stand from `from` to before `end`
+pub record Within (rank : List ℕ) (n r from end : ℕ) : Type 0 where
+  pub most : end ≤ n
+  pub inside : (d : ℕ) → d < n → getD rank d 0 ≡ r → (from ≤ d) × (d < end)
+
+-- so that none stands before, behind, or where there is no room between
+pub before : (rank : List ℕ) (n r from end : ℕ) → Within rank n r from end → from ≤ end → Next rank r 0 n from
+before rank n r from end h q = record { low = omega arith; high = omega (arith, h .most); passed = λ i a l z. omega (arith, h .inside i (omega (arith, h .most)) z .0) }
+
+pub behind : (rank : List ℕ) (n r from end : ℕ) → Within rank n r from end → Next rank r end n n
+behind rank n r from end h = record { low = h .most; high = omega arith; passed = λ i a l z. omega (arith, h .inside i l z .1) }
+
+pub nowhere : (rank : List ℕ) (n r from end : ℕ) → Within rank n r from end → end ≤ from → Next rank r 0 n n
+nowhere rank n r from end h q = record { low = omega arith; high = omega arith; passed = λ i a l z. let x = h .inside i l z in omega (arith, x .0, x .1) }
+
 -- what is passed changes nothing of what is done
 pub skip-table : (b u rank f : List ℕ) (p r from n e : ℕ) → Next rank r from n e → Table b u f p (Done b u rank r from) → Table b u f p (Done b u rank r e)
 skip-table b u rank f p r from n e h =

@@ -5,7 +5,7 @@ ghost use Rattle.sheet.specs.Sheet.{lines};
 ghost use Rattle.tables.specs.Tables.{decls-of};
 ghost use Rattle.normal_forms.specs.Tables.{Table};
 ghost use Rattle.normal_forms.specs.Ranks.{Ranked, Done, Reached};
-ghost use Rattle.rank_forms.specs.Next.{Next};
+ghost use Rattle.rank_forms.specs.Next.{Next, Within};
 
 // Declaration d's normal form, if it is unfolded and of rank r.
 fn form_at(
@@ -50,7 +50,7 @@ fn next_of_rank(rank: &[u16], r: usize, from: usize, n: usize) -> usize
     d
 }
 
-// The normal forms of rank r, from place pos on.
+// The normal forms of rank r, whose declarations stand from place `from` to before `end`, from place pos on.
 pub fn forms_of_rank(
     s: &[u8],
     t: &[u32],
@@ -59,20 +59,25 @@ pub fn forms_of_rank(
     f: &mut [u64],
     scratch: &mut [u64],
     r: usize,
+    from: usize,
+    end: usize,
     pos: usize,
 ) -> usize
     requires { ⌜ Ranked (now s) (now t) (now u) (now rank) × Table (now s) (now u) (now f) pos (Done (now s) (now u) (now rank) r 0) ⌝ }
+    requires { ⌜ Within (now rank) (decls-of (lines 6 (now s))) r from end ⌝ }
     ensures { λ e. ⌜ Reached (now (s .entry)) (now (u .entry)) (now (rank .entry)) r (decls-of (lines 6 (now (s .entry)))) (length (now (scratch .entry))) (now (f .entry)) (now (f .exit)) e ⌝ }
 {
-    let n = tables::decls(s, t);
     let mut p = pos;
-    let mut d = next_of_rank(rank, r, 0, n);
-    while d < n {
+    if from >= end {
+        return p;
+    }
+    let mut d = next_of_rank(rank, r, from, end);
+    while d < end {
         p = form_at(s, t, u, rank, f, scratch, r, d, p);
         if p > f.len() {
             return p;
         }
-        d = next_of_rank(rank, r, d + 1, n);
+        d = next_of_rank(rank, r, d + 1, end);
     }
     p
 }

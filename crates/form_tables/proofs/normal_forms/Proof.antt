@@ -1,96 +1,24 @@
--- `form_tables::normal_forms` meets its contract: after r turns the forms of the ranks below r are there. Assumes nothing.
-use mathlib.Core.Path.{_≡_, refl, sym, subst, _∙_}
-use Prim.Native.Nat.{ℕ, _+_, _-_, _*_, _≤_}
+-- `form_tables::normal_forms` meets its contract: there are at most as many ranks as declarations. Assumes nothing.
 use native.Mathlib.Omega.{arith}
-use lib.ListN.{length}
-use Rattle.sheet.specs.Sheet.{lines}
-use Rattle.tables.specs.Tables.{decls-of}
-use Rattle.normal_forms.specs.Tables.{Table}
-use Rattle.normal_forms.specs.Ranks.{Done}
-use Rattle.normal_forms.specs.RanksLaws.{first-table, next-rank, formed-stop, formed-done}
 use Rattle.arguments.specs.ParamsLaws.{decls-few}
 use borrow.Author.Needs.{needs}
+use Rattle.form_tables.specs.Bounded.{zeros}
 use Rattle.form_tables.proofs.normal_forms.Statement.{statement}
 use Rattle.form_tables.proofs.normal_forms.Tie as tie
 
-abbrev Inv-loop : tie.InvT-loop
-Inv-loop s t u rank f₀ scratch₀ n p₀ r₀ f scratch p r =
-    (r ≤ n) × (length f ≡ length f₀) × (length scratch ≡ length scratch₀) × Table s u f p (Done s u rank r 0)
-
-abbrev μ-loop : tie.MeasureT-loop
-μ-loop s t u rank f₀ scratch₀ n p₀ r₀ f scratch p r = n - r
-
-decls-requires : tie.Need-decls-requires Inv-loop μ-loop
-decls-requires c κs = c .before .before .before .before .before .before .pre .0 .tabled
-
-mul-clear : tie.Need-mul-clear Inv-loop μ-loop
-mul-clear c = omega (arith, c .before .decls .ensures, decls-few (c .before .before .before .before .before .before .before .before .args .s .now) (c .before .before .before .before .before .before .before .before .pre .0 .tabled .passed))
-
-clear-requires : tie.Need-clear-requires Inv-loop μ-loop
-clear-requires c κs = omega (arith, c .before .decls .ensures, c .before .before .before .before .before .before .before .before .pre .1)
-
-mul-p : tie.Need-mul-p Inv-loop μ-loop
-mul-p c = omega (arith, c .before .before .before .before .decls .ensures, decls-few (c .before .before .before .before .before .before .before .before .before .before .before .args .s .now) (c .before .before .before .before .before .before .before .before .before .before .before .pre .0 .tabled .passed))
-
-loop-holds : tie.Need-loop-holds Inv-loop μ-loop
-loop-holds c =
-    let a = c .before .before .before .before .before .before .before .before .before .before .before .args in
-    let p = c .before .before .before .before .before .before .before .before .before .before .before .pre in
-    let e = c .before .before .before .before .decls .ensures in
-    let l : length (c .before .before .clear .last .0) ≡ length (a .f .now) = search needs in (
-      omega arith,
-      refl,
-      refl,
-      subst (λ (i : ℕ). Table (a .s .now) (a .u .now) (c .before .before .clear .last .0) (2 * i) (Done (a .s .now) (a .u .now) (a .rank .now) 0 0)) (sym e)
-          (first-table (a .s .now) (a .t .now) (a .u .now) (a .rank .now) (p .0) (c .before .before .clear .last .0) (omega (arith, l, p .1)) (λ i h. c .before .before .clear .ensures i (omega (arith, e)))),
-    )
-
-forms-of-rank-requires : tie.Need-forms-of-rank-requires Inv-loop μ-loop
-forms-of-rank-requires c κs = (c .before .before .before .before .before .before .before .before .before .before .before .before .before .before .before .pre .0, c .before .before .before .loop .inv .3)
-
-returns : tie.Need-returns Inv-loop μ-loop
-returns c =
-    let a = c .before .before .before .before .before .before .before .before .before .before .before .before .before .before .before .before .before .before .before .before .before .args in
-    let p = c .before .before .before .before .before .before .before .before .before .before .before .before .before .before .before .before .before .before .before .before .before .pre in
-    let s = c .before .before .before .before .before .before .before .before .before .loop in
-    let x = c .before .before .before .before .before .forms-of-rank .ensures in
-    let l : length (s .f) ≡ length (a .f .now) = search needs in
-    formed-stop (a .s .now) (a .t .now) (a .u .now) (a .rank .now) (p .0) (s .r) _ _ _ (a .f .now) _ _ _ l (s .inv .2) (omega (arith, c .if1 .taken, x .same, l)) x
-
-loop-again : tie.Need-loop-again Inv-loop μ-loop
-loop-again c =
-    let a = c .before .before .before .before .before .before .before .before .before .before .before .before .before .before .before .before .before .before .before .before .before .args in
-    let p = c .before .before .before .before .before .before .before .before .before .before .before .before .before .before .before .before .before .before .before .before .before .pre in
-    let s = c .before .before .before .before .before .before .before .before .before .loop in
-    let x = c .before .before .before .before .before .forms-of-rank .ensures in
-    (omega (arith, c .before .before .before .before .before .before .before .before .loop-test .taken), x .same ∙ s .inv .1, search needs, next-rank (a .s .now) (a .t .now) (a .u .now) (a .rank .now) (p .0) (s .r) _ _ (x .table (omega (arith, c .if1 .left, x .same))))
-
-returns-2 : tie.Need-returns-2 Inv-loop μ-loop
-returns-2 c =
-    let a = c .before .before .before .before .before .before .before .before .before .before .before .before .before .args in
-    let p = c .before .before .before .before .before .before .before .before .before .before .before .before .before .pre in
-    let s = c .before .loop in
-    let l : length (s .f) ≡ length (a .f .now) = search needs in
-    formed-done (a .s .now) (a .t .now) (a .u .now) (a .rank .now) (p .0) _ (a .f .now) (s .f) (s .r) (s .p) (omega (arith, c .loop-test .left, s .inv .0, c .before .before .before .before .before .before .decls .ensures)) l (s .inv .3)
+bounded-requires : tie.Need-bounded-requires
+bounded-requires c κs =
+    let p = c .before .before .before .before .before .before .before .before .before .before .pre in
+    let n = decls-few _ (p .0 .tabled .passed) in
+    (p, ((omega (arith, n), omega (arith, n)), zeros 96))
 
 pub normal-forms-spec : {M : Type 1} → statement M
 normal-forms-spec =
     tie.close
     (tie.spec
-    Inv-loop
-    μ-loop
-    decls-requires
-    mul-clear
-    clear-requires
-    mul-p
-    loop-holds
-    forms-of-rank-requires
     (λ c. search needs)
     (λ c. search needs)
-    returns
-    (λ c. search needs)
-    (λ c. omega (arith, c .before .before .before .before .before .before .before .before .loop-test .taken))
-    loop-again
+    bounded-requires
     (λ c. search needs)
     (λ c. search needs)
-    returns-2)
+    (λ c. search needs))
