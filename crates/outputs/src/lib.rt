@@ -46,6 +46,62 @@ fn small(
     )
 }
 
+fn wide(
+    s: &[u8],
+    t: &[u32],
+    names: usize,
+    rounds: usize,
+    u: &[u16],
+    rank: &[u16],
+    keep: &[u8],
+    v: &mut [u8],
+    l: &mut [u8],
+) -> Tried
+    requires { ⌜ Lent (now s) (now t) (now u) (now rank) (now keep) (now v) 98496 1024 1024 ⌝ }
+    requires { ⌜ (names ≡ count-of name-line (lines 6 (now s))) × (rounds ≡ run 100 (program (lines 6 (now s))) .rounds) ⌝ }
+    ensures { λ r. ⌜ Tries (Short 512 64) (now (s .entry)) (now (v .entry)) (now (l .entry)) r (now (v .exit)) (now (l .exit)) ⌝ }
+{
+    let mut forms = [0u64; 512];
+    let mut scratch = [0u64; 64];
+    let mut stack = [0u32; 64];
+    sheets::sheets(
+        s,
+        t,
+        names,
+        rounds,
+        u,
+        rank,
+        keep,
+        &mut forms,
+        &mut scratch,
+        &mut stack,
+        v,
+        l,
+    )
+}
+
+// The first attempt: the forms of many declarations do not fit the small arrays. Either serves.
+fn first(
+    s: &[u8],
+    t: &[u32],
+    names: usize,
+    rounds: usize,
+    u: &[u16],
+    rank: &[u16],
+    keep: &[u8],
+    v: &mut [u8],
+    l: &mut [u8],
+) -> Tried
+    requires { ⌜ Lent (now s) (now t) (now u) (now rank) (now keep) (now v) 98496 1024 1024 ⌝ }
+    requires { ⌜ (names ≡ count-of name-line (lines 6 (now s))) × (rounds ≡ run 100 (program (lines 6 (now s))) .rounds) ⌝ }
+    ensures { λ r. ⌜ Tries (Short 512 64) (now (s .entry)) (now (v .entry)) (now (l .entry)) r (now (v .exit)) (now (l .exit)) ⌝ }
+{
+    if rank.len() <= 64 {
+        return small(s, t, names, rounds, u, rank, keep, v, l);
+    }
+    wide(s, t, names, rounds, u, rank, keep, v, l)
+}
+
 fn middle(
     s: &[u8],
     t: &[u32],
@@ -130,9 +186,9 @@ pub fn outputs(
     requires { ⌜ (names ≡ count-of name-line (lines 6 (now s))) × (rounds ≡ run 100 (program (lines 6 (now s))) .rounds) ⌝ }
     ensures { λ r. ⌜ Gives (now (s .entry)) (now (v .entry)) (now (l .entry)) r (now (v .exit)) (now (l .exit)) ⌝ }
 {
-    let first = small(s, t, names, rounds, u, rank, keep, v, l);
-    if first.room {
-        return first.built;
+    let once = first(s, t, names, rounds, u, rank, keep, v, l);
+    if once.room {
+        return once.built;
     }
     let second = middle(s, t, names, rounds, u, rank, keep, v, l);
     if second.room {

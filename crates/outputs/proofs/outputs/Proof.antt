@@ -6,24 +6,24 @@ use Rattle.outputs.proofs.outputs.Statement.{statement}
 use Rattle.outputs.proofs.outputs.Tie as tie
 
 returns : tie.Need-returns
-returns c = c .before .before .before .before .before .before .small .ensures .gives (c .before .if1 .taken)
+returns c = c .before .before .before .before .before .before .first .ensures .gives (c .before .if1 .taken)
 
 middle-requires : tie.Need-middle-requires
 middle-requires c κs =
     let p = c .before .before .before .before .before .before .before .before .before .before .before .before .before .before .before .before .before .pre in
-    (lent-kept _ _ _ _ _ _ _ (c .before .before .before .before .before .before .before .small .ensures .verdict-kept (c .before .before .if1 .left)) (p .0), p .1)
+    (lent-kept _ _ _ _ _ _ _ (c .before .before .before .before .before .before .before .first .ensures .verdict-kept (c .before .before .if1 .left)) (p .0), p .1)
 
 returns-2 : tie.Need-returns-2
-returns-2 c = tries-again _ _ _ _ _ _ _ _ _ _ (c .before .before .before .before .before .before .before .before .before .before .before .before .before .before .small .ensures) (c .before .before .before .before .before .before .before .before .before .if1 .left) (c .before .before .before .before .before .before .middle .ensures .gives (c .before .if2 .taken))
+returns-2 c = tries-again _ _ _ _ _ _ _ _ _ _ (c .before .before .before .before .before .before .before .before .before .before .before .before .before .before .first .ensures) (c .before .before .before .before .before .before .before .before .before .if1 .left) (c .before .before .before .before .before .before .middle .ensures .gives (c .before .if2 .taken))
 
 large-requires : tie.Need-large-requires
 large-requires c κs =
     let p = c .before .before .before .before .before .before .before .before .before .before .before .before .before .before .before .before .before .before .before .before .before .before .before .before .before .pre in
-    (lent-kept _ _ _ _ _ _ _ (c .before .before .before .before .before .before .before .middle .ensures .verdict-kept (c .before .before .if2 .left) ∙ c .before .before .before .before .before .before .before .before .before .before .before .before .before .before .before .small .ensures .verdict-kept (c .before .before .before .before .before .before .before .before .before .before .if1 .left)) (p .0), p .1)
+    (lent-kept _ _ _ _ _ _ _ (c .before .before .before .before .before .before .before .middle .ensures .verdict-kept (c .before .before .if2 .left) ∙ c .before .before .before .before .before .before .before .before .before .before .before .before .before .before .before .first .ensures .verdict-kept (c .before .before .before .before .before .before .before .before .before .before .if1 .left)) (p .0), p .1)
 
 returns-3 : tie.Need-returns-3
 returns-3 c =
-    tries-again _ _ _ _ _ _ _ _ _ _ (c .before .before .before .before .before .before .before .before .before .before .before .before .before .before .before .before .before .before .before .before .before .small .ensures) (c .before .before .before .before .before .before .before .before .before .before .before .before .before .before .before .before .if1 .left)
+    tries-again _ _ _ _ _ _ _ _ _ _ (c .before .before .before .before .before .before .before .before .before .before .before .before .before .before .before .before .before .before .before .before .before .first .ensures) (c .before .before .before .before .before .before .before .before .before .before .before .before .before .before .before .before .if1 .left)
     (tries-again _ _ _ _ _ _ _ _ _ _ (c .before .before .before .before .before .before .before .before .before .before .before .before .before .middle .ensures) (c .before .before .before .before .before .before .before .before .if2 .left) (tries-last _ _ _ _ _ _ (c .before .before .before .before .before .large .ensures)))
 
 pub outputs-spec : {M : Type 1} → statement M
