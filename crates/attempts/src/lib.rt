@@ -1,4 +1,4 @@
-// Attempts at rows 9 and 10, with arrays of three lengths: most sheets need few places and few slots, and
+// Attempts at rows 9 and 10, with arrays of several lengths: most sheets need few places and few slots, and
 // clearing the arrays would take longer than the resolution. Only a full array of outcomes stops an attempt.
 ghost use mathlib.Core.Path.{_≡_};
 ghost use lib.ListN.{length};
@@ -61,12 +61,22 @@ pub fn small(s: &[u8], t: &[u32], u: &[u16], keep: &[u8]) -> Outcome
     tried(s, t, u, keep, &mut out, &mut slots)
 }
 
-// 2,048 outcomes and 1,024 slots: where many declarations are unfolded, few slots would be slow.
+// 768 outcomes and 256 slots: where more declarations are unfolded, few slots would be slow.
+pub fn middle(s: &[u8], t: &[u32], u: &[u16], keep: &[u8]) -> Outcome
+    requires { ⌜ attempts.Asked (now s) (now t) (now u) (now keep) ⌝ }
+    ensures { λ r. ⌜ attempts.Comes (now (s .entry)) 768 r ⌝ }
+{
+    let mut out = [0u16; 768];
+    let mut slots = [0u16; 2816];
+    tried(s, t, u, keep, &mut out, &mut slots)
+}
+
+// 1,000 outcomes and 1,024 slots: where many are.
 pub fn wide(s: &[u8], t: &[u32], u: &[u16], keep: &[u8]) -> Outcome
     requires { ⌜ attempts.Asked (now s) (now t) (now u) (now keep) ⌝ }
-    ensures { λ r. ⌜ attempts.Comes (now (s .entry)) 2048 r ⌝ }
+    ensures { λ r. ⌜ attempts.Comes (now (s .entry)) 1000 r ⌝ }
 {
-    let mut out = [0u16; 2048];
+    let mut out = [0u16; 1000];
     remembering(s, t, u, keep, &mut out)
 }
 

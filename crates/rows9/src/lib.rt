@@ -22,9 +22,9 @@ fn unfolds(state: u16) -> usize
     0
 }
 
-// More than 4 declarations are unfolded: with 64 slots each one more can multiply the work by the calls
-// in its body. Either answer leads to the same refusal: it only says which arrays are tried first.
-fn many(u: &[u16]) -> bool {
+// How many declarations are unfolded. With few slots each one more can multiply the work by the calls in its
+// body. Any answer leads to the same refusal: it only says which arrays are tried first.
+fn unfolded(u: &[u16]) -> usize {
     let n = u.len() / 2;
     let mut found = 0;
     let mut d = 0;
@@ -32,7 +32,7 @@ fn many(u: &[u16]) -> bool {
         found += unfolds(u[2 * d]);
         d += 1;
     }
-    found > 4
+    found
 }
 
 // The first attempt.
@@ -40,10 +40,14 @@ fn attempt(s: &[u8], t: &[u32], u: &[u16], keep: &[u8]) -> Outcome
     requires { ⌜ attempts.Asked (now s) (now t) (now u) (now keep) ⌝ }
     ensures { λ r. ⌜ attempts.Comes (now (s .entry)) 512 r ⌝ }
 {
-    if many(u) {
-        return attempts::wide(s, t, u, keep);
+    let n = unfolded(u);
+    if n <= 4 {
+        return attempts::small(s, t, u, keep);
     }
-    attempts::small(s, t, u, keep)
+    if n <= 16 {
+        return attempts::middle(s, t, u, keep);
+    }
+    attempts::wide(s, t, u, keep)
 }
 
 // Comes back with the large arrays where those of the first attempt were full.

@@ -5,8 +5,14 @@ use Rattle.rows9.specs.Rows9Laws.{comes-less}
 use Rattle.rows9.proofs.attempt.Statement.{statement}
 use Rattle.rows9.proofs.attempt.Tie as tie
 
-returns : tie.Need-returns
-returns c = comes-less (c .before .before .before .before .before .before .before .args .s .now) 512 2048 (c .wide .result) (omega arith) (c .wide .ensures)
-
 pub attempt-spec : {M : Type 1} → statement M
-attempt-spec = tie.close (tie.spec (λ c κs. search needs) (λ c κs. search needs) returns (λ c κs. search needs) (λ c. search needs))
+attempt-spec =
+    tie.close
+    (tie.spec
+    (λ c κs. search needs)
+    (λ c κs. search needs)
+    (λ c. search needs)
+    (λ c κs. search needs)
+    (λ c. comes-less (c .before .before .before .before .before .before .before .before .args .s .now) 512 768 (c .middle .result) (omega arith) (c .middle .ensures))
+    (λ c κs. search needs)
+    (λ c. comes-less (c .before .before .before .before .before .before .before .before .args .s .now) 512 1000 (c .wide .result) (omega arith) (c .wide .ensures)))

@@ -1,9 +1,9 @@
--- `rows9::many` is safe and ends. Assumes nothing.
+-- `rows9::unfolded` is safe and ends. Assumes nothing.
 use Prim.Native.Nat.{_*_, _-_, _≤_}
 use native.Mathlib.Omega.{arith}
 use lib.ListN.{length}
-use Rattle.rows9.proofs.many.Statement.{statement}
-use Rattle.rows9.proofs.many.Tie as tie
+use Rattle.rows9.proofs.unfolded.Statement.{statement}
+use Rattle.rows9.proofs.unfolded.Tie as tie
 
 abbrev Inv-loop : tie.InvT-loop
 Inv-loop u n found₀ d₀ found d = (found ≤ d) × (d ≤ length u) × (2 * n ≤ length u)
@@ -41,8 +41,8 @@ loop-again c = (omega arith, omega arith, omega arith)
 returns : tie.Need-returns Inv-loop μ-loop
 returns c = tt
 
-pub many-spec : {M : Type 1} → statement M
-many-spec =
+pub unfolded-spec : {M : Type 1} → statement M
+unfolded-spec =
     tie.close
     (tie.spec
     Inv-loop
