@@ -9,7 +9,7 @@ use native.Mathlib.Numerals.{add-one}
 use lib.Dec.{eqb, ltb}
 use lib.ListN.{length, getD, take, drop, length-append, length-take, length-drop, take-append-drop, List·getD-eq-default}
 use lib.Seq.{take-suc, take-append-add, drop-drop, getD-take, getD-drop, take-at, take-all, drop-at, length-take-le}
-use borrow.Author.Tests.{eqb-true, eqb-false, eq-eqb, ne-eqb, lt-ltb, le-ltb, ltb-true, ltb-false}
+use borrow.Author.Tests.{eqb-true, eqb-false, eq-eqb, ne-eqb, ltb-true, ltb-false}
 use Rattle.columns.specs.Column.{pick}
 use Rattle.sheet.specs.Line.{Line, number}
 use Rattle.sheet.specs.Sheet.{lines}
@@ -26,6 +26,7 @@ use Rattle.normal.specs.Forms.{variable}
 use Rattle.nodes.specs.Words.{word, node-of}
 use Rattle.node_words.specs.Own.{y-node, label}
 use Rattle.node_words.specs.Put.{Put, put-none, put-more, put-stop}
+use Rattle.copies.specs.Stands.{stands-put}
 use Rattle.states.specs.States.{unfold-at, lay-of}
 use Rattle.forms.specs.Emit.{run, step, filled, grown, form-words, words, kid-words, Asked}
 use Rattle.model_laws.specs.Names.{position-le}
@@ -82,15 +83,6 @@ put-under p q out at m e res t n x =
       );
       full = λ u. omega (arith, x .full u, length-append p q);
     }
-
--- what was put stands there
-pub stands-there : (p out : List ℕ) (at r : ℕ) (res : List ℕ) → at ≤ length out → r ≤ length out → Put p out at r res → take (r - at) (drop at res) ≡ p
-stands-there p out at r res a h x =
-    let z = x .room h in
-    let la : length (take at out) ≡ at = length-take-le at out a in
-    let e : r - at ≡ length p = omega (arith, z .0) in
-    ap (λ (l : List ℕ). take (r - at) (drop at l)) (z .1)
-    ∙ (ap (take (r - at)) (drop-at (take at out) (p ++ drop r out) at la) ∙ take-at p (drop r out) (r - at) (sym e))
 
 -- ---- a surplus
 pub grown-long : (p : List ℕ) (n : ℕ) (ys : List ℕ) → length p ≤ length (grown p n ys)
@@ -231,27 +223,6 @@ module _ (g : ℕ → List ℕ) (n : ℕ) (f : List ℕ) (start len : ℕ) (insi
         full = λ u. omega (arith, x .full q, length-append (filled g n (take i form)) (filled g n (drop i form)), ap length (sym (filled-append g n (take i form) (drop i form)) ∙ ap (filled g n) (take-append-drop i form)));
       }
 
--- ---- a word of a normal form
-module _ (g : ℕ → List ℕ) (n w : ℕ) where
-  abbrev arms : Bool → Bool → List ℕ
-  arms a b = elim a [ true ↦ elim b [ true ↦ g (node-of w .own) | false ↦ word (node 0 0 0) ∷ [] ] | false ↦ word (node-of w) ∷ [] ]
-
-  step-arms : (a b : Bool) → eqb (node-of w .kind) 3 ≡ a → ltb (node-of w .own) n ≡ b → arms a b ≡ step g n w
-  unfolding step
-  step-arms a b e f = sym (ap₂ arms e f)
-
-  pub step-other : (k c d v : ℕ) → k ≡ node-of w .kind → c ≡ node-of w .count → d ≡ node-of w .own → (k ≡ 3 → ⊥) → v ≡ word (node k c d) → v ∷ [] ≡ step g n w
-  step-other k c d v ek ec ed e q =
-      let same : node k c d ≡ node-of w = rw (ek, ec, ed) in
-      ap (λ (x : ℕ). x ∷ []) (q ∙ ap word same) ∙ step-arms false (ltb (node-of w .own) n) (ne-eqb (node-of w .kind) 3 (λ z. e (ek ∙ z))) refl
-
-  pub step-past : (k d v : ℕ) → k ≡ node-of w .kind → d ≡ node-of w .own → k ≡ 3 → n ≤ d → v ≡ word (node 0 0 0) → v ∷ [] ≡ step g n w
-  step-past k d v ek ed e h q =
-      ap (λ (x : ℕ). x ∷ []) q ∙ step-arms true false (eq-eqb (node-of w .kind) 3 (sym ek ∙ e)) (le-ltb (node-of w .own) n (omega (arith, ed)))
-
-  pub step-arg : (k d : ℕ) → k ≡ node-of w .kind → d ≡ node-of w .own → k ≡ 3 → d < n → g d ≡ step g n w
-  step-arg k d ek ed e h = ap g ed ∙ step-arms true true (eq-eqb (node-of w .kind) 3 (sym ek ∙ e)) (lt-ltb (node-of w .own) n (omega (arith, ed)))
-
 -- ---- a Y line's type
 only-two : (k : ℕ) → (k ≡ 0 → ⊥) → (k ≡ 1 → ⊥) → k ≤ 2 → k ≡ 2
 only-two zero a b c = absurd (a refl)
@@ -373,7 +344,7 @@ module _ (b : List ℕ) (passed : Passed b) (u f : List ℕ) (d : ℕ) (places :
       pub put-surplus : (j r e : ℕ) (mid res : List ℕ) → j ≡ k → r ≤ length out → Put normal out at r mid
           → Put (grown (take (r - at) (drop at mid)) (kids-of ls y - j) (run g j (kids-of ls y - j))) mid at e res → Put W out at e res
       put-surplus j r e mid res ej q z v =
-          let t : take (r - at) (drop at mid) ≡ normal = stands-there normal out at r mid a q z in
+          let t : take (r - at) (drop at mid) ≡ normal = stands-put normal out at r mid a q z .same in
           put-same (grown normal (kids-of ls y - k) (run g k (kids-of ls y - k))) W out at e res (sym placed-is)
           (put-over normal (grown normal (kids-of ls y - k) (run g k (kids-of ls y - k))) out at r e mid res a q (grown-long normal (kids-of ls y - k) (run g k (kids-of ls y - k))) z
           (put-same (grown (take (r - at) (drop at mid)) (kids-of ls y - j) (run g j (kids-of ls y - j))) (grown normal (kids-of ls y - k) (run g k (kids-of ls y - k))) mid at e res (ap₂ (λ (l : List ℕ) (i : ℕ). grown l (kids-of ls y - i) (run g i (kids-of ls y - i))) t ej) v))

@@ -1,3 +1,4 @@
 pub mod Emit
+pub mod Filling
 pub mod EmitLaws
 pub mod CodeLaws

@@ -4,10 +4,15 @@ ghost use mathlib.Core.Path.{_≡_};
 ghost use Prim.Native.Nat.{_+_, _*_, _-_, _≤_, _<_};
 ghost use lib.ListN.{length, take, drop};
 ghost use Rattle.sheet.specs.Sheet.{lines};
+ghost use Rattle.meaning.specs.Program.{type-line};
+ghost use Rattle.meaning.specs.Rows.{count-of};
 ghost use Rattle.tables.specs.Tables as tables;
 ghost use Rattle.kids.specs.Nodes.{kids-of, kind-of};
 ghost use Rattle.node_words.specs.Put.{Put};
+ghost use Rattle.copies.specs.Stands.{Stands};
 ghost use Rattle.forms.specs.Emit.{run, step, filled, grown, form-words, words, kid-words, Asked};
+ghost use Rattle.forms.specs.Filling.{Argument, left};
+use copies::again;
 use kids::kid;
 use kids::kids;
 use node_words::own_word;
@@ -139,18 +144,57 @@ fn emit_form(
     ensures { λ r. ⌜ Put (filled (kid-words (lines 6 (now (s .entry))) (now (u .entry)) (now (f .entry)) d places y) (kids-of (lines 6 (now (s .entry))) y) (form-words (now (f .entry)) m)) (now (out .entry)) at r (now (out .exit)) ⌝ }
 {
     let start = f[2 * m] as usize;
-    let end = f[2 * m + 1] as usize;
+    let n = f[2 * m + 1] as usize;
+    let mut last = y;
+    let mut from = at;
+    let mut end = at;
     let mut r = at;
-    for i in 0..end {
-        r = emit_node(s, t, u, f, y, d, places, f[start + i], out, r);
-        if r > out.len() {
-            return r;
+    for i in 0..n {
+        let w = f[start + i];
+        let p = argument_line(s, t, y, w);
+        let e = emit_node(s, t, u, f, y, d, places, w, p, last, from, end, out, r);
+        if e > out.len() {
+            return e;
         }
+        if p < y {
+            last = p;
+            from = r;
+            end = e;
+        }
+        r = e;
     }
     r
 }
 
-// A word of a normal form: an argument for a parameter, or the word.
+// The Y line of the argument for a word of a normal form; y where the word is no parameter, or one without an argument.
+fn argument_line(s: &[u8], t: &[u32], y: usize, w: u64) -> usize
+    requires { ⌜ tables.Tabled (now s) (now t) ⌝ }
+    requires { ⌜ y < count-of type-line (lines 6 (now s)) ⌝ }
+    ensures { λ r. ⌜ Argument (lines 6 (now (s .entry))) y w r ⌝ }
+{
+    if kind(w) != 3 {
+        return y;
+    }
+    let i = own(w) as usize;
+    if i >= kids(s, t, y) {
+        return y;
+    }
+    kid(s, t, y, i)
+}
+
+// A word of a normal form that no argument replaces.
+fn left_word(w: u64) -> u64
+    ensures { λ r. ⌜ r ≡ left w ⌝ }
+{
+    let k = kind(w);
+    if k == 3 {
+        return pack(0, 0, 0);
+    }
+    pack(k, count(w), own(w))
+}
+
+// A word of a normal form: the argument for a parameter, of Y line p, or the word. Y line `last` stands from place `from` to place
+// `end` already, where it is below y.
 fn emit_node(
     s: &[u8],
     t: &[u32],
@@ -160,21 +204,46 @@ fn emit_node(
     d: usize,
     places: bool,
     w: u64,
+    p: usize,
+    last: usize,
+    from: usize,
+    end: usize,
+    out: &mut [u64],
+    at: usize,
+) -> usize
+    requires { ⌜ Asked (now s) (now t) (now u) (now f) y d × (at ≤ length (now out)) × Argument (lines 6 (now s)) y w p ⌝ }
+    requires { ⌜ (last < y → Stands (words (lines 6 (now s)) (now u) (now f) d places last) (now out) from end at) ⌝ }
+    ensures { λ r. ⌜ Put (step (kid-words (lines 6 (now (s .entry))) (now (u .entry)) (now (f .entry)) d places y) (kids-of (lines 6 (now (s .entry))) y) w) (now (out .entry)) at r (now (out .exit)) ⌝ }
+{
+    if p < y {
+        return emit_part(s, t, u, f, p, d, places, last, from, end, out, at);
+    }
+    put(out, at, left_word(w))
+}
+
+// The type of Y line y, which stands from place `from` to place `end` already, where it is `last`.
+fn emit_part(
+    s: &[u8],
+    t: &[u32],
+    u: &[u16],
+    f: &[u64],
+    y: usize,
+    d: usize,
+    places: bool,
+    last: usize,
+    from: usize,
+    end: usize,
     out: &mut [u64],
     at: usize,
 ) -> usize
     requires { ⌜ Asked (now s) (now t) (now u) (now f) y d × (at ≤ length (now out)) ⌝ }
-    ensures { λ r. ⌜ Put (step (kid-words (lines 6 (now (s .entry))) (now (u .entry)) (now (f .entry)) d places y) (kids-of (lines 6 (now (s .entry))) y) w) (now (out .entry)) at r (now (out .exit)) ⌝ }
+    requires { ⌜ (last ≡ y → Stands (words (lines 6 (now s)) (now u) (now f) d places y) (now out) from end at) ⌝ }
+    ensures { λ r. ⌜ Put (words (lines 6 (now (s .entry))) (now (u .entry)) (now (f .entry)) d places y) (now (out .entry)) at r (now (out .exit)) ⌝ }
 {
-    let k = kind(w);
-    if k != 3 {
-        return put(out, at, pack(k, count(w), own(w)));
+    if last == y {
+        return again(out, from, end, at);
     }
-    let i = own(w) as usize;
-    if i >= kids(s, t, y) {
-        return put(out, at, pack(0, 0, 0));
-    }
-    emit(s, t, u, f, kid(s, t, y, i), d, places, out, at)
+    emit(s, t, u, f, y, d, places, out, at)
 }
 
 // The parts from part `from` on.
@@ -194,12 +263,18 @@ fn emit_kids(
     ensures { λ r. ⌜ Put (run (kid-words (lines 6 (now (s .entry))) (now (u .entry)) (now (f .entry)) d places y) from (kids-of (lines 6 (now (s .entry))) y - from)) (now (out .entry)) at r (now (out .exit)) ⌝ }
 {
     let n = kids(s, t, y);
+    let mut last = y;
+    let mut start = at;
     let mut r = at;
     for i in from..n {
-        r = emit(s, t, u, f, kid(s, t, y, i), d, places, out, r);
-        if r > out.len() {
-            return r;
+        let p = kid(s, t, y, i);
+        let e = emit_part(s, t, u, f, p, d, places, last, start, r, out, r);
+        if e > out.len() {
+            return e;
         }
+        last = p;
+        start = r;
+        r = e;
     }
     r
 }

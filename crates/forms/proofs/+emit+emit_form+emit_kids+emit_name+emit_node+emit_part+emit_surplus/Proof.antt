@@ -1,14 +1,18 @@
 -- `forms::emit` and the functions that it calls in turn meet their contracts: each puts what its callees put, and the Y line falls.
 -- Assumes nothing.
 use Prim.Native.Nat.{ℕ, _+_, _-_, _*_, _≤_, _<_}
-use mathlib.Core.Path.{_≡_, refl, ap, sym, _∙_, subst}
+use mathlib.Core.Logic.{⊎-elim}
+use mathlib.Core.List.{[], _∷_}
+use mathlib.Core.Path.{_≡_, refl, ap, sym, _∙_}
 use native.Mathlib.Omega.{arith}
 use lib.ListN.{length, getD, take, drop}
 use borrow.Author.Needs.{needs}
 use Rattle.sheet.specs.Sheet.{lines}
-use Rattle.kids.specs.Nodes.{kids-of, kid-of, kind-of}
-use Rattle.node_words.specs.Put.{Put, put-none, put-more, put-stop}
+use Rattle.kids.specs.Nodes.{kids-of}
+use Rattle.node_words.specs.Put.{Put, put-none, put-more}
 use Rattle.kids.specs.NodesLaws.{node-at}
+use Rattle.copies.specs.Stands.{Stands, stands-put, stands-kept, stands-at, stands-by, put-stands}
+use Rattle.forms.specs.Filling.{step-given, step-left}
 use Rattle.forms.specs.CodeLaws.{
   put-same,
   run-none,
@@ -18,9 +22,6 @@ use Rattle.forms.specs.CodeLaws.{
   filled-more,
   filled-all,
   filled-stop,
-  step-other,
-  step-past,
-  step-arg,
   put-var,
   put-plain,
   stop-plain,
@@ -42,28 +43,34 @@ use Rattle.forms.specs.CodeLaws.{
   name-kids,
   asked-kid,
 }
-use Rattle.forms.specs.Emit.{run, step, filled, grown, form-words, words, kid-words, Asked}
+use Rattle.forms.specs.Emit.{run, filled, words, kid-words}
 use borrow.Fn.Kinds.{In}
 use borrow.Fn.PlainCycle.{Measures, is, falls, and}
 use Rattle.forms.proofs.emit.Reads as emit
 use Rattle.forms.proofs.emit.Kinds as emit-kinds
-use Rattle.forms.proofs.+emit+emit_form+emit_kids+emit_name+emit_node+emit_surplus.Lts-emit as emit-lts
+use Rattle.forms.proofs.+emit+emit_form+emit_kids+emit_name+emit_node+emit_part+emit_surplus.Lts-emit as emit-lts
 use Rattle.forms.proofs.emit_form.Reads as emit-form
 use Rattle.forms.proofs.emit_form.Kinds as emit-form-kinds
-use Rattle.forms.proofs.+emit+emit_form+emit_kids+emit_name+emit_node+emit_surplus.Lts-emit_form as emit-form-lts
+use Rattle.forms.proofs.+emit+emit_form+emit_kids+emit_name+emit_node+emit_part+emit_surplus.Lts-emit_form as emit-form-lts
 use Rattle.forms.proofs.emit_kids.Reads as emit-kids
 use Rattle.forms.proofs.emit_kids.Kinds as emit-kids-kinds
-use Rattle.forms.proofs.+emit+emit_form+emit_kids+emit_name+emit_node+emit_surplus.Lts-emit_kids as emit-kids-lts
+use Rattle.forms.proofs.+emit+emit_form+emit_kids+emit_name+emit_node+emit_part+emit_surplus.Lts-emit_kids as emit-kids-lts
 use Rattle.forms.proofs.emit_name.Reads as emit-name
 use Rattle.forms.proofs.emit_name.Kinds as emit-name-kinds
-use Rattle.forms.proofs.+emit+emit_form+emit_kids+emit_name+emit_node+emit_surplus.Lts-emit_name as emit-name-lts
+use Rattle.forms.proofs.+emit+emit_form+emit_kids+emit_name+emit_node+emit_part+emit_surplus.Lts-emit_name as emit-name-lts
 use Rattle.forms.proofs.emit_node.Reads as emit-node
 use Rattle.forms.proofs.emit_node.Kinds as emit-node-kinds
-use Rattle.forms.proofs.+emit+emit_form+emit_kids+emit_name+emit_node+emit_surplus.Lts-emit_node as emit-node-lts
+use Rattle.forms.proofs.+emit+emit_form+emit_kids+emit_name+emit_node+emit_part+emit_surplus.Lts-emit_node as emit-node-lts
+use Rattle.forms.proofs.emit_part.Reads as emit-part
+use Rattle.forms.proofs.emit_part.Kinds as emit-part-kinds
+use Rattle.forms.proofs.+emit+emit_form+emit_kids+emit_name+emit_node+emit_part+emit_surplus.Lts-emit_part as emit-part-lts
 use Rattle.forms.proofs.emit_surplus.Reads as emit-surplus
 use Rattle.forms.proofs.emit_surplus.Kinds as emit-surplus-kinds
-use Rattle.forms.proofs.+emit+emit_form+emit_kids+emit_name+emit_node+emit_surplus.Lts-emit_surplus as emit-surplus-lts
+use Rattle.forms.proofs.+emit+emit_form+emit_kids+emit_name+emit_node+emit_part+emit_surplus.Lts-emit_surplus as emit-surplus-lts
+use Rattle.forms.proofs.argument_line.Reads as argument-line-reads
+use Rattle.forms.proofs.left_word.Reads as left-word-reads
 use Rattle.calls.proofs.params.Reads as params-reads
+use Rattle.copies.proofs.again.Reads as again-reads
 use Rattle.kids.proofs.kid.Reads as kid-reads
 use Rattle.kids.proofs.kids.Reads as kids-reads
 use Rattle.node_words.proofs.own_word.Reads as own-word-reads
@@ -76,30 +83,33 @@ use Rattle.nodes.proofs.own.Reads as own-reads
 use Rattle.nodes.proofs.pack.Reads as pack-reads
 use Rattle.tables.proofs.decl_of.Reads as decl-of-reads
 use Rattle.tables.proofs.type_number.Reads as type-number-reads
-use Rattle.forms.proofs.+emit+emit_form+emit_kids+emit_name+emit_node+emit_surplus.{
+use Rattle.forms.proofs.+emit+emit_form+emit_kids+emit_name+emit_node+emit_part+emit_surplus.{
   statement,
 }
-use Rattle.forms.proofs.+emit+emit_form+emit_kids+emit_name+emit_node+emit_surplus.Tie.{
+use Rattle.forms.proofs.+emit+emit_form+emit_kids+emit_name+emit_node+emit_part+emit_surplus.Tie.{
   close,
 }
 
 abbrev μ-emit : Measures 5 emit-kinds.ps ℕ
-μ-emit κs a = 5 * a .1 .1 .1 .1 .0 + 4
+μ-emit κs a = 6 * a .1 .1 .1 .1 .0 + 4
 
 abbrev μ-emit-form : Measures 5 emit-form-kinds.ps ℕ
-μ-emit-form κs a = 5 * a .1 .1 .1 .1 .0 + 2
+μ-emit-form κs a = 6 * a .1 .1 .1 .1 .0 + 2
 
 abbrev μ-emit-kids : Measures 5 emit-kids-kinds.ps ℕ
-μ-emit-kids κs a = 5 * a .1 .1 .1 .1 .0 + 1
+μ-emit-kids κs a = 6 * a .1 .1 .1 .1 .0 + 1
 
 abbrev μ-emit-name : Measures 5 emit-name-kinds.ps ℕ
-μ-emit-name κs a = 5 * a .1 .1 .1 .1 .0 + 3
+μ-emit-name κs a = 6 * a .1 .1 .1 .1 .0 + 3
 
 abbrev μ-emit-node : Measures 5 emit-node-kinds.ps ℕ
-μ-emit-node κs a = 5 * a .1 .1 .1 .1 .0 + 1
+μ-emit-node κs a = 6 * a .1 .1 .1 .1 .0 + 1
+
+abbrev μ-emit-part : Measures 5 emit-part-kinds.ps ℕ
+μ-emit-part κs a = 6 * a .1 .1 .1 .1 .0 + 5
 
 abbrev μ-emit-surplus : Measures 5 emit-surplus-kinds.ps ℕ
-μ-emit-surplus κs a = 5 * a .1 .1 .1 .1 .0 + 2
+μ-emit-surplus κs a = 6 * a .1 .1 .1 .1 .0 + 2
 
 abbrev emit-at : ℕ → In 5 emit-kinds.ps
 emit-at t = and 5 emit-kinds.ps (is 5 emit-kinds.ps μ-emit t) emit.Pre
@@ -134,6 +144,13 @@ emit-node-at t = and 5 emit-node-kinds.ps (is 5 emit-node-kinds.ps μ-emit-node 
 abbrev emit-node-below : ℕ → In 5 emit-node-kinds.ps
 emit-node-below t =
     and 5 emit-node-kinds.ps (falls 5 emit-node-kinds.ps _<_ μ-emit-node t) emit-node.Pre
+
+abbrev emit-part-at : ℕ → In 5 emit-part-kinds.ps
+emit-part-at t = and 5 emit-part-kinds.ps (is 5 emit-part-kinds.ps μ-emit-part t) emit-part.Pre
+
+abbrev emit-part-below : ℕ → In 5 emit-part-kinds.ps
+emit-part-below t =
+    and 5 emit-part-kinds.ps (falls 5 emit-part-kinds.ps _<_ μ-emit-part t) emit-part.Pre
 
 abbrev emit-surplus-at : ℕ → In 5 emit-surplus-kinds.ps
 emit-surplus-at t =
@@ -222,216 +239,245 @@ emit-returns-4 t c =
     put-plain (a .s .now) (p .1 .0 .tabled .passed) (a .u .now) (a .f .now) (a .d) (a .places) (a .y) (p .1 .0 .type) (a .out .now) (a .at) (p .1 .1) (λ e. c .before .before .before .before .before .before .before .before .before .before .before .if1 .left (c .before .before .before .before .before .before .before .before .before .before .before .before .type-number .ensures ∙ e)) (λ e. c .before .before .before .before .before .before .before .before .before .before .if2 .left (c .before .before .before .before .before .before .before .before .before .before .before .before .type-number .ensures ∙ e)) _ _ _ _ _ (omega (arith, c .before .before .before .before .before .if3 .left, c .before .before .before .before .before .before .before .before .emit-kids .ensures .long)) (c .before .before .before .before .before .before .before .before .emit-kids .ensures) (c .before .before .before .own-word .ensures) (c .before .before .put2 .ensures)
 
 abbrev emit-form-Inv-loop : emit-form-lts.InvT-loop
-emit-form-Inv-loop s t u f y d places m out₀ at start end r₀ i₀ out r i =
-    (i ≤ end) × (length out ≡ length out₀) × (r ≤ length out) × Put (filled (kid-words (lines 6 s) u f d places y) (kids-of (lines 6 s) y) (take i (take end (drop start f)))) out₀ at r out
+emit-form-Inv-loop s t u f y d places m out₀ at start n last₀ from₀ end₀ r₀ i₀ out last from end r i =
+    (i ≤ n) × (length out ≡ length out₀) × (r ≤ length out) × Put (filled (kid-words (lines 6 s) u f d places y) (kids-of (lines 6 s) y) (take i (take n (drop start f)))) out₀ at r out × (last < y → Stands (words (lines 6 s) u f d places last) out from end r)
 
 abbrev emit-form-μ-loop : emit-form-lts.MeasureT-loop
-emit-form-μ-loop s t u f y d places m out₀ at start end r₀ i₀ out r i = end - i
+emit-form-μ-loop s t u f y d places m out₀ at start n last₀ from₀ end₀ r₀ i₀ out last from end r i =
+    n - i
 
-emit-form-loop-holds :
-    (t : ℕ) →
-    emit-form-lts.Need-loop-holds
-    (emit-node-below t, emit-node.Post)
-    (emit-form-at t)
-    emit-form.Post
-    emit-form-Inv-loop
-    emit-form-μ-loop
-emit-form-loop-holds t c =
-    let a = c .before .before .before .before .before .before .before .args in
-    let p = c .before .before .before .before .before .before .before .pre in
-    (omega arith, refl, p .1 .1, put-same _ _ _ _ _ _ (sym (filled-none (kid-words (lines 6 (a .s .now)) (a .u .now) (a .f .now) (a .d) (a .places) (a .y)) (kids-of (lines 6 (a .s .now)) (a .y)) (a .f .now) (getD (a .f .now) (2 * a .m) 0) (getD (a .f .now) (2 * a .m + 1) 0) (p .1 .0 .forms .inside (a .m) (p .1 .2)))) (put-none (a .out .now) (a .at) (p .1 .1)))
-
-emit-form-add-emit-node : (t : ℕ) → emit-form-lts.Need-add-emit-node (
+emit-form-loop-holds : (t : ℕ) → emit-form-lts.Need-loop-holds (
+  argument-line-reads.Asked,
+  argument-line-reads.Learnt,
   emit-node-below t,
   emit-node.Post,
 ) (emit-form-at t) emit-form.Post emit-form-Inv-loop emit-form-μ-loop
-emit-form-add-emit-node t c =
+emit-form-loop-holds t c =
+    let a = c .before .before .before .before .before .before .before .args in
+    let p = c .before .before .before .before .before .before .before .pre in
+    (omega arith, refl, p .1 .1, put-same _ _ _ _ _ _ (sym (filled-none (kid-words (lines 6 (a .s .now)) (a .u .now) (a .f .now) (a .d) (a .places) (a .y)) (kids-of (lines 6 (a .s .now)) (a .y)) (a .f .now) (getD (a .f .now) (2 * a .m) 0) (getD (a .f .now) (2 * a .m + 1) 0) (p .1 .0 .forms .inside (a .m) (p .1 .2)))) (put-none (a .out .now) (a .at) (p .1 .1)), λ q. absurd (omega arith))
+
+emit-form-add-w : (t : ℕ) → emit-form-lts.Need-add-w (
+  argument-line-reads.Asked,
+  argument-line-reads.Learnt,
+  emit-node-below t,
+  emit-node.Post,
+) (emit-form-at t) emit-form.Post emit-form-Inv-loop emit-form-μ-loop
+emit-form-add-w t c =
     let a = c .before .before .before .before .before .before .before .before .before .args in
     let p = c .before .before .before .before .before .before .before .before .before .pre in
     omega (arith, c .loop-test .taken, (p .1 .0 .forms .inside (a .m) (p .1 .2)))
 
-emit-form-mul-emit-node : (t : ℕ) → emit-form-lts.Need-mul-emit-node (
+emit-form-mul-w : (t : ℕ) → emit-form-lts.Need-mul-w (
+  argument-line-reads.Asked,
+  argument-line-reads.Learnt,
   emit-node-below t,
   emit-node.Post,
 ) (emit-form-at t) emit-form.Post emit-form-Inv-loop emit-form-μ-loop
-emit-form-mul-emit-node t c =
+emit-form-mul-w t c =
     let a = c .before .before .before .before .before .before .before .before .before .args in
     let p = c .before .before .before .before .before .before .before .before .before .pre in
     omega (arith, c .loop-test .taken, (p .1 .0 .forms .inside (a .m) (p .1 .2)), c .before .before .before .before .before .before .before .before .before .good .1 .1 .1 .0 .1)
 
-emit-form-shared-slice-read-emit-node : (t : ℕ) → emit-form-lts.Need-shared-slice-read-emit-node (
+emit-form-shared-slice-read-w : (t : ℕ) → emit-form-lts.Need-shared-slice-read-w (
+  argument-line-reads.Asked,
+  argument-line-reads.Learnt,
   emit-node-below t,
   emit-node.Post,
 ) (emit-form-at t) emit-form.Post emit-form-Inv-loop emit-form-μ-loop
-emit-form-shared-slice-read-emit-node t c =
+emit-form-shared-slice-read-w t c =
     let a = c .before .before .before .before .before .before .before .before .before .before .args in
     let p = c .before .before .before .before .before .before .before .before .before .before .pre in
     omega (arith, c .before .loop-test .taken, (p .1 .0 .forms .inside (a .m) (p .1 .2)))
 
+emit-form-argument-line-requires : (t : ℕ) → emit-form-lts.Need-argument-line-requires (
+  argument-line-reads.Asked,
+  argument-line-reads.Learnt,
+  emit-node-below t,
+  emit-node.Post,
+) (emit-form-at t) emit-form.Post emit-form-Inv-loop emit-form-μ-loop
+emit-form-argument-line-requires t c κs =
+    let a = c .before .before .before .before .before .before .before .before .before .before .args in
+    let p = c .before .before .before .before .before .before .before .before .before .before .pre in
+    (p .1 .0 .tabled, p .1 .0 .type)
+
 emit-form-emit-node-requires : (t : ℕ) → emit-form-lts.Need-emit-node-requires (
+  argument-line-reads.Asked,
+  argument-line-reads.Learnt,
   emit-node-below t,
   emit-node.Post,
 ) (emit-form-at t) emit-form.Post emit-form-Inv-loop emit-form-μ-loop
 emit-form-emit-node-requires t c κs =
-    let a = c .before .before .before .before .before .before .before .before .before .before .before .args in
-    let p = c .before .before .before .before .before .before .before .before .before .before .before .pre in
-    (omega (arith, p .0), (p .1 .0, c .before .before .before .loop .inv .2))
+    let a = c .before .before .before .before .before .before .before .before .before .before .before .before .args in
+    let p = c .before .before .before .before .before .before .before .before .before .before .before .before .pre in
+    let l = c .before .before .before .before .loop in
+    (omega (arith, p .0), ((p .1 .0, l .inv .2, c .before .argument-line .ensures), l .inv .4))
 
 emit-form-same-length : (t : ℕ) → emit-form-lts.Need-same-length (
+  argument-line-reads.Asked,
+  argument-line-reads.Learnt,
   emit-node-below t,
   emit-node.Post,
 ) (emit-form-at t) emit-form.Post emit-form-Inv-loop emit-form-μ-loop
 emit-form-same-length t c =
-    omega (arith, c .before .before .before .emit-node .ensures .long, c .before .before .before .before .before .before .before .loop .inv .1)
+    omega (arith, c .before .before .before .emit-node .ensures .long, c .before .before .before .before .before .before .before .before .loop .inv .1)
 
-emit-form-returns :
-    (t : ℕ) →
-    emit-form-lts.Need-returns
-    (emit-node-below t, emit-node.Post)
-    (emit-form-at t)
-    emit-form.Post
-    emit-form-Inv-loop
-    emit-form-μ-loop
+emit-form-returns : (t : ℕ) → emit-form-lts.Need-returns (
+  argument-line-reads.Asked,
+  argument-line-reads.Learnt,
+  emit-node-below t,
+  emit-node.Post,
+) (emit-form-at t) emit-form.Post emit-form-Inv-loop emit-form-μ-loop
 emit-form-returns t c =
-    let a = c .before .before .before .before .before .before .before .before .before .before .before .before .before .before .before .args in
-    let p = c .before .before .before .before .before .before .before .before .before .before .before .before .before .before .before .pre in
-    filled-stop (kid-words (lines 6 (a .s .now)) (a .u .now) (a .f .now) (a .d) (a .places) (a .y)) (kids-of (lines 6 (a .s .now)) (a .y)) (a .f .now) (getD (a .f .now) (2 * a .m) 0) (getD (a .f .now) (2 * a .m + 1) 0) (p .1 .0 .forms .inside (a .m) (p .1 .2)) (c .before .before .before .before .before .before .before .loop .i + 1) (a .out .now) (a .at) _ _ (omega (arith, c .if1 .taken, c .before .before .before .emit-node .ensures .long, c .before .before .before .before .before .before .before .loop .inv .1)) (put-same _ _ _ _ _ _ (filled-more (kid-words (lines 6 (a .s .now)) (a .u .now) (a .f .now) (a .d) (a .places) (a .y)) (kids-of (lines 6 (a .s .now)) (a .y)) (a .f .now) (getD (a .f .now) (2 * a .m) 0) (getD (a .f .now) (2 * a .m + 1) 0) (p .1 .0 .forms .inside (a .m) (p .1 .2)) (c .before .before .before .before .before .before .before .loop .i) (c .before .before .before .before .before .before .loop-test .taken)) (put-more _ _ (a .out .now) (a .at) (c .before .before .before .before .before .before .before .loop .r) _ (c .before .before .before .before .before .before .before .loop .out) _ (p .1 .1) (omega (arith, c .before .before .before .before .before .before .before .loop .inv .1, c .before .before .before .before .before .before .before .loop .inv .2)) (c .before .before .before .before .before .before .before .loop .inv .3) (c .before .before .before .emit-node .ensures)))
+    let a = c .before .before .before .before .before .before .before .before .before .before .before .before .before .before .before .before .args in
+    let p = c .before .before .before .before .before .before .before .before .before .before .before .before .before .before .before .before .pre in
+    let l = c .before .before .before .before .before .before .before .before .loop in
+    filled-stop (kid-words (lines 6 (a .s .now)) (a .u .now) (a .f .now) (a .d) (a .places) (a .y)) (kids-of (lines 6 (a .s .now)) (a .y)) (a .f .now) (getD (a .f .now) (2 * a .m) 0) (getD (a .f .now) (2 * a .m + 1) 0) (p .1 .0 .forms .inside (a .m) (p .1 .2)) (l .i + 1) (a .out .now) (a .at) _ _ (omega (arith, c .if1 .taken, c .before .before .before .emit-node .ensures .long, l .inv .1)) (put-same _ _ _ _ _ _ (filled-more (kid-words (lines 6 (a .s .now)) (a .u .now) (a .f .now) (a .d) (a .places) (a .y)) (kids-of (lines 6 (a .s .now)) (a .y)) (a .f .now) (getD (a .f .now) (2 * a .m) 0) (getD (a .f .now) (2 * a .m + 1) 0) (p .1 .0 .forms .inside (a .m) (p .1 .2)) (l .i) (c .before .before .before .before .before .before .before .loop-test .taken)) (put-more _ _ (a .out .now) (a .at) (l .r) _ (l .out) _ (p .1 .1) (omega (arith, l .inv .1, l .inv .2)) (l .inv .3) (c .before .before .before .emit-node .ensures)))
 
-emit-form-add-i :
-    (t : ℕ) →
-    emit-form-lts.Need-add-i
-    (emit-node-below t, emit-node.Post)
-    (emit-form-at t)
-    emit-form.Post
-    emit-form-Inv-loop
-    emit-form-μ-loop
+emit-form-add-i : (t : ℕ) → emit-form-lts.Need-add-i (
+  argument-line-reads.Asked,
+  argument-line-reads.Learnt,
+  emit-node-below t,
+  emit-node.Post,
+) (emit-form-at t) emit-form.Post emit-form-Inv-loop emit-form-μ-loop
 emit-form-add-i t c =
-    let a = c .before .before .before .before .before .before .before .before .before .before .before .before .before .before .before .args in
-    let p = c .before .before .before .before .before .before .before .before .before .before .before .before .before .before .before .pre in
-    omega (arith, c .before .before .before .before .before .before .loop-test .taken, (p .1 .0 .forms .inside (a .m) (p .1 .2)), c .before .before .before .before .before .before .before .before .before .before .before .before .before .before .before .good .1 .1 .1 .0 .0)
+    let a = c .before .before .before .before .before .before .before .before .before .before .before .before .before .before .before .before .before .args in
+    let p = c .before .before .before .before .before .before .before .before .before .before .before .before .before .before .before .before .before .pre in
+    omega (arith, c .before .before .before .before .before .before .before .before .loop-test .taken, (p .1 .0 .forms .inside (a .m) (p .1 .2)), c .before .before .before .before .before .before .before .before .before .before .before .before .before .before .before .before .before .good .1 .1 .1 .0 .0)
 
-emit-form-loop-less :
-    (t : ℕ) →
-    emit-form-lts.Need-loop-less
-    (emit-node-below t, emit-node.Post)
-    (emit-form-at t)
-    emit-form.Post
-    emit-form-Inv-loop
-    emit-form-μ-loop
+emit-form-loop-less : (t : ℕ) → emit-form-lts.Need-loop-less (
+  argument-line-reads.Asked,
+  argument-line-reads.Learnt,
+  emit-node-below t,
+  emit-node.Post,
+) (emit-form-at t) emit-form.Post emit-form-Inv-loop emit-form-μ-loop
 emit-form-loop-less t c =
-    omega (arith, c .before .before .before .before .before .before .loop-test .taken)
+    omega (arith, c .before .before .before .before .before .before .before .before .loop-test .taken)
 
-emit-form-loop-again :
-    (t : ℕ) →
-    emit-form-lts.Need-loop-again
-    (emit-node-below t, emit-node.Post)
-    (emit-form-at t)
-    emit-form.Post
-    emit-form-Inv-loop
-    emit-form-μ-loop
+emit-form-loop-again : (t : ℕ) → emit-form-lts.Need-loop-again (
+  argument-line-reads.Asked,
+  argument-line-reads.Learnt,
+  emit-node-below t,
+  emit-node.Post,
+) (emit-form-at t) emit-form.Post emit-form-Inv-loop emit-form-μ-loop
 emit-form-loop-again t c =
-    let a = c .before .before .before .before .before .before .before .before .before .before .before .before .before .before .before .args in
-    let p = c .before .before .before .before .before .before .before .before .before .before .before .before .before .before .before .pre in
-    (omega (arith, c .before .before .before .before .before .before .loop-test .taken), omega (arith, c .before .before .before .emit-node .ensures .long, c .before .before .before .before .before .before .before .loop .inv .1), omega (arith, c .if1 .left), (put-same _ _ _ _ _ _ (filled-more (kid-words (lines 6 (a .s .now)) (a .u .now) (a .f .now) (a .d) (a .places) (a .y)) (kids-of (lines 6 (a .s .now)) (a .y)) (a .f .now) (getD (a .f .now) (2 * a .m) 0) (getD (a .f .now) (2 * a .m + 1) 0) (p .1 .0 .forms .inside (a .m) (p .1 .2)) (c .before .before .before .before .before .before .before .loop .i) (c .before .before .before .before .before .before .loop-test .taken)) (put-more _ _ (a .out .now) (a .at) (c .before .before .before .before .before .before .before .loop .r) _ (c .before .before .before .before .before .before .before .loop .out) _ (p .1 .1) (omega (arith, c .before .before .before .before .before .before .before .loop .inv .1, c .before .before .before .before .before .before .before .loop .inv .2)) (c .before .before .before .before .before .before .before .loop .inv .3) (c .before .before .before .emit-node .ensures))))
+    let a = c .before .before .before .before .before .before .before .before .before .before .before .before .before .before .before .before .before .args in
+    let p = c .before .before .before .before .before .before .before .before .before .before .before .before .before .before .before .before .before .pre in
+    let l = c .before .before .before .before .before .before .before .before .before .loop in
+    let e = c .before .before .before .before .emit-node in
+    let g = c .before .before .before .before .before .before .argument-line in
+    let h : e .result ≤ length (l .out) = omega (arith, c .before .if1 .left, e .ensures .long) in (
+      omega (arith, c .before .before .before .before .before .before .before .before .loop-test .taken),
+      omega (arith, e .ensures .long, l .inv .1),
+      omega (arith, c .before .if1 .left),
+      put-same _ _ _ _ _ _ (filled-more (kid-words (lines 6 (a .s .now)) (a .u .now) (a .f .now) (a .d) (a .places) (a .y)) (kids-of (lines 6 (a .s .now)) (a .y)) (a .f .now) (getD (a .f .now) (2 * a .m) 0) (getD (a .f .now) (2 * a .m + 1) 0) (p .1 .0 .forms .inside (a .m) (p .1 .2)) (l .i) (c .before .before .before .before .before .before .before .before .loop-test .taken)) (put-more _ _ (a .out .now) (a .at) (l .r) _ (l .out) _ (p .1 .1) (omega (arith, l .inv .1, l .inv .2)) (l .inv .3) (c .before .before .before .before .emit-node .ensures)),
+      ⊎-elim
+          (λ w q. stands-by (words (lines 6 (a .s .now)) (a .u .now) (a .f .now) (a .d) (a .places)) _ _ _ _ _ _ _ _ (w .1) (w .2) (w .3) (stands-put (words (lines 6 (a .s .now)) (a .u .now) (a .f .now) (a .d) (a .places) (g .result)) (l .out) (l .r) (e .result) _ (l .inv .2) h (put-same _ _ _ _ _ _ (sym (step-given (lines 6 (a .s .now)) (a .u .now) (a .f .now) (a .d) (a .places) (a .y) _ _ (g .ensures) (w .0 .taken))) (e .ensures))))
+          (λ w q. stands-by (words (lines 6 (a .s .now)) (a .u .now) (a .f .now) (a .d) (a .places)) _ _ _ _ _ _ _ _ (w .1) (w .2) (w .3) (stands-kept _ (l .out) (l .r) (e .result) _ (l .inv .2) h (words (lines 6 (a .s .now)) (a .u .now) (a .f .now) (a .d) (a .places) (l .last)) (l .from) (l .end) (e .ensures) (l .inv .4 (omega (arith, w .1)))))
+          (c .if2 .came),
+    )
 
 emit-form-same-length-2 : (t : ℕ) → emit-form-lts.Need-same-length-2 (
+  argument-line-reads.Asked,
+  argument-line-reads.Learnt,
   emit-node-below t,
   emit-node.Post,
 ) (emit-form-at t) emit-form.Post emit-form-Inv-loop emit-form-μ-loop
 emit-form-same-length-2 t c =
     c .before .loop .inv .1
 
-emit-form-returns-2 :
-    (t : ℕ) →
-    emit-form-lts.Need-returns-2
-    (emit-node-below t, emit-node.Post)
-    (emit-form-at t)
-    emit-form.Post
-    emit-form-Inv-loop
-    emit-form-μ-loop
+emit-form-returns-2 : (t : ℕ) → emit-form-lts.Need-returns-2 (
+  argument-line-reads.Asked,
+  argument-line-reads.Learnt,
+  emit-node-below t,
+  emit-node.Post,
+) (emit-form-at t) emit-form.Post emit-form-Inv-loop emit-form-μ-loop
 emit-form-returns-2 t c =
     let a = c .before .before .before .before .before .before .before .before .before .args in
     let p = c .before .before .before .before .before .before .before .before .before .pre in
     put-same _ _ _ _ _ _ (filled-all (kid-words (lines 6 (a .s .now)) (a .u .now) (a .f .now) (a .d) (a .places) (a .y)) (kids-of (lines 6 (a .s .now)) (a .y)) (a .f .now) (getD (a .f .now) (2 * a .m) 0) (getD (a .f .now) (2 * a .m + 1) 0) (p .1 .0 .forms .inside (a .m) (p .1 .2)) (c .before .loop .i) (omega (arith, c .loop-test .left))) (c .before .loop .inv .3)
 
 abbrev emit-kids-Inv-loop : emit-kids-lts.InvT-loop
-emit-kids-Inv-loop s t u f y d places from out₀ at n r₀ i₀ out r i =
-    (from ≤ i) × (i ≤ n) × (length out ≡ length out₀) × (r ≤ length out) × Put (run (kid-words (lines 6 s) u f d places y) from (i - from)) out₀ at r out
+emit-kids-Inv-loop s t u f y d places from out₀ at n last₀ start₀ r₀ i₀ out last start r i =
+    (from ≤ i) × (i ≤ n) × (length out ≡ length out₀) × (r ≤ length out) × Put (run (kid-words (lines 6 s) u f d places y) from (i - from)) out₀ at r out × (last < y → Stands (words (lines 6 s) u f d places last) out start r r)
 
 abbrev emit-kids-μ-loop : emit-kids-lts.MeasureT-loop
-emit-kids-μ-loop s t u f y d places from out₀ at n r₀ i₀ out r i = n - i
+emit-kids-μ-loop s t u f y d places from out₀ at n last₀ start₀ r₀ i₀ out last start r i =
+    n - i
 
 emit-kids-loop-holds : (t : ℕ) → emit-kids-lts.Need-loop-holds (
   kids-reads.Asked,
   kids-reads.Learnt,
   kid-reads.Asked,
   kid-reads.Learnt,
-  emit-below t,
-  emit.Post,
+  emit-part-below t,
+  emit-part.Post,
 ) (emit-kids-at t) emit-kids.Post emit-kids-Inv-loop emit-kids-μ-loop
 emit-kids-loop-holds t c =
     let a = c .before .before .before .before .before .before .args in
     let p = c .before .before .before .before .before .before .pre in
-    (omega arith, omega (arith, p .1 .2, c .kids .ensures), refl, p .1 .1, put-same _ _ _ _ _ _ (sym (run-none (kid-words (lines 6 (a .s .now)) (a .u .now) (a .f .now) (a .d) (a .places) (a .y)) (a .from))) (put-none (a .out .now) (a .at) (p .1 .1)))
+    (omega arith, omega (arith, p .1 .2, c .kids .ensures), refl, p .1 .1, put-same _ _ _ _ _ _ (sym (run-none (kid-words (lines 6 (a .s .now)) (a .u .now) (a .f .now) (a .d) (a .places) (a .y)) (a .from))) (put-none (a .out .now) (a .at) (p .1 .1)), λ q. absurd (omega arith))
 
 emit-kids-kid-requires : (t : ℕ) → emit-kids-lts.Need-kid-requires (
   kids-reads.Asked,
   kids-reads.Learnt,
   kid-reads.Asked,
   kid-reads.Learnt,
-  emit-below t,
-  emit.Post,
+  emit-part-below t,
+  emit-part.Post,
 ) (emit-kids-at t) emit-kids.Post emit-kids-Inv-loop emit-kids-μ-loop
 emit-kids-kid-requires t c κs =
     let a = c .before .before .before .before .before .before .before .before .args in
     let p = c .before .before .before .before .before .before .before .before .pre in
     (p .1 .0 .tabled, (p .1 .0 .type, omega (arith, c .loop-test .taken, c .before .before .kids .ensures)))
 
-emit-kids-emit-requires : (t : ℕ) → emit-kids-lts.Need-emit-requires (
+emit-kids-emit-part-requires : (t : ℕ) → emit-kids-lts.Need-emit-part-requires (
   kids-reads.Asked,
   kids-reads.Learnt,
   kid-reads.Asked,
   kid-reads.Learnt,
-  emit-below t,
-  emit.Post,
+  emit-part-below t,
+  emit-part.Post,
 ) (emit-kids-at t) emit-kids.Post emit-kids-Inv-loop emit-kids-μ-loop
-emit-kids-emit-requires t c κs =
+emit-kids-emit-part-requires t c κs =
     let a = c .before .before .before .before .before .before .before .before .before .before .args in
     let p = c .before .before .before .before .before .before .before .before .before .before .pre in
-    let q = asked-kid (a .s .now) (a .t .now) (a .u .now) (a .f .now) (a .y) (a .d) (c .before .before .before .loop .i) (c .before .kid .result) (p .1 .0) (omega (arith, c .before .before .loop-test .taken, c .before .before .before .before .kids .ensures)) (c .before .kid .ensures) in
-    (omega (arith, p .0, q .0), (q .1, c .before .before .before .loop .inv .3))
+    let l = c .before .before .before .loop in
+    let q = asked-kid (a .s .now) (a .t .now) (a .u .now) (a .f .now) (a .y) (a .d) (l .i) (c .before .kid .result) (p .1 .0) (omega (arith, c .before .before .loop-test .taken, c .before .before .before .before .kids .ensures)) (c .before .kid .ensures) in
+    (omega (arith, p .0, q .0), ((q .1, l .inv .3), stands-at (words (lines 6 (a .s .now)) (a .u .now) (a .f .now) (a .d) (a .places)) (l .out) (l .start) (l .r) (l .r) (l .last) (c .before .kid .result) (a .y) (q .0) (l .inv .5)))
 
 emit-kids-same-length : (t : ℕ) → emit-kids-lts.Need-same-length (
   kids-reads.Asked,
   kids-reads.Learnt,
   kid-reads.Asked,
   kid-reads.Learnt,
-  emit-below t,
-  emit.Post,
+  emit-part-below t,
+  emit-part.Post,
 ) (emit-kids-at t) emit-kids.Post emit-kids-Inv-loop emit-kids-μ-loop
 emit-kids-same-length t c =
-    omega (arith, c .before .before .before .emit .ensures .long, c .before .before .before .before .before .before .before .loop .inv .2)
+    omega (arith, c .before .before .before .emit-part .ensures .long, c .before .before .before .before .before .before .before .loop .inv .2)
 
 emit-kids-returns : (t : ℕ) → emit-kids-lts.Need-returns (
   kids-reads.Asked,
   kids-reads.Learnt,
   kid-reads.Asked,
   kid-reads.Learnt,
-  emit-below t,
-  emit.Post,
+  emit-part-below t,
+  emit-part.Post,
 ) (emit-kids-at t) emit-kids.Post emit-kids-Inv-loop emit-kids-μ-loop
 emit-kids-returns t c =
     let a = c .before .before .before .before .before .before .before .before .before .before .before .before .before .before .args in
     let p = c .before .before .before .before .before .before .before .before .before .before .before .before .before .before .pre in
-    run-stop (kid-words (lines 6 (a .s .now)) (a .u .now) (a .f .now) (a .d) (a .places) (a .y)) (a .from) (c .before .before .before .before .before .before .before .loop .i + 1 - a .from) (kids-of (lines 6 (a .s .now)) (a .y) - a .from) (a .out .now) (a .at) _ _ (omega (arith, c .before .before .before .before .before .before .loop-test .taken, c .before .before .before .before .before .before .before .before .kids .ensures)) (omega (arith, c .if1 .taken, c .before .before .before .emit .ensures .long, c .before .before .before .before .before .before .before .loop .inv .2)) (put-same _ _ _ _ _ _ (run-more (kid-words (lines 6 (a .s .now)) (a .u .now) (a .f .now) (a .d) (a .places) (a .y)) (a .from) (c .before .before .before .before .before .before .before .loop .i) (c .before .before .before .before .before .before .before .loop .inv .0)) (put-more _ _ (a .out .now) (a .at) (c .before .before .before .before .before .before .before .loop .r) _ (c .before .before .before .before .before .before .before .loop .out) _ (p .1 .1) (omega (arith, c .before .before .before .before .before .before .before .loop .inv .2, c .before .before .before .before .before .before .before .loop .inv .3)) (c .before .before .before .before .before .before .before .loop .inv .4) (put-same _ _ _ _ _ _ (ap (λ (i : ℕ). words (lines 6 (a .s .now)) (a .u .now) (a .f .now) (a .d) (a .places) i) (c .before .before .before .before .before .kid .ensures)) (c .before .before .before .emit .ensures))))
+    let l = c .before .before .before .before .before .before .before .loop in
+    run-stop (kid-words (lines 6 (a .s .now)) (a .u .now) (a .f .now) (a .d) (a .places) (a .y)) (a .from) (l .i + 1 - a .from) (kids-of (lines 6 (a .s .now)) (a .y) - a .from) (a .out .now) (a .at) _ _ (omega (arith, c .before .before .before .before .before .before .loop-test .taken, c .before .before .before .before .before .before .before .before .kids .ensures)) (omega (arith, c .if1 .taken, c .before .before .before .emit-part .ensures .long, l .inv .2)) (put-same _ _ _ _ _ _ (run-more (kid-words (lines 6 (a .s .now)) (a .u .now) (a .f .now) (a .d) (a .places) (a .y)) (a .from) (l .i) (l .inv .0)) (put-more _ _ (a .out .now) (a .at) (l .r) _ (l .out) _ (p .1 .1) (omega (arith, l .inv .2, l .inv .3)) (l .inv .4) (put-same _ _ _ _ _ _ (ap (words (lines 6 (a .s .now)) (a .u .now) (a .f .now) (a .d) (a .places)) (c .before .before .before .before .before .kid .ensures)) (c .before .before .before .emit-part .ensures))))
 
 emit-kids-add-i : (t : ℕ) → emit-kids-lts.Need-add-i (
   kids-reads.Asked,
   kids-reads.Learnt,
   kid-reads.Asked,
   kid-reads.Learnt,
-  emit-below t,
-  emit.Post,
+  emit-part-below t,
+  emit-part.Post,
 ) (emit-kids-at t) emit-kids.Post emit-kids-Inv-loop emit-kids-μ-loop
 emit-kids-add-i t c =
     search needs
@@ -441,8 +487,8 @@ emit-kids-loop-less : (t : ℕ) → emit-kids-lts.Need-loop-less (
   kids-reads.Learnt,
   kid-reads.Asked,
   kid-reads.Learnt,
-  emit-below t,
-  emit.Post,
+  emit-part-below t,
+  emit-part.Post,
 ) (emit-kids-at t) emit-kids.Post emit-kids-Inv-loop emit-kids-μ-loop
 emit-kids-loop-less t c =
     omega (arith, c .before .before .before .before .before .before .loop-test .taken)
@@ -452,21 +498,29 @@ emit-kids-loop-again : (t : ℕ) → emit-kids-lts.Need-loop-again (
   kids-reads.Learnt,
   kid-reads.Asked,
   kid-reads.Learnt,
-  emit-below t,
-  emit.Post,
+  emit-part-below t,
+  emit-part.Post,
 ) (emit-kids-at t) emit-kids.Post emit-kids-Inv-loop emit-kids-μ-loop
 emit-kids-loop-again t c =
     let a = c .before .before .before .before .before .before .before .before .before .before .before .before .before .before .args in
     let p = c .before .before .before .before .before .before .before .before .before .before .before .before .before .before .pre in
-    (omega (arith, c .before .before .before .before .before .before .before .loop .inv .0), omega (arith, c .before .before .before .before .before .before .loop-test .taken), omega (arith, c .before .before .before .emit .ensures .long, c .before .before .before .before .before .before .before .loop .inv .2), omega (arith, c .if1 .left), (put-same _ _ _ _ _ _ (run-more (kid-words (lines 6 (a .s .now)) (a .u .now) (a .f .now) (a .d) (a .places) (a .y)) (a .from) (c .before .before .before .before .before .before .before .loop .i) (c .before .before .before .before .before .before .before .loop .inv .0)) (put-more _ _ (a .out .now) (a .at) (c .before .before .before .before .before .before .before .loop .r) _ (c .before .before .before .before .before .before .before .loop .out) _ (p .1 .1) (omega (arith, c .before .before .before .before .before .before .before .loop .inv .2, c .before .before .before .before .before .before .before .loop .inv .3)) (c .before .before .before .before .before .before .before .loop .inv .4) (put-same _ _ _ _ _ _ (ap (λ (i : ℕ). words (lines 6 (a .s .now)) (a .u .now) (a .f .now) (a .d) (a .places) i) (c .before .before .before .before .before .kid .ensures)) (c .before .before .before .emit .ensures)))))
+    let l = c .before .before .before .before .before .before .before .loop in
+    let e = c .before .before .before .emit-part in (
+      omega (arith, l .inv .0),
+      omega (arith, c .before .before .before .before .before .before .loop-test .taken),
+      omega (arith, e .ensures .long, l .inv .2),
+      omega (arith, c .if1 .left),
+      put-same _ _ _ _ _ _ (run-more (kid-words (lines 6 (a .s .now)) (a .u .now) (a .f .now) (a .d) (a .places) (a .y)) (a .from) (l .i) (l .inv .0)) (put-more _ _ (a .out .now) (a .at) (l .r) _ (l .out) _ (p .1 .1) (omega (arith, l .inv .2, l .inv .3)) (l .inv .4) (put-same _ _ _ _ _ _ (ap (words (lines 6 (a .s .now)) (a .u .now) (a .f .now) (a .d) (a .places)) (c .before .before .before .before .before .kid .ensures)) (c .before .before .before .emit-part .ensures))),
+      λ q. stands-put (words (lines 6 (a .s .now)) (a .u .now) (a .f .now) (a .d) (a .places) (c .before .before .before .before .before .kid .result)) (l .out) (l .r) (e .result) _ (l .inv .3) (omega (arith, c .if1 .left, e .ensures .long)) (e .ensures),
+    )
 
 emit-kids-same-length-2 : (t : ℕ) → emit-kids-lts.Need-same-length-2 (
   kids-reads.Asked,
   kids-reads.Learnt,
   kid-reads.Asked,
   kid-reads.Learnt,
-  emit-below t,
-  emit.Post,
+  emit-part-below t,
+  emit-part.Post,
 ) (emit-kids-at t) emit-kids.Post emit-kids-Inv-loop emit-kids-μ-loop
 emit-kids-same-length-2 t c =
     c .before .loop .inv .2
@@ -476,8 +530,8 @@ emit-kids-returns-2 : (t : ℕ) → emit-kids-lts.Need-returns-2 (
   kids-reads.Learnt,
   kid-reads.Asked,
   kid-reads.Learnt,
-  emit-below t,
-  emit.Post,
+  emit-part-below t,
+  emit-part.Post,
 ) (emit-kids-at t) emit-kids.Post emit-kids-Inv-loop emit-kids-μ-loop
 emit-kids-returns-2 t c =
     let a = c .before .before .before .before .before .before .before .before .args in
@@ -809,121 +863,83 @@ emit-name-returns-6 t c =
     let p = c .before .before .before .before .before .before .before .before .before .before .before .before .before .before .before .before .before .before .before .before .before .before .pre in
     put-surplus (a .s .now) (p .1 .0 .0 .tabled .passed) (a .u .now) (a .f .now) (a .d) (a .places) (a .y) (p .1 .0 .0 .type) (a .out .now) (a .at) (p .1 .0 .1) (p .1 .1) (c .before .before .before .before .before .before .before .before .before .before .before .before .before .before .before .before .type-number .result) (c .before .before .before .before .before .before .before .before .before .before .before .before .before .before .before .decl-of .result) (c .before .before .before .before .before .before .before .before .before .before .before .before .before .before .state .result) (c .before .before .before .before .before .before .before .before .before .before .before .before .before .before .before .before .type-number .ensures) (c .before .before .before .before .before .before .before .before .before .before .before .before .before .before .before .decl-of .ensures) (c .before .before .before .before .before .before .before .before .before .before .before .before .before .before .state .ensures) (λ e. c .before .before .before .before .before .before .before .before .before .before .before .before .before .if1 .left e) (omega (arith, c .before .before .before .before .before .before .before .before .before .before .before .before .if2 .left)) (c .before .before .before .before .before .before .params .result) (c .before .before .before .before .before .before .before .before .before .before .emit-form .result) _ _ _ (c .before .before .before .before .before .before .params .ensures) (omega (arith, c .before .before .before .before .before .before .before .if4 .left, c .before .before .before .before .before .before .before .before .before .before .emit-form .ensures .long)) (c .before .before .before .before .before .before .before .before .before .before .emit-form .ensures) (c .before .before .emit-surplus .ensures)
 
-emit-node-returns : (t : ℕ) → emit-node-lts.Need-returns (
-  kind-reads.Asked,
-  kind-reads.Learnt,
-  count-reads.Asked,
-  count-reads.Learnt,
-  own-reads.Asked,
-  own-reads.Learnt,
-  pack-reads.Asked,
-  pack-reads.Learnt,
+emit-node-emit-part-requires : (t : ℕ) → emit-node-lts.Need-emit-part-requires (
+  emit-part-below t,
+  emit-part.Post,
+  left-word-reads.Asked,
+  left-word-reads.Learnt,
   put-reads.Asked,
   put-reads.Learnt,
-  kids-reads.Asked,
-  kids-reads.Learnt,
-  kid-reads.Asked,
-  kid-reads.Learnt,
-  emit-below t,
-  emit.Post,
+) (emit-node-at t) emit-node.Post
+emit-node-emit-part-requires t c κs =
+    let a = c .before .before .before .before .before .before .before .args in
+    let p = c .before .before .before .before .before .before .before .pre in
+    let h = p .1 .0 .2 .given (c .before .if1 .taken) in
+    let q = asked-kid (a .s .now) (a .t .now) (a .u .now) (a .f .now) (a .y) (a .d) _ (a .p) (p .1 .0 .0) (h .1) (h .2) in
+    (omega (arith, p .0, q .0), ((q .1, p .1 .0 .1), stands-at (words (lines 6 (a .s .now)) (a .u .now) (a .f .now) (a .d) (a .places)) (a .out .now) (a .from) (a .end) (a .at) (a .last) (a .p) (a .y) (q .0) (p .1 .1)))
+
+emit-node-returns : (t : ℕ) → emit-node-lts.Need-returns (
+  emit-part-below t,
+  emit-part.Post,
+  left-word-reads.Asked,
+  left-word-reads.Learnt,
+  put-reads.Asked,
+  put-reads.Learnt,
 ) (emit-node-at t) emit-node.Post
 emit-node-returns t c =
-    let a = c .before .before .before .before .before .before .before .before .before .before .before .before .before .before .args in
-    let p = c .before .before .before .before .before .before .before .before .before .before .before .before .before .before .pre in
-    put-same _ _ _ _ _ _ (step-other (kid-words (lines 6 (a .s .now)) (a .u .now) (a .f .now) (a .d) (a .places) (a .y)) (kids-of (lines 6 (a .s .now)) (a .y)) (a .w) _ _ _ _ (c .before .before .before .before .before .before .before .before .kind .ensures) (c .before .before .before .before .before .count .ensures) (c .before .before .before .before .own .ensures) (c .before .before .before .before .before .before .before .if1 .taken) (c .before .before .before .pack .ensures)) (c .before .before .put .ensures)
-
-emit-node-returns-2 : (t : ℕ) → emit-node-lts.Need-returns-2 (
-  kind-reads.Asked,
-  kind-reads.Learnt,
-  count-reads.Asked,
-  count-reads.Learnt,
-  own-reads.Asked,
-  own-reads.Learnt,
-  pack-reads.Asked,
-  pack-reads.Learnt,
-  put-reads.Asked,
-  put-reads.Learnt,
-  kids-reads.Asked,
-  kids-reads.Learnt,
-  kid-reads.Asked,
-  kid-reads.Learnt,
-  emit-below t,
-  emit.Post,
-) (emit-node-at t) emit-node.Post
-emit-node-returns-2 t c =
-    let a = c .before .before .before .before .before .before .before .before .before .before .before .before .before .before .before .args in
-    let p = c .before .before .before .before .before .before .before .before .before .before .before .before .before .before .before .pre in
-    put-same _ _ _ _ _ _ (step-past (kid-words (lines 6 (a .s .now)) (a .u .now) (a .f .now) (a .d) (a .places) (a .y)) (kids-of (lines 6 (a .s .now)) (a .y)) (a .w) _ _ _ (c .before .before .before .before .before .before .before .before .before .kind .ensures) (c .before .before .before .before .before .before .before .own2 .ensures) (c .before .before .before .before .before .before .before .before .if1 .left) (omega (arith, c .before .before .before .before .before .if2 .taken, c .before .before .before .before .before .before .kids .ensures)) (c .before .before .before .pack2 .ensures)) (c .before .before .put2 .ensures)
-
-emit-node-kid-requires : (t : ℕ) → emit-node-lts.Need-kid-requires (
-  kind-reads.Asked,
-  kind-reads.Learnt,
-  count-reads.Asked,
-  count-reads.Learnt,
-  own-reads.Asked,
-  own-reads.Learnt,
-  pack-reads.Asked,
-  pack-reads.Learnt,
-  put-reads.Asked,
-  put-reads.Learnt,
-  kids-reads.Asked,
-  kids-reads.Learnt,
-  kid-reads.Asked,
-  kid-reads.Learnt,
-  emit-below t,
-  emit.Post,
-) (emit-node-at t) emit-node.Post
-emit-node-kid-requires t c κs =
     let a = c .before .before .before .before .before .before .before .before .before .before .args in
     let p = c .before .before .before .before .before .before .before .before .before .before .pre in
-    (p .1 .0 .tabled, (p .1 .0 .type, omega (arith, c .if2 .left, c .before .kids .ensures)))
+    put-same _ _ _ _ _ _ (step-given (lines 6 (a .s .now)) (a .u .now) (a .f .now) (a .d) (a .places) (a .y) (a .w) (a .p) (p .1 .0 .2) (c .before .before .before .before .if1 .taken)) (c .before .before .emit-part .ensures)
 
-emit-node-emit-requires : (t : ℕ) → emit-node-lts.Need-emit-requires (
-  kind-reads.Asked,
-  kind-reads.Learnt,
-  count-reads.Asked,
-  count-reads.Learnt,
-  own-reads.Asked,
-  own-reads.Learnt,
-  pack-reads.Asked,
-  pack-reads.Learnt,
+emit-node-returns-2 : (t : ℕ) → emit-node-lts.Need-returns-2 (
+  emit-part-below t,
+  emit-part.Post,
+  left-word-reads.Asked,
+  left-word-reads.Learnt,
   put-reads.Asked,
   put-reads.Learnt,
-  kids-reads.Asked,
-  kids-reads.Learnt,
-  kid-reads.Asked,
-  kid-reads.Learnt,
-  emit-below t,
-  emit.Post,
 ) (emit-node-at t) emit-node.Post
-emit-node-emit-requires t c κs =
-    let a = c .before .before .before .before .before .before .before .before .before .before .before .before .args in
-    let p = c .before .before .before .before .before .before .before .before .before .before .before .before .pre in
-    let q = asked-kid (a .s .now) (a .t .now) (a .u .now) (a .f .now) (a .y) (a .d) (c .before .before .before .before .own2 .result) (c .before .kid .result) (p .1 .0) (omega (arith, c .before .before .if2 .left, c .before .before .before .kids .ensures)) (c .before .kid .ensures) in
-    (omega (arith, p .0, q .0), (q .1, p .1 .1))
+emit-node-returns-2 t c =
+    let a = c .before .before .before .before .before .before .before .before .before .before .before .args in
+    let p = c .before .before .before .before .before .before .before .before .before .before .before .pre in
+    put-same _ _ _ _ _ _ (ap (λ (x : ℕ). x ∷ []) (c .before .before .before .left-word .ensures) ∙ step-left (lines 6 (a .s .now)) (a .u .now) (a .f .now) (a .d) (a .places) (a .y) (a .w) (a .p) (p .1 .0 .2) (c .before .before .before .before .before .if1 .left)) (c .before .before .put .ensures)
 
-emit-node-returns-3 : (t : ℕ) → emit-node-lts.Need-returns-3 (
-  kind-reads.Asked,
-  kind-reads.Learnt,
-  count-reads.Asked,
-  count-reads.Learnt,
-  own-reads.Asked,
-  own-reads.Learnt,
-  pack-reads.Asked,
-  pack-reads.Learnt,
-  put-reads.Asked,
-  put-reads.Learnt,
-  kids-reads.Asked,
-  kids-reads.Learnt,
-  kid-reads.Asked,
-  kid-reads.Learnt,
+emit-part-again-requires : (t : ℕ) → emit-part-lts.Need-again-requires (
+  again-reads.Asked,
+  again-reads.Learnt,
   emit-below t,
   emit.Post,
-) (emit-node-at t) emit-node.Post
-emit-node-returns-3 t c =
-    let a = c .before .before .before .before .before .before .before .before .before .before .before .before .before .before .before .args in
-    let p = c .before .before .before .before .before .before .before .before .before .before .before .before .before .before .before .pre in
-    put-same _ _ _ _ _ _ (ap (λ (i : ℕ). words (lines 6 (a .s .now)) (a .u .now) (a .f .now) (a .d) (a .places) i) (c .before .before .before .before .kid .ensures) ∙ step-arg (kid-words (lines 6 (a .s .now)) (a .u .now) (a .f .now) (a .d) (a .places) (a .y)) (kids-of (lines 6 (a .s .now)) (a .y)) (a .w) _ _ (c .before .before .before .before .before .before .before .before .before .kind .ensures) (c .before .before .before .before .before .before .before .own2 .ensures) (c .before .before .before .before .before .before .before .before .if1 .left) (omega (arith, c .before .before .before .before .before .if2 .left, c .before .before .before .before .before .before .kids .ensures))) (c .before .before .emit .ensures)
+) (emit-part-at t) emit-part.Post
+emit-part-again-requires t c κs =
+    let p = c .before .before .before .before .before .before .before .pre in
+    let z = p .1 .1 (c .before .if1 .taken) in (z .order, z .before, p .1 .0 .1)
+
+emit-part-returns : (t : ℕ) → emit-part-lts.Need-returns (
+  again-reads.Asked,
+  again-reads.Learnt,
+  emit-below t,
+  emit.Post,
+) (emit-part-at t) emit-part.Post
+emit-part-returns t c =
+    put-stands _ _ _ _ _ _ _ (c .before .before .before .before .before .before .before .before .before .before .pre .1 .1 (c .before .before .before .before .if1 .taken)) (c .before .before .again .ensures)
+
+emit-part-emit-requires : (t : ℕ) → emit-part-lts.Need-emit-requires (
+  again-reads.Asked,
+  again-reads.Learnt,
+  emit-below t,
+  emit.Post,
+) (emit-part-at t) emit-part.Post
+emit-part-emit-requires t c κs =
+    let p = c .before .before .before .before .before .before .before .pre in (omega (arith, p .0), p .1 .0)
+
+emit-part-returns-2 : (t : ℕ) → emit-part-lts.Need-returns-2 (
+  again-reads.Asked,
+  again-reads.Learnt,
+  emit-below t,
+  emit.Post,
+) (emit-part-at t) emit-part.Post
+emit-part-returns-2 t c =
+    c .before .before .emit .ensures
 
 emit-surplus-returns : (t : ℕ) → emit-surplus-lts.Need-returns (
   kind-reads.Asked,
@@ -1072,14 +1088,16 @@ emit-surplus-returns-4 t c =
     let p = c .before .before .before .before .before .before .before .before .before .before .before .before .before .before .before .before .before .before .before .before .before .before .pre in
     surplus-put (a .out .now) (a .at) (a .r) (kids-of (lines 6 (a .s .now)) (a .y) - a .k) (run (kid-words (lines 6 (a .s .now)) (a .u .now) (a .f .now) (a .d) (a .places) (a .y)) (a .k) (kids-of (lines 6 (a .s .now)) (a .y) - a .k)) (below (a .at) (a .r) (p .1 .0 .1) (c .before .before .before .before .before .before .before .before .before .before .before .before .before .before .before .before .if1 .left)) (p .1 .0 .2) _ _ _ _ _ (sym (c .before .before .before .before .before .before .before .before .before .before .before .before .before .before .kind .ensures) ∙ c .before .before .before .before .before .before .before .before .before .before .before .before .before .if2 .left) (omega (arith, c .before .before .before .before .before .before .before .if3 .left, c .before .before .before .before .before .before .before .before .before .before .emit-kids .ensures .long)) (c .before .before .before .pack .ensures ∙ grown-word _ _ _ _ _ _ (c .before .before .before .before .before .count .ensures) (c .before .before .before .before .own .ensures) (ap (λ (i : ℕ). i - a .k) (c .before .before .before .before .before .before .before .before .before .before .before .before .kids .ensures))) (c .before .before .before .before .before .before .before .before .before .before .emit-kids .ensures) (c .before .before .put .ensures)
 
-pub +emit+emit-form+emit-kids+emit-name+emit-node+emit-surplus-spec : {M : Type 1} → statement M
-+emit+emit-form+emit-kids+emit-name+emit-node+emit-surplus-spec =
+pub +emit+emit-form+emit-kids+emit-name+emit-node+emit-part+emit-surplus-spec :
+    {M : Type 1} → statement M
++emit+emit-form+emit-kids+emit-name+emit-node+emit-part+emit-surplus-spec =
     close
     μ-emit
     μ-emit-form
     μ-emit-kids
     μ-emit-name
     μ-emit-node
+    μ-emit-part
     μ-emit-surplus
     (λ t. emit-lts.spec (
       type-number-reads.Asked,
@@ -1113,8 +1131,12 @@ pub +emit+emit-form+emit-kids+emit-name+emit-node+emit-surplus-spec : {M : Type 
     (λ c κs. search needs)
     (λ c. search needs)
     (emit-returns-4 t))
-    (λ t. emit-form-lts.spec
-    (emit-node-below t, emit-node.Post)
+    (λ t. emit-form-lts.spec (
+      argument-line-reads.Asked,
+      argument-line-reads.Learnt,
+      emit-node-below t,
+      emit-node.Post,
+    )
     (emit-form-at t)
     emit-form.Post
     emit-form-Inv-loop
@@ -1127,9 +1149,10 @@ pub +emit+emit-form+emit-kids+emit-name+emit-node+emit-surplus-spec : {M : Type 
     (λ c. search needs)
     (λ c. search needs)
     (emit-form-loop-holds t)
-    (emit-form-add-emit-node t)
-    (emit-form-mul-emit-node t)
-    (emit-form-shared-slice-read-emit-node t)
+    (emit-form-add-w t)
+    (emit-form-mul-w t)
+    (emit-form-shared-slice-read-w t)
+    (emit-form-argument-line-requires t)
     (emit-form-emit-node-requires t)
     (emit-form-same-length t)
     (emit-form-returns t)
@@ -1143,8 +1166,8 @@ pub +emit+emit-form+emit-kids+emit-name+emit-node+emit-surplus-spec : {M : Type 
       kids-reads.Learnt,
       kid-reads.Asked,
       kid-reads.Learnt,
-      emit-below t,
-      emit.Post,
+      emit-part-below t,
+      emit-part.Post,
     )
     (emit-kids-at t)
     emit-kids.Post
@@ -1153,7 +1176,7 @@ pub +emit+emit-form+emit-kids+emit-name+emit-node+emit-surplus-spec : {M : Type 
     (λ c κs. search needs)
     (emit-kids-loop-holds t)
     (emit-kids-kid-requires t)
-    (emit-kids-emit-requires t)
+    (emit-kids-emit-part-requires t)
     (emit-kids-same-length t)
     (emit-kids-returns t)
     (emit-kids-add-i t)
@@ -1213,43 +1236,32 @@ pub +emit+emit-form+emit-kids+emit-name+emit-node+emit-surplus-spec : {M : Type 
     (λ c. search needs)
     (emit-name-returns-6 t))
     (λ t. emit-node-lts.spec (
-      kind-reads.Asked,
-      kind-reads.Learnt,
-      count-reads.Asked,
-      count-reads.Learnt,
-      own-reads.Asked,
-      own-reads.Learnt,
-      pack-reads.Asked,
-      pack-reads.Learnt,
+      emit-part-below t,
+      emit-part.Post,
+      left-word-reads.Asked,
+      left-word-reads.Learnt,
       put-reads.Asked,
       put-reads.Learnt,
-      kids-reads.Asked,
-      kids-reads.Learnt,
-      kid-reads.Asked,
-      kid-reads.Learnt,
-      emit-below t,
-      emit.Post,
     )
     (emit-node-at t)
     emit-node.Post
-    (λ c κs. search needs)
-    (λ c κs. search needs)
-    (λ c κs. search needs)
-    (λ c κs. search needs)
-    (λ c κs. search needs)
+    (emit-node-emit-part-requires t)
     (λ c. search needs)
     (emit-node-returns t)
     (λ c κs. search needs)
-    (λ c. search needs)
-    (λ c κs. search needs)
-    (λ c κs. search needs)
     (λ c κs. search needs)
     (λ c. search needs)
-    (emit-node-returns-2 t)
-    (emit-node-kid-requires t)
-    (emit-node-emit-requires t)
+    (emit-node-returns-2 t))
+    (λ t. emit-part-lts.spec
+    (again-reads.Asked, again-reads.Learnt, emit-below t, emit.Post)
+    (emit-part-at t)
+    emit-part.Post
+    (emit-part-again-requires t)
     (λ c. search needs)
-    (emit-node-returns-3 t))
+    (emit-part-returns t)
+    (emit-part-emit-requires t)
+    (λ c. search needs)
+    (emit-part-returns-2 t))
     λ t. emit-surplus-lts.spec (
       kind-reads.Asked,
       kind-reads.Learnt,
