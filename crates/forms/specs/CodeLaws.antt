@@ -9,12 +9,12 @@ use native.Mathlib.Numerals.{add-one}
 use lib.Dec.{eqb, ltb}
 use lib.ListN.{length, getD, take, drop, length-append, length-take, length-drop, take-append-drop, List·getD-eq-default}
 use lib.Seq.{take-suc, take-append-add, drop-drop, getD-take, getD-drop, take-at, take-all, drop-at, length-take-le}
-use borrow.Author.Tests.{eqb-true, eqb-false, eq-eqb, ne-eqb, ltb-true, ltb-false}
+use borrow.Author.Tests.{eqb-true, eqb-false, eq-eqb, ne-eqb, lt-leb, ltb-true, ltb-false}
 use Rattle.columns.specs.Column.{pick}
 use Rattle.sheet.specs.Line.{Line, number}
 use Rattle.sheet.specs.Sheet.{lines}
 use Rattle.model.specs.Cty.{Cty}
-use Rattle.model.specs.Decl.{member, position}
+use Rattle.model.specs.Decl.{position}
 use Rattle.meaning.specs.Program.{type-line, program}
 use Rattle.meaning.specs.Rows.{count-of}
 use Rattle.model.specs.Resolve.{Unfold, gone, newtype, abbreviation, stays}
@@ -22,13 +22,13 @@ use Rattle.refusals.specs.Rows.{Passed}
 use Rattle.kids.specs.Nodes.{y-line, kind-of, type-of, kids-of, kid-of}
 use Rattle.arguments.specs.Params.{params-of}
 use Rattle.normal.specs.Nodes.{Node, node}
-use Rattle.normal.specs.Forms.{variable}
 use Rattle.nodes.specs.Words.{word, node-of}
-use Rattle.node_words.specs.Own.{y-node, label}
+use Rattle.node_words.specs.Own.{y-node}
 use Rattle.node_words.specs.Put.{Put, put-none, put-more, put-stop}
 use Rattle.copies.specs.Stands.{stands-put}
 use Rattle.states.specs.States.{unfold-at, lay-of}
 use Rattle.forms.specs.Emit.{run, step, filled, grown, form-words, words, kid-words, Asked}
+use Rattle.forms.specs.Filling.{leaf, leaf-var, leaf-own}
 use Rattle.model_laws.specs.Names.{position-le}
 use Rattle.meaning.specs.Laws.Program.{length-program}
 use Rattle.arguments.specs.ParamsLaws.{decls-few}
@@ -274,10 +274,27 @@ module _ (b : List ℕ) (passed : Passed b) (u f : List ℕ) (d : ℕ) (places :
   kids-all : kids ≡ run g 0 (kids-of ls y)
   kids-all = let e : kids-of ls y - 0 ≡ kids-of ls y = omega arith in rw e
 
-  pub put-var : (v w r : ℕ) (res : List ℕ) → kind-of ls y ≡ 3 → v ≡ number (y-line ls y) 1 → w ≡ word (variable (member v (params-of ls d)) (label places (params-of ls d) v)) → Put (w ∷ []) out at r res → Put W out at r res
-  put-var v w r res k ev ew x =
-      put-same (w ∷ []) W out at r res
-      (ap (λ (z : ℕ). z ∷ []) (ew ∙ ap (λ (n : ℕ). word (variable (member n (params-of ls d)) (label places (params-of ls d) n))) ev) ∙ sym (words-var b passed u f d places y h k)) x
+  -- without parts
+  no-kids : kind-of ls y < 7 → kids-of ls y ≡ 0
+  unfolding kids-of
+  no-kids k =
+      rw (ne-eqb (kind-of ls y) 7 (λ e. omega arith), ne-eqb (kind-of ls y) 8 (λ e. omega arith), ne-eqb (kind-of ls y) 9 (λ e. omega arith), lt-leb 10 (kind-of ls y) (omega arith))
+
+  leaf-words : kind-of ls y < 7 → leaf ls d places y ∷ [] ≡ W
+  unfolding run
+  leaf-words k = go (eqb (kind-of ls y) 3) refl
+    where
+      go : (c : Bool) → eqb (kind-of ls y) 3 ≡ c → leaf ls d places y ∷ [] ≡ W
+      go true e =
+          let k3 : kind-of ls y ≡ 3 = eqb-true (kind-of ls y) 3 e in
+          ap (λ (x : ℕ). x ∷ []) (sym (leaf-var ls d places y _ _ k3 refl refl)) ∙ sym (words-var b passed u f d places y h k3)
+      go false e =
+          let n3 : kind-of ls y ≡ 3 → ⊥ = eqb-false (kind-of ls y) 3 e in
+          ap (λ (x : ℕ). x ∷ []) (sym (leaf-own ls d places y _ n3 refl))
+          ∙ sym (words-plain b passed u f d places y h n3 (λ q. omega arith) ∙ ap (λ (n : ℕ). run g 0 n ++ (word (y-node ls y) ∷ [])) (no-kids k))
+
+  pub put-leaf : (w r : ℕ) (res : List ℕ) → kind-of ls y < 7 → w ≡ leaf ls d places y → Put (w ∷ []) out at r res → Put W out at r res
+  put-leaf w r res k e x = put-same (w ∷ []) W out at r res (ap (λ (z : ℕ). z ∷ []) e ∙ leaf-words k) x
 
   module _ (n3 : kind-of ls y ≡ 3 → ⊥) (n8 : kind-of ls y ≡ 8 → ⊥) where
     pub put-plain : (w r e : ℕ) (mid res : List ℕ) → r ≤ length out → Put kids out at r mid → w ≡ word (y-node ls y) → Put (w ∷ []) mid r e res → Put W out at e res

@@ -1,4 +1,4 @@
--- A word of a normal form, and the Y line of its argument in another Y line. Assumes nothing.
+-- The word of a type without parts; a word of a normal form, and the Y line of its argument. Assumes nothing.
 use mathlib.Core.Path.{_≡_, refl, ap, ap₂, sym, _∙_}
 use mathlib.Core.List.{List, [], _∷_}
 use mathlib.Core.Bool.{Bool, true, false}
@@ -6,11 +6,23 @@ use Prim.Native.Nat.{ℕ, _≤_, _<_}
 use native.Mathlib.Omega.{arith}
 use lib.Dec.{eqb, ltb}
 use borrow.Author.Tests.{eqb-true, eq-eqb, ne-eqb, lt-ltb, le-ltb}
-use Rattle.sheet.specs.Line.{Line}
-use Rattle.kids.specs.Nodes.{kids-of, kid-of}
+use Rattle.sheet.specs.Line.{Line, number}
+use Rattle.model.specs.Decl.{member}
+use Rattle.kids.specs.Nodes.{y-line, kind-of, kids-of, kid-of}
+use Rattle.arguments.specs.Params.{params-of}
 use Rattle.normal.specs.Nodes.{node}
+use Rattle.normal.specs.Forms.{variable}
+use Rattle.node_words.specs.Own.{y-node, label}
 use Rattle.nodes.specs.Words.{word, node-of}
 use Rattle.forms.specs.Emit.{step, words, kid-words}
+
+-- a variable or a node of its own
+unfoldable pub leaf : List Line → ℕ → Bool → ℕ → ℕ
+leaf ls d places y =
+    elim (eqb (kind-of ls y) 3) [
+      | true ↦ word (variable (member (number (y-line ls y) 1) (params-of ls d)) (label places (params-of ls d) (number (y-line ls y) 1)))
+      | false ↦ word (y-node ls y)
+    ]
 
 -- p is the Y line of the argument that Y line y has for the word w, and y or more where w is no parameter or has no argument
 pub record Argument (ls : List Line) (y w p : ℕ) : Type 0 where
@@ -37,6 +49,18 @@ left-other w k c d v ek ec ed n e =
 pub argument-given : (ls : List Line) (y w k i n p : ℕ) → k ≡ node-of w .kind → k ≡ 3 → i ≡ node-of w .own → n ≡ kids-of ls y → i < n → p ≡ kid-of ls y i → p < y → Argument ls y w p
 argument-given ls y w k i n p ek k3 ei en h ep l =
     record { given = λ q. (sym ek ∙ k3, omega (arith, ei, en), ep ∙ ap (kid-of ls y) ei); none = λ q. absurd (omega arith) }
+
+-- by the numbers that are read
+pub leaf-var : (ls : List Line) (d : ℕ) (places : Bool) (y v w : ℕ) → kind-of ls y ≡ 3 → v ≡ number (y-line ls y) 1 → w ≡ word (variable (member v (params-of ls d)) (label places (params-of ls d) v)) → w ≡ leaf ls d places y
+unfolding leaf
+leaf-var ls d places y v w k ev ew =
+    ew ∙ (ap (λ (i : ℕ). word (variable (member i (params-of ls d)) (label places (params-of ls d) i))) ev
+    ∙ sym (ap (λ (b : Bool). elim b [ true ↦ word (variable (member (number (y-line ls y) 1) (params-of ls d)) (label places (params-of ls d) (number (y-line ls y) 1))) | false ↦ word (y-node ls y) ]) (eq-eqb (kind-of ls y) 3 k)))
+
+pub leaf-own : (ls : List Line) (d : ℕ) (places : Bool) (y w : ℕ) → (kind-of ls y ≡ 3 → ⊥) → w ≡ word (y-node ls y) → w ≡ leaf ls d places y
+unfolding leaf
+leaf-own ls d places y w k ew =
+    ew ∙ sym (ap (λ (b : Bool). elim b [ true ↦ word (variable (member (number (y-line ls y) 1) (params-of ls d)) (label places (params-of ls d) (number (y-line ls y) 1))) | false ↦ word (y-node ls y) ]) (ne-eqb (kind-of ls y) 3 k))
 
 module _ (ls : List Line) (u f : List ℕ) (d : ℕ) (places : Bool) (y w p : ℕ) (a : Argument ls y w p) where
   abbrev g : ℕ → List ℕ

@@ -11,7 +11,7 @@ ghost use Rattle.kids.specs.Nodes.{kids-of, kind-of};
 ghost use Rattle.node_words.specs.Put.{Put};
 ghost use Rattle.copies.specs.Stands.{Stands};
 ghost use Rattle.forms.specs.Emit.{run, step, filled, grown, form-words, words, kid-words, Asked};
-ghost use Rattle.forms.specs.Filling.{Argument, left};
+ghost use Rattle.forms.specs.Filling.{leaf, Argument, left};
 use copies::again;
 use kids::kid;
 use kids::kids;
@@ -40,10 +40,43 @@ pub fn emit(
     ensures { λ r. ⌜ Put (words (lines 6 (now (s .entry))) (now (u .entry)) (now (f .entry)) d places y) (now (out .entry)) at r (now (out .exit)) ⌝ }
 {
     let k = tables::type_number(s, t, y, 0);
+    if k < 7 {
+        return put(out, at, leaf_word(s, t, y, d, places));
+    }
+    emit_tree(s, t, u, f, y, d, places, out, at)
+}
+
+// The word of a type that has no parts.
+fn leaf_word(s: &[u8], t: &[u32], y: usize, d: usize, places: bool) -> u64
+    requires { ⌜ tables.Tabled (now s) (now t) ⌝ }
+    requires { ⌜ (y < count-of type-line (lines 6 (now s))) × (d < tables.decls-of (lines 6 (now s))) ⌝ }
+    ensures { λ r. ⌜ r ≡ leaf (lines 6 (now (s .entry))) d places y ⌝ }
+{
+    let k = tables::type_number(s, t, y, 0);
     if k == 3 {
         let v = tables::type_number(s, t, y, 1);
-        return put(out, at, variable_word(s, t, d, places, v));
+        return variable_word(s, t, d, places, v);
     }
+    own_word(s, t, y)
+}
+
+// A type that may have parts.
+fn emit_tree(
+    s: &[u8],
+    t: &[u32],
+    u: &[u16],
+    f: &[u64],
+    y: usize,
+    d: usize,
+    places: bool,
+    out: &mut [u64],
+    at: usize,
+) -> usize
+    requires { ⌜ Asked (now s) (now t) (now u) (now f) y d × (at ≤ length (now out)) ⌝ }
+    requires { ⌜ 7 ≤ kind-of (lines 6 (now s)) y ⌝ }
+    ensures { λ r. ⌜ Put (words (lines 6 (now (s .entry))) (now (u .entry)) (now (f .entry)) d places y) (now (out .entry)) at r (now (out .exit)) ⌝ }
+{
+    let k = tables::type_number(s, t, y, 0);
     if k == 8 {
         return emit_name(s, t, u, f, y, d, places, out, at);
     }
@@ -243,7 +276,11 @@ fn emit_part(
     if last == y {
         return again(out, from, end, at);
     }
-    emit(s, t, u, f, y, d, places, out, at)
+    let k = tables::type_number(s, t, y, 0);
+    if k < 7 {
+        return put(out, at, leaf_word(s, t, y, d, places));
+    }
+    emit_tree(s, t, u, f, y, d, places, out, at)
 }
 
 // The parts from part `from` on.

@@ -1,4 +1,4 @@
--- `forms::emit` and the functions that it calls in turn meet their contracts: each puts what its callees put, and the Y line falls.
+-- `forms::emit_tree` and the functions that it calls in turn meet their contracts: each puts what its callees put, and the Y line falls.
 -- Assumes nothing.
 use Prim.Native.Nat.{ℕ, _+_, _-_, _*_, _≤_, _<_}
 use mathlib.Core.Logic.{⊎-elim}
@@ -22,7 +22,7 @@ use Rattle.forms.specs.CodeLaws.{
   filled-more,
   filled-all,
   filled-stop,
-  put-var,
+  put-leaf,
   put-plain,
   stop-plain,
   put-gone,
@@ -46,28 +46,29 @@ use Rattle.forms.specs.CodeLaws.{
 use Rattle.forms.specs.Emit.{run, filled, words, kid-words}
 use borrow.Fn.Kinds.{In}
 use borrow.Fn.PlainCycle.{Measures, is, falls, and}
-use Rattle.forms.proofs.emit.Reads as emit
-use Rattle.forms.proofs.emit.Kinds as emit-kinds
-use Rattle.forms.proofs.+emit+emit_form+emit_kids+emit_name+emit_node+emit_part+emit_surplus.Lts-emit as emit-lts
 use Rattle.forms.proofs.emit_form.Reads as emit-form
 use Rattle.forms.proofs.emit_form.Kinds as emit-form-kinds
-use Rattle.forms.proofs.+emit+emit_form+emit_kids+emit_name+emit_node+emit_part+emit_surplus.Lts-emit_form as emit-form-lts
+use Rattle.forms.proofs.+emit_form+emit_kids+emit_name+emit_node+emit_part+emit_surplus+emit_tree.Lts-emit_form as emit-form-lts
 use Rattle.forms.proofs.emit_kids.Reads as emit-kids
 use Rattle.forms.proofs.emit_kids.Kinds as emit-kids-kinds
-use Rattle.forms.proofs.+emit+emit_form+emit_kids+emit_name+emit_node+emit_part+emit_surplus.Lts-emit_kids as emit-kids-lts
+use Rattle.forms.proofs.+emit_form+emit_kids+emit_name+emit_node+emit_part+emit_surplus+emit_tree.Lts-emit_kids as emit-kids-lts
 use Rattle.forms.proofs.emit_name.Reads as emit-name
 use Rattle.forms.proofs.emit_name.Kinds as emit-name-kinds
-use Rattle.forms.proofs.+emit+emit_form+emit_kids+emit_name+emit_node+emit_part+emit_surplus.Lts-emit_name as emit-name-lts
+use Rattle.forms.proofs.+emit_form+emit_kids+emit_name+emit_node+emit_part+emit_surplus+emit_tree.Lts-emit_name as emit-name-lts
 use Rattle.forms.proofs.emit_node.Reads as emit-node
 use Rattle.forms.proofs.emit_node.Kinds as emit-node-kinds
-use Rattle.forms.proofs.+emit+emit_form+emit_kids+emit_name+emit_node+emit_part+emit_surplus.Lts-emit_node as emit-node-lts
+use Rattle.forms.proofs.+emit_form+emit_kids+emit_name+emit_node+emit_part+emit_surplus+emit_tree.Lts-emit_node as emit-node-lts
 use Rattle.forms.proofs.emit_part.Reads as emit-part
 use Rattle.forms.proofs.emit_part.Kinds as emit-part-kinds
-use Rattle.forms.proofs.+emit+emit_form+emit_kids+emit_name+emit_node+emit_part+emit_surplus.Lts-emit_part as emit-part-lts
+use Rattle.forms.proofs.+emit_form+emit_kids+emit_name+emit_node+emit_part+emit_surplus+emit_tree.Lts-emit_part as emit-part-lts
 use Rattle.forms.proofs.emit_surplus.Reads as emit-surplus
 use Rattle.forms.proofs.emit_surplus.Kinds as emit-surplus-kinds
-use Rattle.forms.proofs.+emit+emit_form+emit_kids+emit_name+emit_node+emit_part+emit_surplus.Lts-emit_surplus as emit-surplus-lts
+use Rattle.forms.proofs.+emit_form+emit_kids+emit_name+emit_node+emit_part+emit_surplus+emit_tree.Lts-emit_surplus as emit-surplus-lts
+use Rattle.forms.proofs.emit_tree.Reads as emit-tree
+use Rattle.forms.proofs.emit_tree.Kinds as emit-tree-kinds
+use Rattle.forms.proofs.+emit_form+emit_kids+emit_name+emit_node+emit_part+emit_surplus+emit_tree.Lts-emit_tree as emit-tree-lts
 use Rattle.forms.proofs.argument_line.Reads as argument-line-reads
+use Rattle.forms.proofs.leaf_word.Reads as leaf-word-reads
 use Rattle.forms.proofs.left_word.Reads as left-word-reads
 use Rattle.calls.proofs.params.Reads as params-reads
 use Rattle.copies.proofs.again.Reads as again-reads
@@ -76,22 +77,18 @@ use Rattle.kids.proofs.kids.Reads as kids-reads
 use Rattle.node_words.proofs.own_word.Reads as own-word-reads
 use Rattle.node_words.proofs.put.Reads as put-reads
 use Rattle.node_words.proofs.state.Reads as state-reads
-use Rattle.node_words.proofs.variable_word.Reads as variable-word-reads
 use Rattle.nodes.proofs.count.Reads as count-reads
 use Rattle.nodes.proofs.kind.Reads as kind-reads
 use Rattle.nodes.proofs.own.Reads as own-reads
 use Rattle.nodes.proofs.pack.Reads as pack-reads
 use Rattle.tables.proofs.decl_of.Reads as decl-of-reads
 use Rattle.tables.proofs.type_number.Reads as type-number-reads
-use Rattle.forms.proofs.+emit+emit_form+emit_kids+emit_name+emit_node+emit_part+emit_surplus.{
+use Rattle.forms.proofs.+emit_form+emit_kids+emit_name+emit_node+emit_part+emit_surplus+emit_tree.{
   statement,
 }
-use Rattle.forms.proofs.+emit+emit_form+emit_kids+emit_name+emit_node+emit_part+emit_surplus.Tie.{
+use Rattle.forms.proofs.+emit_form+emit_kids+emit_name+emit_node+emit_part+emit_surplus+emit_tree.Tie.{
   close,
 }
-
-abbrev μ-emit : Measures 5 emit-kinds.ps ℕ
-μ-emit κs a = 6 * a .1 .1 .1 .1 .0 + 4
 
 abbrev μ-emit-form : Measures 5 emit-form-kinds.ps ℕ
 μ-emit-form κs a = 6 * a .1 .1 .1 .1 .0 + 2
@@ -111,11 +108,8 @@ abbrev μ-emit-part : Measures 5 emit-part-kinds.ps ℕ
 abbrev μ-emit-surplus : Measures 5 emit-surplus-kinds.ps ℕ
 μ-emit-surplus κs a = 6 * a .1 .1 .1 .1 .0 + 2
 
-abbrev emit-at : ℕ → In 5 emit-kinds.ps
-emit-at t = and 5 emit-kinds.ps (is 5 emit-kinds.ps μ-emit t) emit.Pre
-
-abbrev emit-below : ℕ → In 5 emit-kinds.ps
-emit-below t = and 5 emit-kinds.ps (falls 5 emit-kinds.ps _<_ μ-emit t) emit.Pre
+abbrev μ-emit-tree : Measures 5 emit-tree-kinds.ps ℕ
+μ-emit-tree κs a = 6 * a .1 .1 .1 .1 .0 + 4
 
 abbrev emit-form-at : ℕ → In 5 emit-form-kinds.ps
 emit-form-at t = and 5 emit-form-kinds.ps (is 5 emit-form-kinds.ps μ-emit-form t) emit-form.Pre
@@ -164,79 +158,12 @@ emit-surplus-below t =
     (falls 5 emit-surplus-kinds.ps _<_ μ-emit-surplus t)
     emit-surplus.Pre
 
-emit-returns : (t : ℕ) → emit-lts.Need-returns (
-  type-number-reads.Asked,
-  type-number-reads.Learnt,
-  variable-word-reads.Asked,
-  variable-word-reads.Learnt,
-  put-reads.Asked,
-  put-reads.Learnt,
-  emit-name-below t,
-  emit-name.Post,
-  emit-kids-below t,
-  emit-kids.Post,
-  own-word-reads.Asked,
-  own-word-reads.Learnt,
-) (emit-at t) emit.Post
-emit-returns t c =
-    let a = c .before .before .before .before .before .before .before .before .before .before .before .before .before .args in
-    let p = c .before .before .before .before .before .before .before .before .before .before .before .before .before .pre in
-    put-var (a .s .now) (p .1 .0 .tabled .passed) (a .u .now) (a .f .now) (a .d) (a .places) (a .y) (p .1 .0 .type) (a .out .now) (a .at) (p .1 .1) _ _ _ _ (sym (c .before .before .before .before .before .before .before .type-number .ensures) ∙ c .before .before .before .before .before .before .if1 .taken) (c .before .before .before .before .before .type-number2 .ensures) (c .before .before .before .variable-word .ensures) (c .before .before .put .ensures)
+abbrev emit-tree-at : ℕ → In 5 emit-tree-kinds.ps
+emit-tree-at t = and 5 emit-tree-kinds.ps (is 5 emit-tree-kinds.ps μ-emit-tree t) emit-tree.Pre
 
-emit-returns-2 : (t : ℕ) → emit-lts.Need-returns-2 (
-  type-number-reads.Asked,
-  type-number-reads.Learnt,
-  variable-word-reads.Asked,
-  variable-word-reads.Learnt,
-  put-reads.Asked,
-  put-reads.Learnt,
-  emit-name-below t,
-  emit-name.Post,
-  emit-kids-below t,
-  emit-kids.Post,
-  own-word-reads.Asked,
-  own-word-reads.Learnt,
-) (emit-at t) emit.Post
-emit-returns-2 t c =
-    c .before .before .emit-name .ensures
-
-emit-returns-3 : (t : ℕ) → emit-lts.Need-returns-3 (
-  type-number-reads.Asked,
-  type-number-reads.Learnt,
-  variable-word-reads.Asked,
-  variable-word-reads.Learnt,
-  put-reads.Asked,
-  put-reads.Learnt,
-  emit-name-below t,
-  emit-name.Post,
-  emit-kids-below t,
-  emit-kids.Post,
-  own-word-reads.Asked,
-  own-word-reads.Learnt,
-) (emit-at t) emit.Post
-emit-returns-3 t c =
-    let a = c .before .before .before .before .before .before .before .before .before .before .before .before .before .args in
-    let p = c .before .before .before .before .before .before .before .before .before .before .before .before .before .pre in
-    stop-plain (a .s .now) (p .1 .0 .tabled .passed) (a .u .now) (a .f .now) (a .d) (a .places) (a .y) (p .1 .0 .type) (a .out .now) (a .at) (p .1 .1) (λ e. c .before .before .before .before .before .before .if1 .left (c .before .before .before .before .before .before .before .type-number .ensures ∙ e)) (λ e. c .before .before .before .before .before .if2 .left (c .before .before .before .before .before .before .before .type-number .ensures ∙ e)) _ _ (omega (arith, c .if3 .taken, c .before .before .before .emit-kids .ensures .long)) (c .before .before .before .emit-kids .ensures)
-
-emit-returns-4 : (t : ℕ) → emit-lts.Need-returns-4 (
-  type-number-reads.Asked,
-  type-number-reads.Learnt,
-  variable-word-reads.Asked,
-  variable-word-reads.Learnt,
-  put-reads.Asked,
-  put-reads.Learnt,
-  emit-name-below t,
-  emit-name.Post,
-  emit-kids-below t,
-  emit-kids.Post,
-  own-word-reads.Asked,
-  own-word-reads.Learnt,
-) (emit-at t) emit.Post
-emit-returns-4 t c =
-    let a = c .before .before .before .before .before .before .before .before .before .before .before .before .before .before .before .before .before .before .args in
-    let p = c .before .before .before .before .before .before .before .before .before .before .before .before .before .before .before .before .before .before .pre in
-    put-plain (a .s .now) (p .1 .0 .tabled .passed) (a .u .now) (a .f .now) (a .d) (a .places) (a .y) (p .1 .0 .type) (a .out .now) (a .at) (p .1 .1) (λ e. c .before .before .before .before .before .before .before .before .before .before .before .if1 .left (c .before .before .before .before .before .before .before .before .before .before .before .before .type-number .ensures ∙ e)) (λ e. c .before .before .before .before .before .before .before .before .before .before .if2 .left (c .before .before .before .before .before .before .before .before .before .before .before .before .type-number .ensures ∙ e)) _ _ _ _ _ (omega (arith, c .before .before .before .before .before .if3 .left, c .before .before .before .before .before .before .before .before .emit-kids .ensures .long)) (c .before .before .before .before .before .before .before .before .emit-kids .ensures) (c .before .before .before .own-word .ensures) (c .before .before .put2 .ensures)
+abbrev emit-tree-below : ℕ → In 5 emit-tree-kinds.ps
+emit-tree-below t =
+    and 5 emit-tree-kinds.ps (falls 5 emit-tree-kinds.ps _<_ μ-emit-tree t) emit-tree.Pre
 
 abbrev emit-form-Inv-loop : emit-form-lts.InvT-loop
 emit-form-Inv-loop s t u f y d places m out₀ at start n last₀ from₀ end₀ r₀ i₀ out last from end r i =
@@ -907,8 +834,14 @@ emit-node-returns-2 t c =
 emit-part-again-requires : (t : ℕ) → emit-part-lts.Need-again-requires (
   again-reads.Asked,
   again-reads.Learnt,
-  emit-below t,
-  emit.Post,
+  type-number-reads.Asked,
+  type-number-reads.Learnt,
+  leaf-word-reads.Asked,
+  leaf-word-reads.Learnt,
+  put-reads.Asked,
+  put-reads.Learnt,
+  emit-tree-below t,
+  emit-tree.Post,
 ) (emit-part-at t) emit-part.Post
 emit-part-again-requires t c κs =
     let p = c .before .before .before .before .before .before .before .pre in
@@ -917,29 +850,64 @@ emit-part-again-requires t c κs =
 emit-part-returns : (t : ℕ) → emit-part-lts.Need-returns (
   again-reads.Asked,
   again-reads.Learnt,
-  emit-below t,
-  emit.Post,
+  type-number-reads.Asked,
+  type-number-reads.Learnt,
+  leaf-word-reads.Asked,
+  leaf-word-reads.Learnt,
+  put-reads.Asked,
+  put-reads.Learnt,
+  emit-tree-below t,
+  emit-tree.Post,
 ) (emit-part-at t) emit-part.Post
 emit-part-returns t c =
     put-stands _ _ _ _ _ _ _ (c .before .before .before .before .before .before .before .before .before .before .pre .1 .1 (c .before .before .before .before .if1 .taken)) (c .before .before .again .ensures)
 
-emit-part-emit-requires : (t : ℕ) → emit-part-lts.Need-emit-requires (
-  again-reads.Asked,
-  again-reads.Learnt,
-  emit-below t,
-  emit.Post,
-) (emit-part-at t) emit-part.Post
-emit-part-emit-requires t c κs =
-    let p = c .before .before .before .before .before .before .before .pre in (omega (arith, p .0), p .1 .0)
-
 emit-part-returns-2 : (t : ℕ) → emit-part-lts.Need-returns-2 (
   again-reads.Asked,
   again-reads.Learnt,
-  emit-below t,
-  emit.Post,
+  type-number-reads.Asked,
+  type-number-reads.Learnt,
+  leaf-word-reads.Asked,
+  leaf-word-reads.Learnt,
+  put-reads.Asked,
+  put-reads.Learnt,
+  emit-tree-below t,
+  emit-tree.Post,
 ) (emit-part-at t) emit-part.Post
 emit-part-returns-2 t c =
-    c .before .before .emit .ensures
+    let a = c .before .before .before .before .before .before .before .before .before .before .before .before .before .args in
+    let p = c .before .before .before .before .before .before .before .before .before .before .before .before .before .pre in
+    put-leaf (a .s .now) (p .1 .0 .0 .tabled .passed) (a .u .now) (a .f .now) (a .d) (a .places) (a .y) (p .1 .0 .0 .type) (a .out .now) (a .at) (p .1 .0 .1) _ _ _ (omega (arith, c .before .before .before .before .before .if2 .taken, c .before .before .before .before .before .before .type-number .ensures)) (c .before .before .before .leaf-word .ensures) (c .before .before .put .ensures)
+
+emit-part-emit-tree-requires : (t : ℕ) → emit-part-lts.Need-emit-tree-requires (
+  again-reads.Asked,
+  again-reads.Learnt,
+  type-number-reads.Asked,
+  type-number-reads.Learnt,
+  leaf-word-reads.Asked,
+  leaf-word-reads.Learnt,
+  put-reads.Asked,
+  put-reads.Learnt,
+  emit-tree-below t,
+  emit-tree.Post,
+) (emit-part-at t) emit-part.Post
+emit-part-emit-tree-requires t c κs =
+    let p = c .before .before .before .before .before .before .before .before .before .pre in (omega (arith, p .0), (p .1 .0, omega (arith, c .before .if2 .left, c .before .before .type-number .ensures)))
+
+emit-part-returns-3 : (t : ℕ) → emit-part-lts.Need-returns-3 (
+  again-reads.Asked,
+  again-reads.Learnt,
+  type-number-reads.Asked,
+  type-number-reads.Learnt,
+  leaf-word-reads.Asked,
+  leaf-word-reads.Learnt,
+  put-reads.Asked,
+  put-reads.Learnt,
+  emit-tree-below t,
+  emit-tree.Post,
+) (emit-part-at t) emit-part.Post
+emit-part-returns-3 t c =
+    c .before .before .emit-tree .ensures
 
 emit-surplus-returns : (t : ℕ) → emit-surplus-lts.Need-returns (
   kind-reads.Asked,
@@ -1088,49 +1056,66 @@ emit-surplus-returns-4 t c =
     let p = c .before .before .before .before .before .before .before .before .before .before .before .before .before .before .before .before .before .before .before .before .before .before .pre in
     surplus-put (a .out .now) (a .at) (a .r) (kids-of (lines 6 (a .s .now)) (a .y) - a .k) (run (kid-words (lines 6 (a .s .now)) (a .u .now) (a .f .now) (a .d) (a .places) (a .y)) (a .k) (kids-of (lines 6 (a .s .now)) (a .y) - a .k)) (below (a .at) (a .r) (p .1 .0 .1) (c .before .before .before .before .before .before .before .before .before .before .before .before .before .before .before .before .if1 .left)) (p .1 .0 .2) _ _ _ _ _ (sym (c .before .before .before .before .before .before .before .before .before .before .before .before .before .before .kind .ensures) ∙ c .before .before .before .before .before .before .before .before .before .before .before .before .before .if2 .left) (omega (arith, c .before .before .before .before .before .before .before .if3 .left, c .before .before .before .before .before .before .before .before .before .before .emit-kids .ensures .long)) (c .before .before .before .pack .ensures ∙ grown-word _ _ _ _ _ _ (c .before .before .before .before .before .count .ensures) (c .before .before .before .before .own .ensures) (ap (λ (i : ℕ). i - a .k) (c .before .before .before .before .before .before .before .before .before .before .before .before .kids .ensures))) (c .before .before .before .before .before .before .before .before .before .before .emit-kids .ensures) (c .before .before .put .ensures)
 
-pub +emit+emit-form+emit-kids+emit-name+emit-node+emit-part+emit-surplus-spec :
+emit-tree-returns : (t : ℕ) → emit-tree-lts.Need-returns (
+  type-number-reads.Asked,
+  type-number-reads.Learnt,
+  emit-name-below t,
+  emit-name.Post,
+  emit-kids-below t,
+  emit-kids.Post,
+  own-word-reads.Asked,
+  own-word-reads.Learnt,
+  put-reads.Asked,
+  put-reads.Learnt,
+) (emit-tree-at t) emit-tree.Post
+emit-tree-returns t c =
+    c .before .before .emit-name .ensures
+
+emit-tree-returns-2 : (t : ℕ) → emit-tree-lts.Need-returns-2 (
+  type-number-reads.Asked,
+  type-number-reads.Learnt,
+  emit-name-below t,
+  emit-name.Post,
+  emit-kids-below t,
+  emit-kids.Post,
+  own-word-reads.Asked,
+  own-word-reads.Learnt,
+  put-reads.Asked,
+  put-reads.Learnt,
+) (emit-tree-at t) emit-tree.Post
+emit-tree-returns-2 t c =
+    let a = c .before .before .before .before .before .before .before .before .before .before .before .before .args in
+    let p = c .before .before .before .before .before .before .before .before .before .before .before .before .pre in
+    stop-plain (a .s .now) (p .1 .0 .0 .tabled .passed) (a .u .now) (a .f .now) (a .d) (a .places) (a .y) (p .1 .0 .0 .type) (a .out .now) (a .at) (p .1 .0 .1) (λ e. omega (arith, p .1 .1)) (λ e. c .before .before .before .before .before .if1 .left (c .before .before .before .before .before .before .type-number .ensures ∙ e)) _ _ (omega (arith, c .if2 .taken, c .before .before .before .emit-kids .ensures .long)) (c .before .before .before .emit-kids .ensures)
+
+emit-tree-returns-3 : (t : ℕ) → emit-tree-lts.Need-returns-3 (
+  type-number-reads.Asked,
+  type-number-reads.Learnt,
+  emit-name-below t,
+  emit-name.Post,
+  emit-kids-below t,
+  emit-kids.Post,
+  own-word-reads.Asked,
+  own-word-reads.Learnt,
+  put-reads.Asked,
+  put-reads.Learnt,
+) (emit-tree-at t) emit-tree.Post
+emit-tree-returns-3 t c =
+    let a = c .before .before .before .before .before .before .before .before .before .before .before .before .before .before .before .before .before .args in
+    let p = c .before .before .before .before .before .before .before .before .before .before .before .before .before .before .before .before .before .pre in
+    put-plain (a .s .now) (p .1 .0 .0 .tabled .passed) (a .u .now) (a .f .now) (a .d) (a .places) (a .y) (p .1 .0 .0 .type) (a .out .now) (a .at) (p .1 .0 .1) (λ e. omega (arith, p .1 .1)) (λ e. c .before .before .before .before .before .before .before .before .before .before .if1 .left (c .before .before .before .before .before .before .before .before .before .before .before .type-number .ensures ∙ e)) _ _ _ _ _ (omega (arith, c .before .before .before .before .before .if2 .left, c .before .before .before .before .before .before .before .before .emit-kids .ensures .long)) (c .before .before .before .before .before .before .before .before .emit-kids .ensures) (c .before .before .before .own-word .ensures) (c .before .before .put .ensures)
+
+pub +emit-form+emit-kids+emit-name+emit-node+emit-part+emit-surplus+emit-tree-spec :
     {M : Type 1} → statement M
-+emit+emit-form+emit-kids+emit-name+emit-node+emit-part+emit-surplus-spec =
++emit-form+emit-kids+emit-name+emit-node+emit-part+emit-surplus+emit-tree-spec =
     close
-    μ-emit
     μ-emit-form
     μ-emit-kids
     μ-emit-name
     μ-emit-node
     μ-emit-part
     μ-emit-surplus
-    (λ t. emit-lts.spec (
-      type-number-reads.Asked,
-      type-number-reads.Learnt,
-      variable-word-reads.Asked,
-      variable-word-reads.Learnt,
-      put-reads.Asked,
-      put-reads.Learnt,
-      emit-name-below t,
-      emit-name.Post,
-      emit-kids-below t,
-      emit-kids.Post,
-      own-word-reads.Asked,
-      own-word-reads.Learnt,
-    )
-    (emit-at t)
-    emit.Post
-    (λ c κs. search needs)
-    (λ c κs. search needs)
-    (λ c κs. search needs)
-    (λ c κs. search needs)
-    (λ c. search needs)
-    (emit-returns t)
-    (λ c κs. search needs)
-    (λ c. search needs)
-    (emit-returns-2 t)
-    (λ c κs. search needs)
-    (λ c. search needs)
-    (emit-returns-3 t)
-    (λ c κs. search needs)
-    (λ c κs. search needs)
-    (λ c. search needs)
-    (emit-returns-4 t))
+    μ-emit-tree
     (λ t. emit-form-lts.spec (
       argument-line-reads.Asked,
       argument-line-reads.Learnt,
@@ -1252,17 +1237,32 @@ pub +emit+emit-form+emit-kids+emit-name+emit-node+emit-part+emit-surplus-spec :
     (λ c κs. search needs)
     (λ c. search needs)
     (emit-node-returns-2 t))
-    (λ t. emit-part-lts.spec
-    (again-reads.Asked, again-reads.Learnt, emit-below t, emit.Post)
+    (λ t. emit-part-lts.spec (
+      again-reads.Asked,
+      again-reads.Learnt,
+      type-number-reads.Asked,
+      type-number-reads.Learnt,
+      leaf-word-reads.Asked,
+      leaf-word-reads.Learnt,
+      put-reads.Asked,
+      put-reads.Learnt,
+      emit-tree-below t,
+      emit-tree.Post,
+    )
     (emit-part-at t)
     emit-part.Post
     (emit-part-again-requires t)
     (λ c. search needs)
     (emit-part-returns t)
-    (emit-part-emit-requires t)
+    (λ c κs. search needs)
+    (λ c κs. search needs)
+    (λ c κs. search needs)
     (λ c. search needs)
-    (emit-part-returns-2 t))
-    λ t. emit-surplus-lts.spec (
+    (emit-part-returns-2 t)
+    (emit-part-emit-tree-requires t)
+    (λ c. search needs)
+    (emit-part-returns-3 t))
+    (λ t. emit-surplus-lts.spec (
       kind-reads.Asked,
       kind-reads.Learnt,
       kids-reads.Asked,
@@ -1299,4 +1299,29 @@ pub +emit+emit-form+emit-kids+emit-name+emit-node+emit-part+emit-surplus-spec :
     (λ c κs. search needs)
     (λ c κs. search needs)
     (λ c. search needs)
-    (emit-surplus-returns-4 t)
+    (emit-surplus-returns-4 t))
+    λ t. emit-tree-lts.spec (
+      type-number-reads.Asked,
+      type-number-reads.Learnt,
+      emit-name-below t,
+      emit-name.Post,
+      emit-kids-below t,
+      emit-kids.Post,
+      own-word-reads.Asked,
+      own-word-reads.Learnt,
+      put-reads.Asked,
+      put-reads.Learnt,
+    )
+    (emit-tree-at t)
+    emit-tree.Post
+    (λ c κs. search needs)
+    (λ c κs. search needs)
+    (λ c. search needs)
+    (emit-tree-returns t)
+    (λ c κs. search needs)
+    (λ c. search needs)
+    (emit-tree-returns-2 t)
+    (λ c κs. search needs)
+    (λ c κs. search needs)
+    (λ c. search needs)
+    (emit-tree-returns-3 t)
