@@ -4,21 +4,21 @@ ghost use mathlib.Core.Path.{_≡_};
 ghost use Prim.Native.Nat.{_+_, _*_, _-_, _≤_, _<_};
 ghost use lib.ListN.{length, take, drop};
 ghost use Rattle.sheet.specs.Sheet.{lines};
-ghost use Rattle.meaning.specs.Program.{type-line};
-ghost use Rattle.meaning.specs.Rows.{count-of};
 ghost use Rattle.tables.specs.Tables as tables;
 ghost use Rattle.kids.specs.Nodes.{kids-of, kind-of};
 ghost use Rattle.node_words.specs.Put.{Put};
 ghost use Rattle.copies.specs.Stands.{Stands};
-ghost use Rattle.forms.specs.Emit.{run, step, filled, grown, form-words, words, kid-words, Asked};
-ghost use Rattle.forms.specs.Filling.{leaf, Argument, left};
+ghost use Rattle.form_words.specs.Emit.{run, step, filled, grown, form-words, words, kid-words, Asked};
+ghost use Rattle.form_words.specs.Filling.{Argument};
 use copies::again;
+use form_words::argument_line;
+use form_words::leaf_word;
+use form_words::left_word;
 use kids::kid;
 use kids::kids;
 use node_words::own_word;
 use node_words::put;
 use node_words::state;
-use node_words::variable_word;
 use nodes::count;
 use nodes::kind;
 use nodes::own;
@@ -44,20 +44,6 @@ pub fn emit(
         return put(out, at, leaf_word(s, t, y, d, places));
     }
     emit_tree(s, t, u, f, y, d, places, out, at)
-}
-
-// The word of a type that has no parts.
-fn leaf_word(s: &[u8], t: &[u32], y: usize, d: usize, places: bool) -> u64
-    requires { ⌜ tables.Tabled (now s) (now t) ⌝ }
-    requires { ⌜ (y < count-of type-line (lines 6 (now s))) × (d < tables.decls-of (lines 6 (now s))) ⌝ }
-    ensures { λ r. ⌜ r ≡ leaf (lines 6 (now (s .entry))) d places y ⌝ }
-{
-    let k = tables::type_number(s, t, y, 0);
-    if k == 3 {
-        let v = tables::type_number(s, t, y, 1);
-        return variable_word(s, t, d, places, v);
-    }
-    own_word(s, t, y)
 }
 
 // A type that may have parts.
@@ -197,33 +183,6 @@ fn emit_form(
         r = e;
     }
     r
-}
-
-// The Y line of the argument for a word of a normal form; y where the word is no parameter, or one without an argument.
-fn argument_line(s: &[u8], t: &[u32], y: usize, w: u64) -> usize
-    requires { ⌜ tables.Tabled (now s) (now t) ⌝ }
-    requires { ⌜ y < count-of type-line (lines 6 (now s)) ⌝ }
-    ensures { λ r. ⌜ Argument (lines 6 (now (s .entry))) y w r ⌝ }
-{
-    if kind(w) != 3 {
-        return y;
-    }
-    let i = own(w) as usize;
-    if i >= kids(s, t, y) {
-        return y;
-    }
-    kid(s, t, y, i)
-}
-
-// A word of a normal form that no argument replaces.
-fn left_word(w: u64) -> u64
-    ensures { λ r. ⌜ r ≡ left w ⌝ }
-{
-    let k = kind(w);
-    if k == 3 {
-        return pack(0, 0, 0);
-    }
-    pack(k, count(w), own(w))
 }
 
 // A word of a normal form: the argument for a parameter, of Y line p, or the word. Y line `last` stands from place `from` to place

@@ -9,7 +9,7 @@ use Rattle.arguments.specs.Params.{params-of}
 use Rattle.normal.specs.Nodes.{Node}
 use Rattle.normal.specs.Forms.{place}
 use Rattle.nodes.specs.Words.{node-of}
-use Rattle.forms.specs.Emit.{form-words}
+use Rattle.form_words.specs.Emit.{form-words}
 use Rattle.states.specs.States.{state}
 
 -- a node is the variable of place i

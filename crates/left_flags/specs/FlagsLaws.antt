@@ -62,7 +62,7 @@ use Rattle.states.specs.States.{state, body-of, unfold-at, closed, Shape}
 use Rattle.normal.specs.Nodes.{Node, node, post, posts}
 use Rattle.normal.specs.Forms.{place, renamed}
 use Rattle.nodes.specs.Words.{node-of}
-use Rattle.forms.specs.Emit.{form-words, Forms}
+use Rattle.form_words.specs.Emit.{form-words, Forms}
 use Rattle.lefts.specs.Lefts.{Ready, is-left, left-type, Flagged}
 use Rattle.lefts.specs.ReadyLaws.{accepted-all, room-verdict, room-left, listed-of, body-resolved, ready-form-nodes}
 use Rattle.left_flags.specs.Flags.{is-var, has-var, has-all, leaves}

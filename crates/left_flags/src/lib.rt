@@ -8,7 +8,7 @@ ghost use Rattle.model.specs.Decl as decls;
 ghost use Rattle.tables.specs.Tables as tables;
 ghost use Rattle.arguments.specs.Params.{params-of};
 ghost use Rattle.nodes.specs.Words.{node-of};
-ghost use Rattle.forms.specs.Emit.{Forms, form-words};
+ghost use Rattle.form_words.specs.Emit.{Forms, form-words};
 ghost use Rattle.lefts.specs.Lefts.{Ready, Flagged};
 ghost use Rattle.left_flags.specs.Flags.{is-var, has-var, has-all, leaves};
 use node_words::place_of;

@@ -13,7 +13,7 @@ use Rattle.meaning.specs.Rows.{count-of}
 use Rattle.kept.specs.Kept.{field-type}
 use Rattle.normal.specs.Nodes.{post, count-args}
 use Rattle.nodes.specs.Words.{node-of}
-use Rattle.forms.specs.Emit.{words, Asked}
+use Rattle.form_words.specs.Emit.{words, Asked}
 use Rattle.lefts.specs.Lefts.{left-type}
 use Rattle.lefts.specs.declared.Count.{Count}
 

@@ -25,7 +25,7 @@ use Rattle.normal.specs.Nodes.{post, count-args}
 use Rattle.normal.specs.NodesLaws.{emit-args}
 use Rattle.nodes.specs.Words.{node-of}
 use Rattle.node_words.specs.Put.{Put}
-use Rattle.forms.specs.Emit.{words, Asked}
+use Rattle.form_words.specs.Emit.{words, Asked}
 use Rattle.states.specs.States.{state, kept-types, resolves-of}
 use Rattle.lefts.specs.Lefts.{Ready, left-type}
 use Rattle.lefts.specs.ReadyLaws.{ready-asked, ready-nodes, ready-length, ready-size}

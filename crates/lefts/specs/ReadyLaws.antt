@@ -42,8 +42,8 @@ use Rattle.normal.specs.Nodes.{Node, post}
 use Rattle.normal.specs.NodesLaws.{length-post}
 use Rattle.normal.specs.Forms.{place, renamed}
 use Rattle.nodes.specs.Words.{word, node-of}
-use Rattle.forms.specs.Emit.{words, form-words, Asked}
-use Rattle.forms.specs.CodeLaws.{state-below}
+use Rattle.form_words.specs.Emit.{words, form-words, Asked}
+use Rattle.form_words.specs.CodeLaws.{state-below}
 use Rattle.normal_forms.specs.LeftLaws.{held, Told, Answered, AnsweredOf, left-words, place-words}
 use Rattle.normal_forms.specs.HeldLaws.{Held, post-held, renamed-kept}
 use Rattle.lefts.specs.Lefts.{Ready, left-type}

@@ -36,7 +36,7 @@ use Rattle.normal.specs.TableLaws.{Alike, nodes-alike}
 use Rattle.normal.specs.BoundLaws.{program-bound}
 use Rattle.nodes.specs.Words.{word, node-of}
 use Rattle.node_words.specs.Own.{label}
-use Rattle.forms.specs.Emit.{words, form-words, form-of}
+use Rattle.form_words.specs.Emit.{words, form-words, form-of}
 use Rattle.normal_forms.specs.Tables.{own-words, counts, Names, Table}
 use Rattle.normal_forms.specs.Ranks as ranks
 use Rattle.normal_forms.specs.RanksLaws.{unfolds-open, names-done}

@@ -31,8 +31,8 @@ use Rattle.normal.specs.BoundLaws.{program-bound}
 use Rattle.nodes.specs.Words.{word, node-of}
 use Rattle.node_words.specs.Own.{label}
 use Rattle.states.specs.States.{body-of, unfold-at, lay-of, Open}
-use Rattle.forms.specs.Emit.{form-words, form-of, words}
-use Rattle.forms.specs.CodeLaws.{state-below}
+use Rattle.form_words.specs.Emit.{form-words, form-of, words}
+use Rattle.form_words.specs.CodeLaws.{state-below}
 use Rattle.normal_forms.specs.Tables.{own-words, Table}
 
 -- how nodes are held: as words

@@ -22,8 +22,8 @@ use Rattle.tables.specs.Tables.{decls-of}
 use Rattle.kids.specs.Nodes.{type-of}
 use Rattle.arguments.specs.Params.{params-of}
 use Rattle.states.specs.States.{body-of, unfold-at, lay-of, Open}
-use Rattle.forms.specs.Emit.{Asked, Forms}
-use Rattle.forms.specs.CodeLaws.{state-below}
+use Rattle.form_words.specs.Emit.{Asked, Forms}
+use Rattle.form_words.specs.CodeLaws.{state-below}
 use Rattle.normal_forms.specs.Tables.{own-words, with-form, Names, Table, Added}
 use Rattle.normal_forms.specs.TablesLaws.{table-more}
 use Rattle.normal_forms.specs.Ranks.{Ranked, Done, Short, Reached, Formed}

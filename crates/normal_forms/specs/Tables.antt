@@ -14,7 +14,7 @@ use Rattle.kids.specs.Nodes.{type-of}
 use Rattle.model_laws.specs.Cty.{All}
 use Rattle.model_laws.specs.Resolve.{Unfolds}
 use Rattle.states.specs.States.{body-of, lay-of}
-use Rattle.forms.specs.Emit.{form-words, words}
+use Rattle.form_words.specs.Emit.{form-words, words}
 
 -- the words of its normal form, from the forms that are there
 abbrev pub own-words : List Line → List ℕ → List ℕ → ℕ → List ℕ

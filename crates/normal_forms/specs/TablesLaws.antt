@@ -26,7 +26,7 @@ use Rattle.normal.specs.TableLaws.{Alike, nodes-alike}
 use Rattle.nodes.specs.Words.{word, node-of}
 use Rattle.node_words.specs.Own.{label}
 use Rattle.states.specs.States.{body-of, lay-of}
-use Rattle.forms.specs.Emit.{form-words, form-of, words}
+use Rattle.form_words.specs.Emit.{form-words, form-of, words}
 use Rattle.normal_forms.specs.Tables.{own-words, with-form, Names, counts, Table, Added}
 use Rattle.node_words.specs.Put.{Put}
 

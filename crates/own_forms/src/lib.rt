@@ -5,7 +5,7 @@ ghost use Prim.Native.Nat.{_+_, _*_, _≤_, _<_};
 ghost use lib.ListN.{length, take, drop};
 ghost use Rattle.sheet.specs.Sheet.{lines};
 ghost use Rattle.tables.specs.Tables.{decls-of};
-ghost use Rattle.forms.specs.Emit.{Asked};
+ghost use Rattle.form_words.specs.Emit.{Asked};
 ghost use Rattle.normal_forms.specs.Tables.{own-words, Added};
 ghost use Rattle.states.specs.States.{body-of};
 

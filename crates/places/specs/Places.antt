@@ -13,7 +13,7 @@ use Rattle.model.specs.Cty.{Cty, size}
 use Rattle.meaning.specs.Output.{Written, last, emit, Lines}
 use Rattle.normal.specs.Nodes.{post}
 use Rattle.nodes.specs.Words.{node-of}
-use Rattle.forms.specs.Emit.{words, Asked}
+use Rattle.form_words.specs.Emit.{words, Asked}
 use Rattle.emitter.specs.LaidLaws.{laid}
 use Rattle.lefts.specs.Lefts.{left-type}
 use Rattle.places.specs.declared.Place.{Place}

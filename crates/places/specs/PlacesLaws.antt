@@ -29,7 +29,7 @@ use Rattle.emitter.specs.Pens.{Sheet, sheet, moved, write-line, write-lines}
 use Rattle.emitter.specs.LaidLaws.{laid, puts-put, Shows, Space, shows-type}
 use Rattle.nodes.specs.Words.{node-of}
 use Rattle.node_words.specs.Put.{Put}
-use Rattle.forms.specs.Emit.{words}
+use Rattle.form_words.specs.Emit.{words}
 use Rattle.sheet.specs.Sheet.{lines}
 use Rattle.lefts.specs.Lefts.{left-type}
 use Rattle.places.specs.declared.Place.{Place}

@@ -12,8 +12,8 @@ use Rattle.kids.specs.Nodes.{kids-of}
 use Rattle.node_words.specs.Put.{Put, put-none, put-more}
 use Rattle.kids.specs.NodesLaws.{node-at}
 use Rattle.copies.specs.Stands.{Stands, stands-put, stands-kept, stands-at, stands-by, put-stands}
-use Rattle.forms.specs.Filling.{step-given, step-left}
-use Rattle.forms.specs.CodeLaws.{
+use Rattle.form_words.specs.Filling.{step-given, step-left}
+use Rattle.form_words.specs.CodeLaws.{
   put-same,
   run-none,
   run-more,
@@ -43,7 +43,7 @@ use Rattle.forms.specs.CodeLaws.{
   name-kids,
   asked-kid,
 }
-use Rattle.forms.specs.Emit.{run, filled, words, kid-words}
+use Rattle.form_words.specs.Emit.{run, filled, words, kid-words}
 use borrow.Fn.Kinds.{In}
 use borrow.Fn.PlainCycle.{Measures, is, falls, and}
 use Rattle.forms.proofs.emit_form.Reads as emit-form
@@ -67,9 +67,9 @@ use Rattle.forms.proofs.+emit_form+emit_kids+emit_name+emit_node+emit_p
 use Rattle.forms.proofs.emit_tree.Reads as emit-tree
 use Rattle.forms.proofs.emit_tree.Kinds as emit-tree-kinds
 use Rattle.forms.proofs.+emit_form+emit_kids+emit_name+emit_node+emit_part+emit_surplus+emit_tree.Lts-emit_tree as emit-tree-lts
-use Rattle.forms.proofs.argument_line.Reads as argument-line-reads
-use Rattle.forms.proofs.leaf_word.Reads as leaf-word-reads
-use Rattle.forms.proofs.left_word.Reads as left-word-reads
+use Rattle.form_words.proofs.argument_line.Reads as argument-line-reads
+use Rattle.form_words.proofs.leaf_word.Reads as leaf-word-reads
+use Rattle.form_words.proofs.left_word.Reads as left-word-reads
 use Rattle.calls.proofs.params.Reads as params-reads
 use Rattle.copies.proofs.again.Reads as again-reads
 use Rattle.kids.proofs.kid.Reads as kid-reads

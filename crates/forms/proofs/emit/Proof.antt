@@ -1,7 +1,7 @@
 -- `forms::emit` meets its contract: a type that has no parts is one word. Assumes nothing.
 use native.Mathlib.Omega.{arith}
 use borrow.Author.Needs.{needs}
-use Rattle.forms.specs.CodeLaws.{put-leaf}
+use Rattle.form_words.specs.CodeLaws.{put-leaf}
 use Rattle.forms.proofs.emit.Statement.{statement}
 use Rattle.forms.proofs.emit.Tie as tie
 

@@ -9,7 +9,7 @@ use Rattle.limits.specs.Limits.{start}
 use Rattle.arguments.specs.Params.{params-from, params-of}
 use Rattle.arguments.specs.ParamsLaws.{count-before-le, params-few, decls-few}
 use Rattle.nodes.specs.Words.{node-of}
-use Rattle.forms.specs.Emit.{form-words}
+use Rattle.form_words.specs.Emit.{form-words}
 use Rattle.left_flags.specs.Flags.{has-all}
 use Rattle.left_flags.specs.FlagsLaws.{all-end, all-hit, all-miss}
 use borrow.Author.Needs.{needs}

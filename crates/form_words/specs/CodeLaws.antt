@@ -27,13 +27,13 @@ use Rattle.node_words.specs.Own.{y-node}
 use Rattle.node_words.specs.Put.{Put, put-none, put-more, put-stop}
 use Rattle.copies.specs.Stands.{stands-put}
 use Rattle.states.specs.States.{unfold-at, lay-of}
-use Rattle.forms.specs.Emit.{run, step, filled, grown, form-words, words, kid-words, Asked}
-use Rattle.forms.specs.Filling.{leaf, leaf-var, leaf-own}
+use Rattle.form_words.specs.Emit.{run, step, filled, grown, form-words, words, kid-words, Asked}
+use Rattle.form_words.specs.Filling.{leaf, leaf-var, leaf-own}
 use Rattle.model_laws.specs.Names.{position-le}
 use Rattle.meaning.specs.Laws.Program.{length-program}
 use Rattle.arguments.specs.ParamsLaws.{decls-few}
 use Rattle.kids.specs.NodesLaws.{node-at, kids-8, args-few}
-use Rattle.forms.specs.EmitLaws.{words-var, words-plain, words-gone, words-stays, placed-words, words-exact, words-placed}
+use Rattle.form_words.specs.EmitLaws.{words-var, words-plain, words-gone, words-stays, placed-words, words-exact, words-placed}
 
 -- other words that are the same
 pub put-same : (p q out : List ℕ) (at r : ℕ) (res : List ℕ) → p ≡ q → Put p out at r res → Put q out at r res

@@ -14,7 +14,7 @@ use Rattle.normal.specs.Nodes.{node}
 use Rattle.normal.specs.Forms.{variable}
 use Rattle.node_words.specs.Own.{y-node, label}
 use Rattle.nodes.specs.Words.{word, node-of}
-use Rattle.forms.specs.Emit.{step, words, kid-words}
+use Rattle.form_words.specs.Emit.{step, words, kid-words}
 
 -- a variable or a node of its own
 unfoldable pub leaf : List Line → ℕ → Bool → ℕ → ℕ

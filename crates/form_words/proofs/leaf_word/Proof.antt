@@ -1,9 +1,9 @@
--- `forms::leaf_word` meets its contract: a variable or a node of its own. Assumes nothing.
+-- `form_words::leaf_word` meets its contract: a variable or a node of its own. Assumes nothing.
 use mathlib.Core.Path.{sym, _∙_}
 use borrow.Author.Needs.{needs}
-use Rattle.forms.specs.Filling.{leaf-var, leaf-own}
-use Rattle.forms.proofs.leaf_word.Statement.{statement}
-use Rattle.forms.proofs.leaf_word.Tie as tie
+use Rattle.form_words.specs.Filling.{leaf-var, leaf-own}
+use Rattle.form_words.proofs.leaf_word.Statement.{statement}
+use Rattle.form_words.proofs.leaf_word.Tie as tie
 
 returns : tie.Need-returns
 returns c =

@@ -1,12 +1,12 @@
--- `forms::argument_line` meets its contract: the parts of a Y line stand before it. Assumes nothing.
+-- `form_words::argument_line` meets its contract: the parts of a Y line stand before it. Assumes nothing.
 use Prim.Native.Nat.{_<_}
 use native.Mathlib.Omega.{arith}
 use borrow.Author.Needs.{needs}
 use Rattle.sheet.specs.Sheet.{lines}
 use Rattle.kids.specs.NodesLaws.{node-at}
-use Rattle.forms.specs.Filling.{argument-given}
-use Rattle.forms.proofs.argument_line.Statement.{statement}
-use Rattle.forms.proofs.argument_line.Tie as tie
+use Rattle.form_words.specs.Filling.{argument-given}
+use Rattle.form_words.proofs.argument_line.Statement.{statement}
+use Rattle.form_words.proofs.argument_line.Tie as tie
 
 returns-3 : tie.Need-returns-3
 returns-3 c =

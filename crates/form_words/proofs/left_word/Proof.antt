@@ -1,8 +1,8 @@
--- `forms::left_word` meets its contract: a case for each of the word's two readings. Assumes nothing.
+-- `form_words::left_word` meets its contract: a case for each of the word's two readings. Assumes nothing.
 use borrow.Author.Needs.{needs}
-use Rattle.forms.specs.Filling.{left-3, left-other}
-use Rattle.forms.proofs.left_word.Statement.{statement}
-use Rattle.forms.proofs.left_word.Tie as tie
+use Rattle.form_words.specs.Filling.{left-3, left-other}
+use Rattle.form_words.proofs.left_word.Statement.{statement}
+use Rattle.form_words.proofs.left_word.Tie as tie
 
 returns : tie.Need-returns
 returns c = left-3 _ _ _ (c .before .before .kind .ensures) (c .before .if1 .taken) (c .pack .ensures)

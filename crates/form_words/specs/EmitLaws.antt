@@ -51,7 +51,7 @@ use Rattle.normal.specs.Forms.{joined, argument, placed, named, variable, nodes
 use Rattle.nodes.specs.Words.{word, node-of}
 use Rattle.nodes.specs.WordsLaws.{node-cut, word-grown, node-small}
 use Rattle.states.specs.States.{unfold-at, lay-of}
-use Rattle.forms.specs.Emit.{run, step, filled, grown, form-words, form-of, words, kid-words}
+use Rattle.form_words.specs.Emit.{run, step, filled, grown, form-words, form-of, words, kid-words}
 
 -- ---- lists of lists
 joined-append : (xss yss : List (List Node)) → joined (xss ++ yss) ≡ joined xss ++ joined yss

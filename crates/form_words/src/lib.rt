@@ -1,0 +1,57 @@
+// The words that are put one at a time: of a type that has no parts, and of a node of a normal form, with the Y line of its argument.
+ghost use mathlib.Core.Path.{_≡_};
+ghost use Prim.Native.Nat.{_<_};
+ghost use Rattle.sheet.specs.Sheet.{lines};
+ghost use Rattle.meaning.specs.Program.{type-line};
+ghost use Rattle.meaning.specs.Rows.{count-of};
+ghost use Rattle.tables.specs.Tables as tables;
+ghost use Rattle.form_words.specs.Filling.{leaf, Argument, left};
+use kids::kid;
+use kids::kids;
+use node_words::own_word;
+use node_words::variable_word;
+use nodes::count;
+use nodes::kind;
+use nodes::own;
+use nodes::pack;
+
+// The word of a type that has no parts.
+pub fn leaf_word(s: &[u8], t: &[u32], y: usize, d: usize, places: bool) -> u64
+    requires { ⌜ tables.Tabled (now s) (now t) ⌝ }
+    requires { ⌜ (y < count-of type-line (lines 6 (now s))) × (d < tables.decls-of (lines 6 (now s))) ⌝ }
+    ensures { λ r. ⌜ r ≡ leaf (lines 6 (now (s .entry))) d places y ⌝ }
+{
+    let k = tables::type_number(s, t, y, 0);
+    if k == 3 {
+        let v = tables::type_number(s, t, y, 1);
+        return variable_word(s, t, d, places, v);
+    }
+    own_word(s, t, y)
+}
+
+// The Y line of the argument for a word of a normal form; y where the word is no parameter, or one without an argument.
+pub fn argument_line(s: &[u8], t: &[u32], y: usize, w: u64) -> usize
+    requires { ⌜ tables.Tabled (now s) (now t) ⌝ }
+    requires { ⌜ y < count-of type-line (lines 6 (now s)) ⌝ }
+    ensures { λ r. ⌜ Argument (lines 6 (now (s .entry))) y w r ⌝ }
+{
+    if kind(w) != 3 {
+        return y;
+    }
+    let i = own(w) as usize;
+    if i >= kids(s, t, y) {
+        return y;
+    }
+    kid(s, t, y, i)
+}
+
+// A word of a normal form that no argument replaces.
+pub fn left_word(w: u64) -> u64
+    ensures { λ r. ⌜ r ≡ left w ⌝ }
+{
+    let k = kind(w);
+    if k == 3 {
+        return pack(0, 0, 0);
+    }
+    pack(k, count(w), own(w))
+}
