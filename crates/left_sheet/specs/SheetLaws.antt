@@ -1,13 +1,13 @@
 -- The left sheet is its N, A, Y and declaration lines, one run behind the other. Assumes nothing.
 use mathlib.Core.Path.{_≡_, refl, ap, ap₂, sym, _∙_}
-use mathlib.Core.List.{List, [], _∷_, _++_, map}
+use mathlib.Core.List.{List, [], _∷_, _++_, map, append-assoc}
 use mathlib.Core.Bool.{true, false}
 use Prim.Native.Nat.{ℕ, zero, suc, _+_, _*_, _-_, _≤_, _<_}
 use native.Mathlib.Omega.{arith}
 use native.Mathlib.Numerals.{add-one}
 use borrow.Author.Tests.{eq-eqb}
 use lib.ListN.{length, getD, take, drop, length-append, length-map, length-take, length-drop}
-use lib.Seq.{take-suc, take-all, length-take-le}
+use lib.Seq.{take-suc, take-all, take-add, take-at, drop-append-add, drop-drop, length-take-le}
 use Rattle.sheet.specs.Format.{base, lineBytes}
 use Rattle.sheet.specs.Line.{Line, row, bad, letter, isBad, encode}
 use Rattle.sheet.specs.LineLaws.{Fits, row-length}
@@ -65,11 +65,11 @@ module _ (b : List ℕ) (passed : Passed b) where
       let e = name-before (lines 6 b) o i k l in
       ap (λ (j : ℕ). getD names j bad) (sym e) ∙ (nth-at name-line (lines 6 b) i k l .1 ∙ getD-lines 6 b i)
 
-  pub name-bytes : (i : ℕ) → i < length names → 32 * suc i ≤ length b
+  name-bytes : (i : ℕ) → i < length names → 32 * suc i ≤ length b
   name-bytes i h = within-count 6 b i (name-inside i h)
 
   -- one N line more
-  pub names-more : (old out out′ q : List ℕ) (i a e : ℕ) → i < length names → a ≡ i * 32 → e ≡ a + 32 → out ≡ puts 6 old 0 (take i names) → q ≡ take (e - a) (drop a b) → out′ ≡ putAt 6 out i q
+  names-more : (old out out′ q : List ℕ) (i a e : ℕ) → i < length names → a ≡ i * 32 → e ≡ a + 32 → out ≡ puts 6 old 0 (take i names) → q ≡ take (e - a) (drop a b) → out′ ≡ putAt 6 out i q
       → out′ ≡ puts 6 old 0 (take (i + 1) names)
   unfolding lineAt
   names-more old out out′ q i a e h ea ee o eq p =
@@ -80,15 +80,45 @@ module _ (b : List ℕ) (passed : Passed b) where
       let z : 0 + length (take i names) ≡ i = omega (arith, length-take-le i names (omega arith)) in
       p ∙ (rw (o, y, add-one i, take-suc names i bad h) (sym (puts-last 6 old 0 (take i names) (getD names i bad) ∙ rw z)))
 
-  pub part-long : (i a : ℕ) → i < length names → a ≡ i * 32 → length (take (a + 32 - a) (drop a b)) ≡ 32
-  part-long i a h e = simp (length-take, length-drop) (omega (arith, name-bytes i h))
-
-  pub names-start : (old : List ℕ) → old ≡ puts 6 old 0 (take 0 names)
+  names-start : (old : List ℕ) → old ≡ puts 6 old 0 (take 0 names)
   unfolding puts
   names-start old = refl
 
-  pub names-end : (old : List ℕ) (i : ℕ) → i ≡ length names → puts 6 old 0 (take i names) ≡ puts 6 old 0 names
+  -- N lines are the first lines, so their bytes are copied at once
+  copied-more : (old : List ℕ) (i : ℕ) → i < length names → take (32 * suc i) b ++ drop (32 * suc i) old ≡ putAt 6 (take (32 * i) b ++ drop (32 * i) old) i (take (i * 32 + 32 - i * 32) (drop (i * 32) b))
+  unfolding putAt
+  copied-more old i h =
+      let x = take (32 * i) b in
+      let y = drop (32 * i) old in
+      let n : length x ≡ 32 * i = length-take-le (32 * i) b (omega (arith, name-bytes i h)) in
+      let w : i * 32 + 32 - i * 32 ≡ 32 = omega arith in
+      let a : i * 32 ≡ 32 * i = omega arith in
+      let m : 32 * suc i ≡ 32 * i + 32 = omega arith in
+      let k : 32 * suc i ≡ length x + 32 = omega arith in
+      let q : take (i * 32 + 32 - i * 32) (drop (i * 32) b) ≡ take 32 (drop (32 * i) b) = ap₂ (λ (u v : ℕ). take u (drop v b)) w a in
+      let d : drop (32 * suc i) (x ++ y) ≡ drop (32 * suc i) old = ap (λ (u : ℕ). drop u (x ++ y)) k ∙ (drop-append-add x y 32 ∙ (drop-drop 32 (32 * i) old ∙ ap (λ (u : ℕ). drop u old) (sym m))) in
+      ap (λ (z : List ℕ). z ++ drop (32 * suc i) old) (ap (λ (u : ℕ). take u b) m ∙ take-add (32 * i) 32 b)
+      ∙ (append-assoc x (take 32 (drop (32 * i) b)) (drop (32 * suc i) old)
+      ∙ ap₂ (λ (u v : List ℕ). u ++ v) (sym (take-at x y (32 * i) n)) (ap₂ (λ (u v : List ℕ). u ++ v) (sym q) (sym d)))
+
+  names-copied : (old : List ℕ) (i : ℕ) → i ≤ length names → take (32 * i) b ++ drop (32 * i) old ≡ puts 6 old 0 (take i names)
+  names-copied old zero h = names-start old
+  names-copied old (suc i) h =
+      let e : i + 1 ≡ suc i = add-one i in
+      names-more old (take (32 * i) b ++ drop (32 * i) old) (take (32 * suc i) b ++ drop (32 * suc i) old) (take (i * 32 + 32 - i * 32) (drop (i * 32) b)) i (i * 32) (i * 32 + 32) h refl refl (names-copied old i (omega arith)) refl (copied-more old i h)
+      ∙ ap (λ (j : ℕ). puts 6 old 0 (take j names)) e
+
+  pub names-within : (i : ℕ) → i ≤ length names → 32 * i ≤ length b
+  names-within zero h = omega arith
+  names-within (suc i) h = name-bytes i h
+
+  names-end : (old : List ℕ) (i : ℕ) → i ≡ length names → puts 6 old 0 (take i names) ≡ puts 6 old 0 names
   names-end old i e = rw (take-all i names (omega arith))
+
+  pub names-put : (old : List ℕ) (n : ℕ) (p q : List ℕ) → n ≡ length names → p ≡ take (n * 32 - 0) b → q ≡ drop (n * 32 - 0) old → p ++ q ≡ puts 6 old 0 names
+  names-put old n p q e x y =
+      let m : n * 32 - 0 ≡ 32 * n = omega arith in
+      ap₂ (λ (u v : List ℕ). u ++ v) (x ∙ ap (λ (k : ℕ). take k b) m) (y ∙ ap (λ (k : ℕ). drop k old) m) ∙ (names-copied old n (omega arith) ∙ names-end old n e)
 
   -- lines fill their bytes
   all-sized : Every (Sized 6) (lines 6 b)

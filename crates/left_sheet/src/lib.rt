@@ -10,7 +10,7 @@ ghost use Rattle.meaning.specs.Rows.{count-of};
 ghost use Rattle.answer.specs.Answer.{left-sheet, after};
 ghost use Rattle.tables.specs.Tables.{Tabled};
 ghost use Rattle.lefts.specs.Lefts.{Ready, Flagged, Fit, left-written};
-use copier::line_at;
+use copier::copy_lines;
 use left_program::put_decls;
 use parts::LINE;
 use places::Place;
@@ -23,15 +23,13 @@ fn names(s: &[u8], t: &[u32]) -> usize
     t[tables::NAMES] as usize
 }
 
-// Copies the n N lines of the sheet to the front of the output.
+// Copies the n N lines of the sheet, which are its first, to the front of the output.
 fn put_names(s: &[u8], t: &[u32], out: &mut [u8], n: usize)
     requires { ⌜ Tabled (now s) (now t) × (n ≡ count-of name-line (lines 6 (now s))) × (32 * n ≤ length (now out)) ⌝ }
     ensures { λ _. ⌜ now (out .exit) ≡ puts 6 (now (out .entry)) 0 (select name-line (lines 6 (now (s .entry)))) ⌝ }
 {
-    for i in 0..n {
-        let at = i * LINE;
-        line_at(out, i, &s[at..at + LINE]);
-    }
+    let end = n * LINE;
+    copy_lines(&mut out[0..end], &s[0..end]);
 }
 
 // The left sheet: its N lines, `args` A lines, `types` Y lines and what is left of the declarations.

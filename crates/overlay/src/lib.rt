@@ -21,7 +21,7 @@ pub fn copy(s: &[u8], out: &mut [u8])
     ensures { λ _. ⌜ now (out .exit) ≡ now (s .entry) ++ drop (length (now (s .entry))) (now (out .entry)) ⌝ }
 {
     let n = s.len();
-    copier::copy_line(&mut out[0..n], s);
+    copier::copy_lines(&mut out[0..n], s);
 }
 
 // The places of a line's first three numbers, where each has one digit.
