@@ -42,12 +42,12 @@ fn tried(s: &[u8], t: &[u32], u: &[u16], keep: &[u8], out: &mut [u16], slots: &m
     told(answer, decl)
 }
 
-// With 1,024 slots.
+// With 2,048 slots.
 fn remembering(s: &[u8], t: &[u32], u: &[u16], keep: &[u8], out: &mut [u16]) -> Outcome
     requires { ⌜ attempts.Asked (now s) (now t) (now u) (now keep) ⌝ }
     ensures { λ r. ⌜ attempts.Comes (now (s .entry)) (length (now (out .entry))) r ⌝ }
 {
-    let mut slots = [0u16; 11264];
+    let mut slots = [0u16; 22528];
     tried(s, t, u, keep, out, &mut slots)
 }
 
@@ -71,7 +71,7 @@ pub fn middle(s: &[u8], t: &[u32], u: &[u16], keep: &[u8]) -> Outcome
     tried(s, t, u, keep, &mut out, &mut slots)
 }
 
-// 1,000 outcomes and 1,024 slots: where many are.
+// 1,000 outcomes and 2,048 slots: where many are.
 pub fn wide(s: &[u8], t: &[u32], u: &[u16], keep: &[u8]) -> Outcome
     requires { ⌜ attempts.Asked (now s) (now t) (now u) (now keep) ⌝ }
     ensures { λ r. ⌜ attempts.Comes (now (s .entry)) 1000 r ⌝ }
@@ -80,7 +80,7 @@ pub fn wide(s: &[u8], t: &[u32], u: &[u16], keep: &[u8]) -> Outcome
     remembering(s, t, u, keep, &mut out)
 }
 
-// 97 * 1,024 outcomes, of which any sheet has enough, and 1,024 slots.
+// 97 * 1,024 outcomes, of which any sheet has enough, and 2,048 slots.
 pub fn large(s: &[u8], t: &[u32], u: &[u16], keep: &[u8]) -> Outcome
     requires { ⌜ attempts.Asked (now s) (now t) (now u) (now keep) ⌝ }
     ensures { λ r. ⌜ attempts.Comes (now (s .entry)) 99328 r ⌝ }
