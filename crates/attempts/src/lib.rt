@@ -61,13 +61,13 @@ pub fn small(s: &[u8], t: &[u32], u: &[u16], keep: &[u8]) -> Outcome
     tried(s, t, u, keep, &mut out, &mut slots)
 }
 
-// 768 outcomes and 256 slots: where more declarations are unfolded, few slots would be slow.
+// 768 outcomes and 1,024 slots: where more declarations are unfolded, few slots would be slow.
 pub fn middle(s: &[u8], t: &[u32], u: &[u16], keep: &[u8]) -> Outcome
     requires { ⌜ attempts.Asked (now s) (now t) (now u) (now keep) ⌝ }
     ensures { λ r. ⌜ attempts.Comes (now (s .entry)) 768 r ⌝ }
 {
     let mut out = [0u16; 768];
-    let mut slots = [0u16; 2816];
+    let mut slots = [0u16; 11264];
     tried(s, t, u, keep, &mut out, &mut slots)
 }
 
