@@ -33,7 +33,7 @@ enum layout_code {
     LAYOUT_RANGE = 5,           /* line: a number out of its range */
     LAYOUT_REPEATED = 6,        /* line: a name that stands on an earlier line where it may not */
     LAYOUT_VERDICT = 7,         /* line: a keep or verdict number that cannot be */
-    LAYOUT_LOOP = 8,            /* D or I line: an unfolded name that leads back to itself */
+    LAYOUT_LOOP = 8,            /* D or I line: unfolding this name leads back to it */
     LAYOUT_ARGUMENTS = 9,       /* D or I line: a wrong count of type arguments */
     LAYOUT_SIZE = 10,           /* D or I line: a type of more than 1,024 nodes */
     LAYOUT_VERDICT_SHORT = 11,  /* the verdict output is too short; place: the length needed */

@@ -82,7 +82,7 @@ pub enum Refusal {
     Length { bytes: usize },
     /// 2: not a line: its letter, a number, a name's text or the last byte.
     Form(Place),
-    /// 3: a line out of order, a count that is not kept, or a body kind over 3.
+    /// 3: a line out of order, a count that its lines do not keep, or an unknown body kind.
     Order(Place),
     /// 4: one line more than allowed of its letter.
     Limit(Place),
@@ -92,7 +92,7 @@ pub enum Refusal {
     Repeated(Place),
     /// 7: a keep or verdict number that cannot be.
     Verdict(Place),
-    /// 8: an unfolded name that leads back to itself.
+    /// 8: a name whose unfolding leads back to it.
     Loop(Place),
     /// 9: a wrong count of type arguments.
     Arguments(Place),

@@ -78,7 +78,7 @@ fn passed(
     filled(s, z, &mut t[0..m], v, l)
 }
 
-// Builds a sheet. On a refusal both outputs keep their bytes; else each begins with its sheet and keeps its bytes past it.
+// Builds a sheet. A refusal changes no byte of the outputs; else each of them begins with its sheet, and what stands behind it stays.
 pub fn build(s: &[u8], v: &mut [u8], l: &mut [u8]) -> Built
     ensures { λ r. ⌜ Gives (now (s .entry)) (now (v .entry)) (now (l .entry)) r (now (v .exit)) (now (l .exit)) ⌝ }
 {

@@ -1,5 +1,5 @@
-// Which fields are kept: `ctor_layouts`, in a table with an entry for each F line. A local field is kept exactly if its type is not
-// erased, an imported one by its keep number.
+// Which fields are kept: `ctor_layouts`, in a table with an entry for each F line. A local field goes by
+// the mark of its type, a field of an import by the number in its line.
 ghost use mathlib.Core.Path.{_≡_};
 ghost use Prim.Native.Nat.{suc, _≤_, _<_};
 ghost use lib.ListN.{length};

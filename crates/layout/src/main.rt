@@ -1,5 +1,5 @@
-// The layout pass as a program: reads a sheet from standard input, and writes line R and, where the code is 0, the verdict sheet and
-// the left sheet. A read or a write that fails is told on standard error.
+// The layout pass as a program: a sheet on standard input, line R on standard output, and behind it both sheets where the sheet is
+// accepted. A read or a write that fails is told on standard error.
 use built::Built;
 use libc::STDIN_FILENO;
 use libc::STDOUT_FILENO;

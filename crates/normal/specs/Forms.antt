@@ -60,7 +60,7 @@ named n xs xss (newtype ps c) = placed (length ps) xs xss
 named n xs xss (abbreviation ps c) = placed (length ps) xs xss
 named n xs xss stays = joined xss ++ (node 8 (length xss) n ∷ [])
 
--- a variable that the declaration does not bind is `TAny`
+-- a variable of the declaration, or `TAny` for one that it leaves unbound
 unfoldable pub variable : Bool → ℕ → Node
 variable b v = pick b (node 3 0 v) (node 1 0 0)
 

@@ -59,7 +59,7 @@ impl Decl {
         self.flags & flag != 0
     }
 
-    /// `ctors_of_tydef`: a record is one constructor named as its type.
+    /// `ctors_of_tydef`: a record has one constructor, with the name of the type.
     pub fn ctors(&self) -> Vec<Ctor> {
         match &self.body {
             Body::Record(fields) => vec![Ctor { name: self.name, fields: fields.clone() }],
