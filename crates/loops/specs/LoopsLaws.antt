@@ -1,22 +1,20 @@
 -- One node more, and what a table of steps says of the steps that it holds. Assumes nothing.
 use mathlib.Core.Path.{_≡_, ap, _∙_}
 use mathlib.Core.List.{List, List·Memᴰ}
-use mathlib.Core.Bool.{true, false}
 use Prim.Native.Nat.{ℕ, _+_, _≤_, _<_}
 use native.Mathlib.Omega.{arith}
 use native.Mathlib.Decide.{ℕ-discrete}
 use lib.ListN.{length, getD, set, length-set}
 use lib.Seq.{getD-set-same, getD-set-other}
 use Rattle.sheet.specs.ListLaws.{contrary}
-use Rattle.sheet.specs.Sheet.{first}
-use Rattle.sheet.specs.FirstLaws.{place-unique, first-place, first-before, first-congr}
+use Rattle.sheet.specs.FirstLaws.{first-before, first-congr}
 use Rattle.model.specs.Decl.{bit}
 use Rattle.model.specs.Reach.{Reach, cyclic}
 use Rattle.model_laws.specs.Reach.{rank, rank-less, rank-bound, cyclic-complete}
 use Rattle.search.specs.declared.Found.{Found}
 use Rattle.search.specs.declared.Found.the-variants.{Start, Reached}
 use Rattle.search.specs.Search.{steps, Searched}
-use Rattle.search.specs.SearchLaws.{Holds, steps-within, start-found, reached-all, holds-cyclic, holds-rank}
+use Rattle.search.specs.SearchLaws.{Holds, start-found, reached-all, holds-cyclic, holds-rank}
 use Rattle.loops.specs.Loops.{start, Looped, Ranked, First}
 
 -- one place more of a list
@@ -32,40 +30,10 @@ module _ (next : ℕ → List ℕ) (n : ℕ) where
   looped-more k s t v h e r =
       record { long = length-set t k v ∙ r .long; marked = more (λ i. bit (cyclic next n i)) k s t v (omega (arith, r .long)) e (r .marked) }
 
-  pub ranked-more : (k : ℕ) (s t : List ℕ) (v : ℕ) → k < length s → v ≡ rank next n k → Ranked next n k s t → Ranked next n (k + 1) s (set t k v)
-  ranked-more k s t v h e r = record { long = length-set t k v ∙ r .long; ranks = more (rank next n) k s t v (omega (arith, r .long)) e (r .ranks) }
-
-  -- one node more that does not reach itself
-  pub none-more : (k : ℕ) → ((i : ℕ) → i < k → cyclic next n i ≡ false) → cyclic next n k ≡ false → (i : ℕ) → i < k + 1 → cyclic next n i ≡ false
-  none-more k h e i l = go (ℕ-discrete i k)
-    where
-      go : Dec (i ≡ k) → cyclic next n i ≡ false
-      go (yes z) = rw z e
-      go (no z) = h i (omega arith)
-
-  pub first-at : (k : ℕ) (s t : List ℕ) → k < n → ((i : ℕ) → i < k → cyclic next n i ≡ false) → cyclic next n k ≡ true → Ranked next n k s t → First next n k s t
-  first-at k s t h f e r =
-      record {
-        is = place-unique (cyclic next n) n k (first (cyclic next n) n) (record { within = omega arith; holds = λ _. e; before = f }) (first-place (cyclic next n) n);
-        before = r;
-      }
-
-  pub first-none-at : (k : ℕ) (s t : List ℕ) → k ≡ n → ((i : ℕ) → i < k → cyclic next n i ≡ false) → Ranked next n k s t → First next n n s t
-  first-none-at k s t z f r =
-      record {
-        is = place-unique (cyclic next n) n n (first (cyclic next n) n) (record { within = omega arith; holds = λ l. absurd (omega arith); before = λ i l. f i (omega arith) }) (first-place (cyclic next n) n);
-        before = rw z at r;
-      }
-
 -- the mark of a node by what the search from it answers
 pub start-bit : (next : ℕ → List ℕ) (n k : ℕ) (r : Found) (s : List ℕ) → Searched next n k r s → start r ≡ bit (cyclic next n k)
 start-bit next n k Start s d = rw (start-found next n k s d)
 start-bit next n k (Reached c) s d = rw (reached-all next n k s c d .0)
-
--- a rank is below the number of nodes
-pub rank-small : (n words : ℕ) (t : List ℕ) (k : ℕ) → k < n → cyclic (steps n words t) n k ≡ false → rank (steps n words t) n k < n
-rank-small n words t k h e =
-    rank-bound (steps n words t) n (steps-within n words t) k h (λ r. contrary (cyclic (steps n words t) n k) (cyclic-complete (steps n words t) n k (steps-within n words t) r) e)
 
 -- ---- of the steps that a table holds
 module _ (next : ℕ → List ℕ) (n words : ℕ) (t : List ℕ) (h : Holds next n words t) (s s′ : List ℕ) where
