@@ -44,10 +44,11 @@ use Rattle.normal.specs.Forms.{place, renamed}
 use Rattle.nodes.specs.Words.{word, node-of}
 use Rattle.form_words.specs.Emit.{words, form-words, Asked}
 use Rattle.form_words.specs.CodeLaws.{state-below}
+use Rattle.meaning.specs.Laws.Numbers.{UnfoldNumbers, close-numbers, resolve-numbers}
 use Rattle.normal_forms.specs.LeftLaws.{held, Told, Answered, AnsweredOf, left-words, place-words}
-use Rattle.normal_forms.specs.HeldLaws.{Held, post-held, renamed-kept}
+use Rattle.normal_forms.specs.HeldLaws.{Sign, Own, Held, post-held, renamed-kept}
 use Rattle.lefts.specs.Lefts.{Ready, left-type}
-use Rattle.lefts.specs.NumbersLaws.{close-held, UnfoldHeld, resolve-held, types-held}
+use Rattle.lefts.specs.NumbersLaws.{types-held}
 
 -- ---- an accepted sheet
 module _ (b : List ℕ) (accepted : input-refusal base b ≡ Accepted) where
@@ -158,16 +159,16 @@ module _ (b u keep : List ℕ) (passed : Passed b) (settled : Settled b u) (acce
   body-resolved d o = let h : d < decls-of ls = open-below d o in type-resolved d (body-of u d) h (body-listed d h o)
 
   -- ---- numbers
-  lay-held : (n : ℕ) → UnfoldHeld (lay ds n)
+  lay-held : (n : ℕ) → UnfoldNumbers Sign Own (lay ds n)
   unfolding closed
   lay-held n =
-      subst UnfoldHeld (sym (settled .names n))
-      (unfold-cases (λ l. UnfoldHeld (closed l)) ls u (position ds n) (λ e. tt)
-      (λ e. close-held (params-of ls (position ds n)) (type-of ls (body-of u (position ds n))) (types-held b passed (body-of u (position ds n))))
-      (λ e. close-held (params-of ls (position ds n)) (type-of ls (body-of u (position ds n))) (types-held b passed (body-of u (position ds n)))) tt)
+      subst (UnfoldNumbers Sign Own) (sym (settled .names n))
+      (unfold-cases (λ l. UnfoldNumbers Sign Own (closed l)) ls u (position ds n) (λ e. tt)
+      (λ e. close-numbers Sign Own (params-of ls (position ds n)) (type-of ls (body-of u (position ds n))) (types-held b passed (body-of u (position ds n))))
+      (λ e. close-numbers Sign Own (params-of ls (position ds n)) (type-of ls (body-of u (position ds n))) (types-held b passed (body-of u (position ds n)))) tt)
 
   pub type-held : (d y : ℕ) → Held (left-type ls d y)
-  type-held d y = resolve-held (lay ds) lay-held 100 (body-type d y) (close-held (params-of ls d) (type-of ls y) (types-held b passed y))
+  type-held d y = resolve-numbers Sign Own (lay ds) lay-held 100 (body-type d y) (close-numbers Sign Own (params-of ls d) (type-of ls y) (types-held b passed y))
 
   pub params-small : (d v : ℕ) → place (params-of ls d) v < 4294967296
   params-small d v = omega (arith, place-le (params-of ls d) v, length-params ls (first-of param-line ls d) (first-of param-line ls (d + 1) - first-of param-line ls d), count-before-le param-line ls (start ls (d + 1)), params-few b passed)

@@ -29,31 +29,24 @@ use Rattle.model.specs.Cty.{
   sizes,
 }
 use Rattle.model_laws.specs.Cty.{size-positive}
+use Rattle.meaning.specs.Laws.Output.{TypeNumbers, TypesNumbers}
 use Rattle.normal.specs.Nodes.{Node, node, post, posts}
 use Rattle.normal.specs.Forms.{renamed}
 use Rattle.nodes.specs.WordsLaws.{Room, nodes-words}
 use Rattle.normal_forms.specs.LeftLaws.{held}
 
--- a sign stands in the place of a count
-abbrev mutual
-  pub Held : Cty → Type 0
-  Held TUnit = Unit {0}
-  Held TAny = Unit {0}
-  Held TExn = Unit {0}
-  Held (TVar v) = v < 4294967296
-  Held (TInt s w) = (s < 1024) × (w < 4294967296)
-  Held (TFloat f) = f < 4294967296
-  Held (TConst c) = c < 4294967296
-  Held (TArrow a e b) = Held a × (e < 4294967296) × Held b
-  Held (TApp n ts) = (n < 4294967296) × Helds ts
-  Held (TTuple ts) = Helds ts
-  Held (TBuf t) = Held t
-  Held (TRef k t) = (k < 4294967296) × Held t
-  Held (TInline t) = Held t
+-- a sign stands in the place of a count, any other number in a place of its own
+abbrev pub Sign : ℕ → Type 0
+Sign s = s < 1024
 
-  pub Helds : Ctys → Type 0
-  Helds nil = Unit {0}
-  Helds (cons t ts) = Held t × Helds ts
+abbrev pub Own : ℕ → Type 0
+Own n = n < 4294967296
+
+abbrev pub Held : Cty → Type 0
+Held = TypeNumbers Sign Own
+
+abbrev pub Helds : Ctys → Type 0
+Helds = TypesNumbers Sign Own
 
 pub lengths-sizes : (ts : Ctys) → lengths ts ≤ sizes ts
 unfolding lengths size

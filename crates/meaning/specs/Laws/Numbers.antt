@@ -10,7 +10,7 @@ use native.Mathlib.Omega.{arith}
 use native.Mathlib.Nat.{mul-le-mul-left}
 use lib.Dec.{eqb, ltb}
 use lib.ListN.{length, getD, length-append, length-map}
-use borrow.Author.Tests.{ltb-true, ltb-false}
+use borrow.Author.Tests.{eqb-true, ltb-true, ltb-false}
 use Rattle.columns.specs.Column.{pick, _⇒_∥_}
 use Rattle.sheet.specs.Line.{Line, letter, number}
 use Rattle.sheet.specs.LineLaws.{Fits}
@@ -134,16 +134,16 @@ use Rattle.model_laws.specs.Lists.{length-table, getD-table, getD-table-past}
 use Rattle.model_laws.specs.Names.{declared-cases}
 
 -- ---- the numbers of types
-module _ (Q : ℕ → Type 0) where
-  pick-numbers : (b : Bool) (c d : Cty) → TypeNumbers Q c → TypeNumbers Q d → TypeNumbers Q (pick b c d)
+module _ (S Q : ℕ → Type 0) where
+  pick-numbers : (b : Bool) (c d : Cty) → TypeNumbers S Q c → TypeNumbers S Q d → TypeNumbers S Q (pick b c d)
   pick-numbers true c d h k = h
   pick-numbers false c d h k = k
 
-  module _ (var : ℕ → Cty) (app : ℕ → Ctys → Cty) (hv : (v : ℕ) → Q v → TypeNumbers Q (var v)) (ha : (n : ℕ) (us : Ctys) → Q n → TypesNumbers Q us → TypeNumbers Q (app n us)) where
+  module _ (var : ℕ → Cty) (app : ℕ → Ctys → Cty) (hv : (v : ℕ) → Q v → TypeNumbers S Q (var v)) (ha : (n : ℕ) (us : Ctys) → Q n → TypesNumbers S Q us → TypeNumbers S Q (app n us)) where
     mutual
       unfolding walk
 
-      pub walk-numbers : (c : Cty) → TypeNumbers Q c → TypeNumbers Q (walk var app c)
+      pub walk-numbers : (c : Cty) → TypeNumbers S Q c → TypeNumbers S Q (walk var app c)
       walk-numbers TUnit h = tt
       walk-numbers TAny h = tt
       walk-numbers TExn h = tt
@@ -158,16 +158,16 @@ module _ (Q : ℕ → Type 0) where
       walk-numbers (TRef k t) h = (h .0, walk-numbers t (h .1))
       walk-numbers (TInline t) h = walk-numbers t h
 
-      pub walks-numbers : (ts : Ctys) → TypesNumbers Q ts → TypesNumbers Q (walks var app ts)
+      pub walks-numbers : (ts : Ctys) → TypesNumbers S Q ts → TypesNumbers S Q (walks var app ts)
       walks-numbers nil h = tt
       walks-numbers (cons t ts) h = (walk-numbers t (h .0), walks-numbers ts (h .1))
 
-  pub close-numbers : (ps : List ℕ) (c : Cty) → TypeNumbers Q c → TypeNumbers Q (close ps c)
+  pub close-numbers : (ps : List ℕ) (c : Cty) → TypeNumbers S Q c → TypeNumbers S Q (close ps c)
   unfolding close
   close-numbers ps c h =
       walk-numbers (λ v. pick (member v ps) (TVar v) TAny) TApp (λ v q. pick-numbers (member v ps) (TVar v) TAny q tt) (λ n us p q. (p, q)) c h
 
-  pub uninline-numbers : (c : Cty) → TypeNumbers Q c → TypeNumbers Q (uninline c)
+  pub uninline-numbers : (c : Cty) → TypeNumbers S Q c → TypeNumbers S Q (uninline c)
   unfolding uninline
   uninline-numbers TUnit h = h
   uninline-numbers TAny h = h
@@ -183,24 +183,24 @@ module _ (Q : ℕ → Type 0) where
   uninline-numbers (TRef k t) h = h
   uninline-numbers (TInline t) h = h
 
-  append-numbers : (ts us : Ctys) → TypesNumbers Q ts → TypesNumbers Q us → TypesNumbers Q (append ts us)
+  append-numbers : (ts us : Ctys) → TypesNumbers S Q ts → TypesNumbers S Q us → TypesNumbers S Q (append ts us)
   unfolding append
   append-numbers nil us h k = k
   append-numbers (cons t ts) us h k = (h .0, append-numbers ts us (h .1) k)
 
-  firsts-numbers : (n : ℕ) (ts : Ctys) → TypesNumbers Q ts → TypesNumbers Q (firsts n ts)
+  firsts-numbers : (n : ℕ) (ts : Ctys) → TypesNumbers S Q ts → TypesNumbers S Q (firsts n ts)
   unfolding firsts
   firsts-numbers zero ts h = tt
   firsts-numbers (suc n) nil h = tt
   firsts-numbers (suc n) (cons t ts) h = (h .0, firsts-numbers n ts (h .1))
 
-  others-numbers : (n : ℕ) (ts : Ctys) → TypesNumbers Q ts → TypesNumbers Q (others n ts)
+  others-numbers : (n : ℕ) (ts : Ctys) → TypesNumbers S Q ts → TypesNumbers S Q (others n ts)
   unfolding others
   others-numbers zero ts h = h
   others-numbers (suc n) nil h = tt
   others-numbers (suc n) (cons t ts) h = others-numbers n ts (h .1)
 
-  attach-numbers : (c : Cty) (us : Ctys) → TypeNumbers Q c → TypesNumbers Q us → TypeNumbers Q (attach c us)
+  attach-numbers : (c : Cty) (us : Ctys) → TypeNumbers S Q c → TypesNumbers S Q us → TypeNumbers S Q (attach c us)
   unfolding attach
   attach-numbers TUnit us h k = h
   attach-numbers TAny us h k = h
@@ -216,32 +216,32 @@ module _ (Q : ℕ → Type 0) where
   attach-numbers (TRef j t) us h k = h
   attach-numbers (TInline t) us h k = h
 
-  zip-numbers : (ps : List ℕ) (us : Ctys) → TypesNumbers Q us → Every (λ b. TypeNumbers Q (b .arg)) (zip ps us)
+  zip-numbers : (ps : List ℕ) (us : Ctys) → TypesNumbers S Q us → Every (λ b. TypeNumbers S Q (b .arg)) (zip ps us)
   unfolding zip
   zip-numbers [] us h = tt
   zip-numbers (p ∷ ps) nil h = tt
   zip-numbers (p ∷ ps) (cons u us) h = (h .0, zip-numbers ps us (h .1))
 
-  look-numbers : (s : List Binding) (v : ℕ) → Every (λ b. TypeNumbers Q (b .arg)) s → Q v → TypeNumbers Q (look s v)
+  look-numbers : (s : List Binding) (v : ℕ) → Every (λ b. TypeNumbers S Q (b .arg)) s → Q v → TypeNumbers S Q (look s v)
   unfolding look
   look-numbers [] v h q = q
   look-numbers (b ∷ s) v h q = pick-numbers (eqb (b .param) v) (b .arg) (look s v) (h .0) (look-numbers s v (h .1) q)
 
-  instance-numbers : (ps : List ℕ) (us : Ctys) (c : Cty) → TypesNumbers Q us → TypeNumbers Q c → TypeNumbers Q (instance ps us c)
+  instance-numbers : (ps : List ℕ) (us : Ctys) (c : Cty) → TypesNumbers S Q us → TypeNumbers S Q c → TypeNumbers S Q (instance ps us c)
   unfolding instance subst-cty
   instance-numbers ps us c h k = go (eqb (length ps) (lengths us))
     where
-      go : (b : Bool) → TypeNumbers Q (walk (look (pick b (zip ps us) [])) TApp c)
+      go : (b : Bool) → TypeNumbers S Q (walk (look (pick b (zip ps us) [])) TApp c)
       go true = walk-numbers (look (zip ps us)) TApp (λ v q. look-numbers (zip ps us) v (zip-numbers ps us h) q) (λ n ts p q. (p, q)) c k
       go false = walk-numbers (look []) TApp (λ v q. look-numbers [] v tt q) (λ n ts p q. (p, q)) c k
 
   abbrev pub UnfoldNumbers : Unfold → Type 0
   UnfoldNumbers gone = Unit {0}
-  UnfoldNumbers (newtype ps c) = TypeNumbers Q c
-  UnfoldNumbers (abbreviation ps c) = TypeNumbers Q c
+  UnfoldNumbers (newtype ps c) = TypeNumbers S Q c
+  UnfoldNumbers (abbreviation ps c) = TypeNumbers S Q c
   UnfoldNumbers stays = Unit {0}
 
-  applied-numbers : (next : Cty → Cty) → ((c : Cty) → TypeNumbers Q c → TypeNumbers Q (next c)) → (n : ℕ) (us : Ctys) (u : Unfold) → UnfoldNumbers u → Q n → TypesNumbers Q us → TypeNumbers Q (applied next n us u)
+  applied-numbers : (next : Cty → Cty) → ((c : Cty) → TypeNumbers S Q c → TypeNumbers S Q (next c)) → (n : ℕ) (us : Ctys) (u : Unfold) → UnfoldNumbers u → Q n → TypesNumbers S Q us → TypeNumbers S Q (applied next n us u)
   unfolding applied
   applied-numbers next f n us gone h q k = tt
   applied-numbers next f n us (newtype ps c) h q k = f (instance ps us c) (instance-numbers ps us c k h)
@@ -252,7 +252,7 @@ module _ (Q : ℕ → Type 0) where
   applied-numbers next f n us stays h q k = (q, k)
 
   -- resolving brings in no other number
-  pub resolve-numbers : (lay : ℕ → Unfold) → ((n : ℕ) → UnfoldNumbers (lay n)) → (k : ℕ) (c : Cty) → TypeNumbers Q c → TypeNumbers Q (resolve lay k c)
+  pub resolve-numbers : (lay : ℕ → Unfold) → ((n : ℕ) → UnfoldNumbers (lay n)) → (k : ℕ) (c : Cty) → TypeNumbers S Q c → TypeNumbers S Q (resolve lay k c)
   unfolding resolve
   resolve-numbers lay u zero c h = h
   resolve-numbers lay u (suc k) c h =
@@ -309,14 +309,14 @@ length-kept (b ∷ bs) (f ∷ fs) = go b (length-kept bs fs)
 -- ---- the numbers of declarations and layouts
 module _ (Q : ℕ → Type 0) where
   abbrev pub FullField : Field → Type 0
-  FullField f = Q (f .fd-name) × TypeNumbers Q (f .fd-type)
+  FullField f = Q (f .fd-name) × TypeNumbers Q Q (f .fd-type)
 
   abbrev pub FullCtor : Ctor → Type 0
   FullCtor c = Q (c .ct-name) × Q (length (c .ct-fields)) × Every FullField (c .ct-fields)
 
   abbrev pub FullBody : Body → Type 0
   FullBody TAbstract = Unit {0}
-  FullBody (TAbbrev c) = TypeNumbers Q c
+  FullBody (TAbbrev c) = TypeNumbers Q Q c
   FullBody (TRecord fs) = Q (length fs) × Every FullField fs
   FullBody (TVariant cs) = Q (length cs) × Every FullCtor cs
 
@@ -337,14 +337,14 @@ module _ (Q : ℕ → Type 0) where
 
   abbrev pub FullLayout : ℕ → Layout → Type 0
   FullLayout b L-erased = Unit {0}
-  FullLayout b (L-newtype nt) = TypeNumbers Q (nt .nt-ty)
+  FullLayout b (L-newtype nt) = TypeNumbers Q Q (nt .nt-ty)
   FullLayout b (L-struct cls) = FullKept b cls
-  FullLayout b (L-abbrev c) = TypeNumbers Q c
+  FullLayout b (L-abbrev c) = TypeNumbers Q Q c
   FullLayout b L-opaque = Unit {0}
 
   abbrev pub FullOption : ℕ → Option NewtypeLayout → Type 0
   FullOption b none = Unit {0}
-  FullOption b (some nt) = TypeNumbers Q (nt .nt-ty)
+  FullOption b (some nt) = TypeNumbers Q Q (nt .nt-ty)
 
   abbrev pub FullOrigin : ℕ → Origin → Type 0
   FullOrigin b here = Unit {0}
@@ -386,7 +386,7 @@ module _ (Q : ℕ → Type 0) (kind : (n : ℕ) → n ≤ 12 → Q n) (down : (m
   newtype-ctor-full : (b n : ℕ) (bs : List Bool) (fs : List Field) → Every (FullField Q) fs → FullOption Q b (newtype-of-ctor n bs fs)
   unfolding newtype-of-ctor
   newtype-ctor-full b n bs [] h = tt
-  newtype-ctor-full b n bs (f ∷ []) h = uninline-numbers Q (f .fd-type) (h .0 .1)
+  newtype-ctor-full b n bs (f ∷ []) h = uninline-numbers Q Q (f .fd-type) (h .0 .1)
   newtype-ctor-full b n bs (f ∷ g ∷ fs) h = tt
 
   newtype-full : (b : ℕ) (cls : List CtorLayout) → Every (FullLayouts Q) cls → FullOption Q b (newtype-of cls)
@@ -451,22 +451,22 @@ module _ (Q : ℕ → Type 0) (kind : (n : ℕ) → n ≤ 12 → Q n) (down : (m
             k)
         go false e = rw (getD-layouts-past ds s i L-opaque (ltb-false i (length ds) e)) tt
 
-    unfold-body-full : (ps : List ℕ) (b : Body) → FullBody Q b → UnfoldNumbers Q (unfold-body ps b)
+    unfold-body-full : (ps : List ℕ) (b : Body) → FullBody Q b → UnfoldNumbers Q Q (unfold-body ps b)
     unfolding unfold-body
     unfold-body-full ps TAbstract h = tt
     unfold-body-full ps (TAbbrev c) h = h
     unfold-body-full ps (TRecord fs) h = tt
     unfold-body-full ps (TVariant cs) h = tt
 
-    unfold-dtype-full : (d : Dtype) → FullDtype Q d → UnfoldNumbers Q (unfold-dtype d)
+    unfold-dtype-full : (d : Dtype) → FullDtype Q d → UnfoldNumbers Q Q (unfold-dtype d)
     unfolding unfold-dtype
     unfold-dtype-full d h = go (has-flag d Realized || has-flag d NoUnfold)
       where
-        go : (c : Bool) → UnfoldNumbers Q (pick c stays (unfold-body (d .dt-params) (d .dt-body)))
+        go : (c : Bool) → UnfoldNumbers Q Q (pick c stays (unfold-body (d .dt-params) (d .dt-body)))
         go true = tt
         go false = unfold-body-full (d .dt-params) (d .dt-body) (h .body)
 
-    unfold-full : (b : ℕ) (d : Dtype) (l : Layout) → FullDtype Q d → FullLayout Q b l → UnfoldNumbers Q (unfold-of d l)
+    unfold-full : (b : ℕ) (d : Dtype) (l : Layout) → FullDtype Q d → FullLayout Q b l → UnfoldNumbers Q Q (unfold-of d l)
     unfolding unfold-of
     unfold-full b d L-erased h k = tt
     unfold-full b d (L-newtype nt) h k = k
@@ -474,7 +474,7 @@ module _ (Q : ℕ → Type 0) (kind : (n : ℕ) → n ≤ 12 → Q n) (down : (m
     unfold-full b d (L-abbrev c) h k = unfold-dtype-full d h
     unfold-full b d L-opaque h k = unfold-dtype-full d h
 
-    lay-full : (n : ℕ) → UnfoldNumbers Q (lay ds n)
+    lay-full : (n : ℕ) → UnfoldNumbers Q Q (lay ds n)
     unfolding unfold-name unfolds layouts-of
     lay-full n =
         ⊎-elim
@@ -493,7 +493,7 @@ module _ (Q : ℕ → Type 0) (kind : (n : ℕ) → n ≤ 12 → Q n) (down : (m
         u j = unfold-of (dtype-at ds j) (getD ls j L-opaque)
 
   -- ---- the left declaration
-  module _ (res : Cty → Cty) (rn : (c : Cty) → TypeNumbers Q c → TypeNumbers Q (res c)) where
+  module _ (res : Cty → Cty) (rn : (c : Cty) → TypeNumbers Q Q c → TypeNumbers Q Q (res c)) where
     fields-left : (fs : List Field) → Every (FullField Q) fs → Every (FullField Q) (map (resolved-field res) fs)
     unfolding resolved-field
     fields-left [] h = tt
@@ -539,36 +539,36 @@ module _ (Q : ℕ → Type 0) (kind : (n : ℕ) → n ≤ 12 → Q n) (down : (m
     where
       left-full : (i : ℕ) → Left (FullDtype Q) (left-at fuel ds i)
       left-full i =
-          rw-decl-full (resolve (lay ds) fuel) (resolve-numbers Q (lay ds) (lay-full ds h) fuel) (body-fields (dtype-at ds i .dt-body)) (dtype-at ds i) (getD (layouts-of ds) i L-opaque) (decl-full ds h i .dtype-full) (layout-at-full ds h (erasure-fixpoint ds .marks) i)
+          rw-decl-full (resolve (lay ds) fuel) (resolve-numbers Q Q (lay ds) (lay-full ds h) fuel) (body-fields (dtype-at ds i .dt-body)) (dtype-at ds i) (getD (layouts-of ds) i L-opaque) (decl-full ds h i .dtype-full) (layout-at-full ds h (erasure-fixpoint ds .marks) i)
 
   -- the parts that the lines of the left sheet are made of
-  fields-split : (fs : List Field) → Every (FullField Q) fs → Every (FieldNumbers Q) fs × Every (TypeNumbers Q) (types-of-fields fs)
+  fields-split : (fs : List Field) → Every (FullField Q) fs → Every (FieldNumbers Q) fs × Every (TypeNumbers Q Q) (types-of-fields fs)
   unfolding types-of-fields
   fields-split [] h = (tt, tt)
   fields-split (f ∷ fs) h = let k = fields-split fs (h .1) in ((h .0 .0, k .0), (h .0 .1, k .1))
 
-  ctors-split : (cs : List Ctor) → Every (FullCtor Q) cs → Every (CtorNumbers Q) cs × Every (TypeNumbers Q) (types-of-ctors cs)
+  ctors-split : (cs : List Ctor) → Every (FullCtor Q) cs → Every (CtorNumbers Q) cs × Every (TypeNumbers Q Q) (types-of-ctors cs)
   unfolding types-of-ctors
   ctors-split [] h = (tt, tt)
   ctors-split (c ∷ cs) h =
       let f = fields-split (c .ct-fields) (h .0 .2) in
       let k = ctors-split cs (h .1) in
-      (((h .0 .0, h .0 .1, f .0), k .0), every-append (TypeNumbers Q) (types-of-fields (c .ct-fields)) (types-of-ctors cs) (f .1) (k .1))
+      (((h .0 .0, h .0 .1, f .0), k .0), every-append (TypeNumbers Q Q) (types-of-fields (c .ct-fields)) (types-of-ctors cs) (f .1) (k .1))
 
-  body-split : (b : Body) → FullBody Q b → BodyNumbers Q b × Every (TypeNumbers Q) (types-of-body b)
+  body-split : (b : Body) → FullBody Q b → BodyNumbers Q b × Every (TypeNumbers Q Q) (types-of-body b)
   unfolding types-of-body
   body-split TAbstract h = (tt, tt)
   body-split (TAbbrev c) h = (tt, (h, tt))
   body-split (TRecord fs) h = let f = fields-split fs (h .1) in ((h .0, f .0), f .1)
   body-split (TVariant cs) h = let k = ctors-split cs (h .1) in ((h .0, k .0), k .1)
 
-  pub full-split : (ds : List Dtype) → Every (FullDtype Q) ds → Every (DtypeNumbers Q) ds × Every (TypeNumbers Q) (types-of ds)
+  pub full-split : (ds : List Dtype) → Every (FullDtype Q) ds → Every (DtypeNumbers Q) ds × Every (TypeNumbers Q Q) (types-of ds)
   unfolding types-of
   full-split [] h = (tt, tt)
   full-split (d ∷ ds) h =
       let b = body-split (d .dt-body) (h .0 .body) in
       let k = full-split ds (h .1) in
-      ((record { name = h .0 .name; flags = h .0 .flags; arity = h .0 .arity; params = h .0 .params; body = b .0 }, k .0), every-append (TypeNumbers Q) (types-of-body (d .dt-body)) (types-of ds) (b .1) (k .1))
+      ((record { name = h .0 .name; flags = h .0 .flags; arity = h .0 .arity; params = h .0 .params; body = b .0 }, k .0), every-append (TypeNumbers Q Q) (types-of-body (d .dt-body)) (types-of ds) (b .1) (k .1))
 
 -- ---- how many types are left
 length-types : (fs : List Field) → length (types-of-fields fs) ≡ length fs
@@ -787,22 +787,31 @@ rests-groups x p ls =
 abbrev pub Numbered : (ℕ → Type 0) → Line → Type 0
 Numbered Q l = (k : ℕ) → Q (number l k)
 
-module _ (Q : ℕ → Type 0) (kind : (n : ℕ) → n ≤ 12 → Q n) (down : (m n : ℕ) → m ≤ n → Q n → Q m) where
-  getD-numbers : (ts : List Cty) (i : ℕ) → Every (TypeNumbers Q) ts → TypeNumbers Q (getD ts i TUnit)
+-- of a Y line too, and S of the sign of an integer
+pub record Signed (S Q : ℕ → Type 0) (l : Line) : Type 0 where
+  pub numbers : Numbered Q l
+  pub sign : number l 0 ≡ 4 → S (number l 1)
+
+signed : (Q : ℕ → Type 0) (ls : List Line) → Every (Numbered Q) ls → Every (Signed Q Q) ls
+signed Q [] h = tt
+signed Q (l ∷ ls) h = (record { numbers = h .0; sign = λ e. h .0 1 }, signed Q ls (h .1))
+
+module _ (S Q : ℕ → Type 0) where
+  pub getD-numbers : (ts : List Cty) (i : ℕ) → Every (TypeNumbers S Q) ts → TypeNumbers S Q (getD ts i TUnit)
   getD-numbers [] i h = tt
   getD-numbers (t ∷ ts) zero h = h .0
   getD-numbers (t ∷ ts) (suc i) h = getD-numbers ts i (h .1)
 
-  list-numbers : (ts : List Cty) (xs : List ℕ) (i k : ℕ) → Every (TypeNumbers Q) ts → TypesNumbers Q (list-of ts xs i k)
+  list-numbers : (ts : List Cty) (xs : List ℕ) (i k : ℕ) → Every (TypeNumbers S Q) ts → TypesNumbers S Q (list-of ts xs i k)
   unfolding list-of
   list-numbers ts xs i zero h = tt
   list-numbers ts xs i (suc k) h = (getD-numbers ts (getD xs i 0) h, list-numbers ts xs (suc i) k h)
 
-  tree-numbers : (ts : List Cty) (xs : List ℕ) (k a b c : ℕ) → Every (TypeNumbers Q) ts → Q a → Q b → Q c → TypeNumbers Q (tree ts xs k a b c)
+  tree-numbers : (ts : List Cty) (xs : List ℕ) (k a b c : ℕ) → Every (TypeNumbers S Q) ts → Q a → Q b → Q c → (k ≡ 4 → S a) → TypeNumbers S Q (tree ts xs k a b c)
   unfolding tree
-  tree-numbers ts xs k a b c h qa qb qc = go (eqb k 1) (eqb k 2) (eqb k 3) (eqb k 4) (eqb k 5) (eqb k 6) (eqb k 7) (eqb k 8) (eqb k 9) (eqb k 10) (eqb k 11) (eqb k 12)
+  tree-numbers ts xs k a b c h qa qb qc s = go (eqb k 1) (eqb k 2) (eqb k 3) (eqb k 4) refl (eqb k 5) (eqb k 6) (eqb k 7) (eqb k 8) (eqb k 9) (eqb k 10) (eqb k 11) (eqb k 12)
     where
-      go : (x1 x2 x3 x4 x5 x6 x7 x8 x9 x10 x11 x12 : Bool) → TypeNumbers Q (
+      go : (x1 x2 x3 x4 : Bool) → eqb k 4 ≡ x4 → (x5 x6 x7 x8 x9 x10 x11 x12 : Bool) → TypeNumbers S Q (
           x1 ⇒ TAny ∥
           x2 ⇒ TExn ∥
           x3 ⇒ TVar a ∥
@@ -816,33 +825,35 @@ module _ (Q : ℕ → Type 0) (kind : (n : ℕ) → n ≤ 12 → Q n) (down : (m
           x11 ⇒ TRef a (getD ts b TUnit) ∥
           x12 ⇒ TInline (getD ts a TUnit) ∥
           TUnit)
-      go true x2 x3 x4 x5 x6 x7 x8 x9 x10 x11 x12 = tt
-      go false true x3 x4 x5 x6 x7 x8 x9 x10 x11 x12 = tt
-      go false false true x4 x5 x6 x7 x8 x9 x10 x11 x12 = qa
-      go false false false true x5 x6 x7 x8 x9 x10 x11 x12 = (qa, qb)
-      go false false false false true x6 x7 x8 x9 x10 x11 x12 = qa
-      go false false false false false true x7 x8 x9 x10 x11 x12 = qa
-      go false false false false false false true x8 x9 x10 x11 x12 = (getD-numbers ts a h, qb, getD-numbers ts c h)
-      go false false false false false false false true x9 x10 x11 x12 = (qa, list-numbers ts xs b c h)
-      go false false false false false false false false true x10 x11 x12 = list-numbers ts xs a b h
-      go false false false false false false false false false true x11 x12 = getD-numbers ts a h
-      go false false false false false false false false false false true x12 = (qa, getD-numbers ts b h)
-      go false false false false false false false false false false false true = getD-numbers ts a h
-      go false false false false false false false false false false false false = tt
+      go true x2 x3 x4 e x5 x6 x7 x8 x9 x10 x11 x12 = tt
+      go false true x3 x4 e x5 x6 x7 x8 x9 x10 x11 x12 = tt
+      go false false true x4 e x5 x6 x7 x8 x9 x10 x11 x12 = qa
+      go false false false true e x5 x6 x7 x8 x9 x10 x11 x12 = (s (eqb-true k 4 e), qb)
+      go false false false false e true x6 x7 x8 x9 x10 x11 x12 = qa
+      go false false false false e false true x7 x8 x9 x10 x11 x12 = qa
+      go false false false false e false false true x8 x9 x10 x11 x12 = (getD-numbers ts a h, qb, getD-numbers ts c h)
+      go false false false false e false false false true x9 x10 x11 x12 = (qa, list-numbers ts xs b c h)
+      go false false false false e false false false false true x10 x11 x12 = list-numbers ts xs a b h
+      go false false false false e false false false false false true x11 x12 = getD-numbers ts a h
+      go false false false false e false false false false false false true x12 = (qa, getD-numbers ts b h)
+      go false false false false e false false false false false false false true = getD-numbers ts a h
+      go false false false false e false false false false false false false false = tt
 
-  trees-after-numbers : (xs : List ℕ) (ts : List Cty) (ls : List Line) → Every (TypeNumbers Q) ts → Every (Numbered Q) ls → Every (TypeNumbers Q) (trees-after xs ts ls)
+  pub trees-after-numbers : (xs : List ℕ) (ts : List Cty) (ls : List Line) → Every (TypeNumbers S Q) ts → Every (Signed S Q) ls → Every (TypeNumbers S Q) (trees-after xs ts ls)
   unfolding trees-after
   trees-after-numbers xs ts [] h k = h
   trees-after-numbers xs ts (l ∷ ls) h k =
       let t : Cty = tree ts xs (number l 0) (number l 1) (number l 2) (number l 3) in
       trees-after-numbers xs (ts ++ (t ∷ [])) ls
-      (every-append (TypeNumbers Q) ts (t ∷ []) h (tree-numbers ts xs (number l 0) (number l 1) (number l 2) (number l 3) h (k .0 1) (k .0 2) (k .0 3), tt)) (k .1)
+      (every-append (TypeNumbers S Q) ts (t ∷ []) h (tree-numbers ts xs (number l 0) (number l 1) (number l 2) (number l 3) h (k .0 .numbers 1) (k .0 .numbers 2) (k .0 .numbers 3) (k .0 .sign), tt)) (k .1)
 
-  pub trees-numbers : (ls : List Line) → Every (Numbered Q) ls → Every (TypeNumbers Q) (trees ls)
+module _ (Q : ℕ → Type 0) (kind : (n : ℕ) → n ≤ 12 → Q n) (down : (m n : ℕ) → m ≤ n → Q n → Q m) where
+  pub trees-numbers : (ls : List Line) → Every (Numbered Q) ls → Every (TypeNumbers Q Q) (trees ls)
   unfolding trees
-  trees-numbers ls h = trees-after-numbers (map (λ l. number l 0) (select arg-line ls)) [] (select type-line ls) tt (every-select (Numbered Q) type-line ls h)
+  trees-numbers ls h =
+      trees-after-numbers Q Q (map (λ l. number l 0) (select arg-line ls)) [] (select type-line ls) tt (signed Q (select type-line ls) (every-select (Numbered Q) type-line ls h))
 
-  module _ (ts : List Cty) (ht : Every (TypeNumbers Q) ts) (n : ℕ) (qn : Q n) where
+  module _ (ts : List Cty) (ht : Every (TypeNumbers Q Q) ts) (n : ℕ) (qn : Q n) where
     few : (m : ℕ) → m ≤ n → Q m
     few m h = down m n h qn
 
@@ -850,7 +861,7 @@ module _ (Q : ℕ → Type 0) (kind : (n : ℕ) → n ≤ 12 → Q n) (down : (m
     unfolding field-of
     fields-full ls h =
         every-over (FullField Q) (field-of ts) (select field-line ls)
-        (every-map (Numbered Q) (λ l. FullField Q (field-of ts l)) (λ l k. (k 0, getD-numbers ts (number l 1) ht)) (select field-line ls) (every-select (Numbered Q) field-line ls h))
+        (every-map (Numbered Q) (λ l. FullField Q (field-of ts l)) (λ l k. (k 0, getD-numbers Q Q ts (number l 1) ht)) (select field-line ls) (every-select (Numbered Q) field-line ls h))
 
     ctor-full : (g : Group) → Held (Numbered Q) n g → FullCtor Q (ctor-of ts g)
     unfolding ctor-of
@@ -865,7 +876,7 @@ module _ (Q : ℕ → Type 0) (kind : (n : ℕ) → n ≤ 12 → Q n) (down : (m
             y ⇒ TRecord (map (field-of ts) (select field-line ls)) ∥
             z ⇒ TVariant (map (ctor-of ts) (groups (is ctor-line) ls)) ∥
             TAbstract)
-        go true y z = getD-numbers ts last ht
+        go true y z = getD-numbers Q Q ts last ht
         go false true z = (rw length-map (few (length (select field-line ls)) (omega (arith, length-select field-line ls))), fields-full ls h)
         go false false true =
             let gs = every-groups (Numbered Q) n (is ctor-line) ls h b in
@@ -888,7 +899,7 @@ module _ (Q : ℕ → Type 0) (kind : (n : ℕ) → n ≤ 12 → Q n) (down : (m
     close-fields-full : (ps : List ℕ) (fs : List Field) → Every (FullField Q) fs → Every (FullField Q) (map (close-field ps) fs)
     unfolding close-field
     close-fields-full ps [] h = tt
-    close-fields-full ps (f ∷ fs) h = ((h .0 .0, close-numbers Q ps (f .fd-type) (h .0 .1)), close-fields-full ps fs (h .1))
+    close-fields-full ps (f ∷ fs) h = ((h .0 .0, close-numbers Q Q ps (f .fd-type) (h .0 .1)), close-fields-full ps fs (h .1))
 
     close-ctors-full : (ps : List ℕ) (cs : List Ctor) → Every (FullCtor Q) cs → Every (FullCtor Q) (map (λ c. record { ct-name = c .ct-name; ct-fields = map (close-field ps) (c .ct-fields) }) cs)
     close-ctors-full ps [] h = tt
@@ -897,7 +908,7 @@ module _ (Q : ℕ → Type 0) (kind : (n : ℕ) → n ≤ 12 → Q n) (down : (m
     close-body-full : (ps : List ℕ) (b : Body) → FullBody Q b → FullBody Q (close-body ps b)
     unfolding close-body
     close-body-full ps TAbstract h = tt
-    close-body-full ps (TAbbrev c) h = close-numbers Q ps c h
+    close-body-full ps (TAbbrev c) h = close-numbers Q Q ps c h
     close-body-full ps (TRecord fs) h = (rw length-map (h .0), close-fields-full ps fs (h .1))
     close-body-full ps (TVariant cs) h = (rw length-map (h .0), close-ctors-full ps cs (h .1))
 

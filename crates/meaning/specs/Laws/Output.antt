@@ -304,15 +304,15 @@ RowOf L Q (named n t) = ⊥
 RowOf L Q (row x ns) = L x × (length ns ≡ 5) × Every Q ns
 RowOf L Q bad = ⊥
 
--- Q holds of each number of a type
-module _ (Q : ℕ → Type 0) where
+-- Q holds of each number of a type, but for the sign of an integer, of which S holds
+module _ (S Q : ℕ → Type 0) where
   abbrev mutual
     pub TypeNumbers : Cty → Type 0
     TypeNumbers TUnit = Unit {0}
     TypeNumbers TAny = Unit {0}
     TypeNumbers TExn = Unit {0}
     TypeNumbers (TVar v) = Q v
-    TypeNumbers (TInt s x) = Q s × Q x
+    TypeNumbers (TInt s x) = S s × Q x
     TypeNumbers (TFloat f) = Q f
     TypeNumbers (TConst c) = Q c
     TypeNumbers (TArrow a e b) = TypeNumbers a × Q e × TypeNumbers b
@@ -326,7 +326,8 @@ module _ (Q : ℕ → Type 0) where
     TypesNumbers nil = Unit {0}
     TypesNumbers (cons t ts) = TypeNumbers t × TypesNumbers ts
 
-  -- and of those of a declaration that do not stand in its types
+-- Q holds of those of a declaration that do not stand in its types
+module _ (Q : ℕ → Type 0) where
   abbrev pub FieldNumbers : Field → Type 0
   FieldNumbers f = Q (f .fd-name)
 
@@ -352,7 +353,7 @@ module _ (Q : ℕ → Type 0) (q : (n : ℕ) → Q n) where
   numbers-every ns = mem-every Q ns (λ n m. q n)
 
   mutual
-    pub numbers-all : (c : Cty) → TypeNumbers Q c
+    pub numbers-all : (c : Cty) → TypeNumbers Q Q c
     numbers-all TUnit = tt
     numbers-all TAny = tt
     numbers-all TExn = tt
@@ -367,7 +368,7 @@ module _ (Q : ℕ → Type 0) (q : (n : ℕ) → Q n) where
     numbers-all (TRef k t) = (q k, numbers-all t)
     numbers-all (TInline t) = numbers-all t
 
-    pub types-numbers-all : (ts : Ctys) → TypesNumbers Q ts
+    pub types-numbers-all : (ts : Ctys) → TypesNumbers Q Q ts
     types-numbers-all nil = tt
     types-numbers-all (cons t ts) = (numbers-all t, types-numbers-all ts)
 
@@ -428,7 +429,7 @@ module _ (Q : ℕ → Type 0) (T : ℕ) (kind : (n : ℕ) → n ≤ 12 → Q n) 
   mutual
     unfolding emit
 
-    pub emit-good : (c : Cty) (w : Written) → TypeNumbers Q c → Room (emit c w) → Good w → Good (emit c w)
+    pub emit-good : (c : Cty) (w : Written) → TypeNumbers Q Q c → Room (emit c w) → Good w → Good (emit c w)
     emit-good TUnit w h r g = good-put w 0 0 0 0 (omega arith) none none none g
     emit-good TAny w h r g = good-put w 1 0 0 0 (omega arith) none none none g
     emit-good TExn w h r g = good-put w 2 0 0 0 (omega arith) none none none g
@@ -467,7 +468,7 @@ module _ (Q : ℕ → Type 0) (T : ℕ) (kind : (n : ℕ) → n ≤ 12 → Q n) 
         let rx : Room x = room-back (grows-put x 12 (last x) 0 0) r in
         good-put x 12 (last x) 0 0 (omega arith) (last-small x rx) none none (emit-good t w h rx g)
 
-    pub emits-good : (ts : Ctys) (w : Written) → TypesNumbers Q ts → Room (emits ts w .written) → Good w → Good (emits ts w .written) × Every Q (emits ts w .numbers)
+    pub emits-good : (ts : Ctys) (w : Written) → TypesNumbers Q Q ts → Room (emits ts w .written) → Good w → Good (emits ts w .written) × Every Q (emits ts w .numbers)
     emits-good nil w h r g = (g, tt)
     emits-good (cons t ts) w h r g =
         let x : Written = emit t w in
@@ -475,7 +476,7 @@ module _ (Q : ℕ → Type 0) (T : ℕ) (kind : (n : ℕ) → n ≤ 12 → Q n) 
         let k = emits-good ts x (h .1) r (emit-good t w (h .0) rx g) in
         (k .0, (last-small x rx, k .1))
 
-  pub emit-all-good : (cs : List Cty) (w : Written) → Every (TypeNumbers Q) cs → Room (emit-all cs w) → Good w → Good (emit-all cs w)
+  pub emit-all-good : (cs : List Cty) (w : Written) → Every (TypeNumbers Q Q) cs → Room (emit-all cs w) → Good w → Good (emit-all cs w)
   unfolding emit-all
   emit-all-good [] w h r g = g
   emit-all-good (c ∷ cs) w h r g =
@@ -529,7 +530,7 @@ module _ (Q : ℕ → Type 0) (T : ℕ) (kind : (n : ℕ) → n ≤ 12 → Q n) 
 
     -- Every line of the left sheet is an N line of the input or a line of these letters, with five numbers of which Q holds.
     pub left-rows : (ls : List Line) (ds : List Dtype) (P : Line → Type 0) → L arg-line → L type-line → ((l : Line) → RowOf L Q l → P l) → Every P (select name-line ls) →
-        Every (TypeNumbers Q) (types-of ds) → Every (DtypeNumbers Q) ds → total (types-of ds) ≤ T → Every P (left-lines ls ds)
+        Every (TypeNumbers Q Q) (types-of ds) → Every (DtypeNumbers Q) ds → total (types-of ds) ≤ T → Every P (left-lines ls ds)
     left-rows ls ds P la ly f hn ht hd t =
         let r : Lines = program-lines ds nothing in
         let a = program-adds ds nothing in
@@ -551,7 +552,7 @@ pub left-sized : (w : ℕ) (ls : List Line) (ds : List Dtype) → Every (Sized w
 left-sized w ls ds h =
     let U : ℕ → Type 0 = λ n. Unit {0} in
     left-rows U (total (types-of ds)) (λ n k. tt) (λ n k. tt) U tt tt tt tt tt ls ds (Sized w) tt tt (row-sized w U U) (every-select (Sized w) name-line ls h)
-    (mem-every (TypeNumbers U) (types-of ds) (λ c m. numbers-all U (λ n. tt) c)) (mem-every (DtypeNumbers U) ds (λ d m. dtype-all U (λ n. tt) d)) (omega arith)
+    (mem-every (TypeNumbers U U) (types-of ds) (λ c m. numbers-all U (λ n. tt) c)) (mem-every (DtypeNumbers U) ds (λ d m. dtype-all U (λ n. tt) d)) (omega arith)
 
 pub left-bytes : (w : ℕ) (ls : List Line) (ds : List Dtype) → Every (Sized w) ls → length (encodes w (left-lines ls ds)) ≡ lineBytes w * length (left-lines ls ds)
 left-bytes w ls ds h = encodes-sized w (left-lines ls ds) (left-sized w ls ds h)
@@ -572,7 +573,7 @@ row-fits w bad h = absurd h
 pub record ProgramFits (w : ℕ) (ds : List Dtype) : Type 0 where
   pub kinds : 12 < 10 ^ w
   pub nodes : total (types-of ds) < 10 ^ w
-  pub types : Every (TypeNumbers (λ n. n < 10 ^ w)) (types-of ds)
+  pub types : Every (TypeNumbers (λ n. n < 10 ^ w) (λ n. n < 10 ^ w)) (types-of ds)
   pub decls : Every (DtypeNumbers (λ n. n < 10 ^ w)) ds
 
 pub left-fits : (w : ℕ) (ls : List Line) (ds : List Dtype) → AllFit w ls → ProgramFits w ds → AllFit w (left-lines ls ds)
