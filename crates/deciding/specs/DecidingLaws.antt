@@ -23,7 +23,7 @@ use Rattle.keeps.specs.KeepsLaws.{decls-few}
 use Rattle.loops.specs.Loops.{First}
 use Rattle.returning.specs.ReturningLaws.{no-return, ranked-all}
 use Rattle.returning.specs.RowLaws as rows
-use Rattle.attempts.specs.Attempts.{Asked}
+use Rattle.rows9.specs.Attempts.{Asked}
 use Rattle.built.specs.Built.{refused-as, Gives}
 use Rattle.built.specs.BuiltLaws.{row8-alone, faults-alone, rows-eight, rows-faults, rows-eleven, input-accepted, gives-refused}
 use Rattle.sheets.specs.Sheets.{Lent}

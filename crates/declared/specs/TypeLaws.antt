@@ -16,7 +16,7 @@ use Rattle.sheet.specs.ListLaws.{both, contrary}
 use Rattle.model.specs.Cty.{Cty, Ctys, TUnit, TAny, TExn, TVar, TInt, TFloat, TConst, TArrow, TApp, TTuple, TBuf, TRef, TInline, nil, cons}
 use Rattle.meaning.specs.Program.{name-line, arg-line, type-line, is, select, list-of, tree, trees-after, trees}
 use Rattle.meaning.specs.Rows.{some-below, line-at, count-of, zeros-from, is-list, good-type, good-numbers}
-use Rattle.type_lists.specs.TypeLists.{types-of}
+use Rattle.type_lines.specs.TypeLists.{types-of}
 use Rattle.type_lines.specs.TypeLinesLaws.{type-over}
 use Rattle.refusals.specs.Rows.{Passed}
 use Rattle.tables.specs.Tables.{nth}

@@ -21,9 +21,9 @@ use Rattle.header.specs.Header.{Headed}
 use Rattle.header.specs.OrderLaws.{from-le, before-from}
 use Rattle.limits.specs.LimitsLaws.{names-kept, decls-kept, ctors-kept}
 use Rattle.spellings.specs.Spellings.{Ranged}
-use Rattle.repeats.specs.declared.Groups.{Groups}
-use Rattle.repeats.specs.Ways.{Way, Declared, Parameters, Fields, Constructors, repeated, repeated-any, takes, begins, group, Named, found, found-in, marked, After, groups-after}
-use Rattle.repeats.specs.WaysLaws.{Stamped, stamped-none, stamped-take, stamped-other, repeated-stamp, repeated-other, takes-begins, named-below}
+use Rattle.distinct.specs.declared.repeats.Groups.{Groups}
+use Rattle.distinct.specs.Ways.{Way, Declared, Parameters, Fields, Constructors, repeated, repeated-any, takes, begins, group, Named, found, found-in, marked, After, groups-after}
+use Rattle.distinct.specs.WaysLaws.{Stamped, stamped-none, stamped-take, stamped-other, repeated-stamp, repeated-other, takes-begins, named-below}
 
 -- for each way the array has the last group of each name before line i
 abbrev pub Seen : List Line → ℕ → Groups → List ℕ → List ℕ → List ℕ → List ℕ → Type 0

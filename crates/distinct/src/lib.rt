@@ -1,4 +1,7 @@
 // Row 6: names that are to differ, of a sheet that passed rows 1 to 5.
+mod repeats;
+mod respellings;
+
 use limits::NAMES;
 use parts::LINE;
 use repeats::Groups;
@@ -9,7 +12,7 @@ ghost use Rattle.meaning.specs.Program.{name-line};
 ghost use Rattle.meaning.specs.Rows as rows;
 ghost use Rattle.header.specs.Header.{header};
 ghost use Rattle.spellings.specs.Spellings.{Ranged};
-ghost use Rattle.repeats.specs.Ways as ways;
+ghost use Rattle.distinct.specs.Ways as ways;
 
 // The first line whose name an earlier line of its group has, or the count of lines; `from` is the
 // line at which the declarations begin. Groups are counted from 1, and for each name the last group

@@ -21,8 +21,8 @@ use Rattle.meaning.specs.Program.{type-line}
 use Rattle.meaning.specs.Output.{Written, put, last, emit}
 use Rattle.normal.specs.Nodes.{Node, post, Writing, taken, put-args, y-first, y-second, y-third, put-node, write-node, write-nodes, args-of, count-args}
 use Rattle.normal.specs.NodesLaws.{writing, write-post}
-use Rattle.node_lines.specs.Lines.{y-row, arg-row, has-list, listed}
-use Rattle.node_lines.specs.LinesLaws.{puts-last, length-puts, args-whole}
+use Rattle.emitter.specs.Lines.{y-row, arg-row, has-list, listed}
+use Rattle.emitter.specs.LinesLaws.{puts-last, length-puts, args-whole}
 use Rattle.emitter.specs.declared.Pen.{Pen}
 use Rattle.emitter.specs.Pens.{Sheet, put-lines, moved, write-line, write-lines}
 use Rattle.emitter.specs.PensLaws.{lent-part, listed-few}

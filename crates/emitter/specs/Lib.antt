@@ -1,3 +1,5 @@
+pub mod Lines
+pub mod LinesLaws
 pub mod Pens
 pub mod PensLaws
 pub mod LaidLaws

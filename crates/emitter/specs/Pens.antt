@@ -6,7 +6,7 @@ use Rattle.sheet.specs.Line.{row, encode}
 use Rattle.sheet.specs.Output.{putAt, puts}
 use Rattle.meaning.specs.Program.{type-line}
 use Rattle.normal.specs.Nodes.{Node, taken, count-args}
-use Rattle.node_lines.specs.Lines.{y-row, arg-row, listed}
+use Rattle.emitter.specs.Lines.{y-row, arg-row, listed}
 use Rattle.emitter.specs.declared.Pen.{Pen}
 
 -- the output, and the Y lines of the nodes whose parent has not come yet

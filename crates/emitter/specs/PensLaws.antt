@@ -15,7 +15,7 @@ use Rattle.sheet.specs.Output.{putAt, puts}
 use Rattle.meaning.specs.Program.{type-line}
 use Rattle.normal.specs.Nodes.{Node, taken, args-of, count-args}
 use Rattle.nodes.specs.Words.{node-of}
-use Rattle.node_lines.specs.Lines.{y-row, arg-row, has-list, listed}
+use Rattle.emitter.specs.Lines.{y-row, arg-row, has-list, listed}
 use Rattle.emitter.specs.declared.Pen.{Pen}
 use Rattle.emitter.specs.Pens.{Sheet, sheet, put-lines, moved, write-line, write-lines, Ready, Room}
 

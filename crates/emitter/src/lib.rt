@@ -1,4 +1,6 @@
 // Writes the nodes of types as A and Y lines of the left sheet, each line into its own 32 bytes.
+mod node_lines;
+
 ghost use mathlib.Core.Path.{_≡_};
 ghost use Prim.Native.Nat.{_-_};
 ghost use Rattle.normal.specs.Nodes.{args-of};

@@ -19,7 +19,7 @@ use Rattle.model_laws.specs.Rounds.{Le, Sound, cases-eq}
 use Rattle.model_laws.specs.Erasure.{length-start, start-at, start-sound}
 use Rattle.meaning.specs.Laws.Program.{length-program}
 use Rattle.limits.specs.Limits.{counts-of}
-use Rattle.type_lists.specs.TypeLists.{types-of}
+use Rattle.type_lines.specs.TypeLists.{types-of}
 use Rattle.refusals.specs.Rows.{Passed}
 use Rattle.refusals.specs.RowsLaws.{passed-kept}
 use Rattle.tables.specs.Tables.{nth, group, head-line, decls-of}

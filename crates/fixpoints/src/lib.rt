@@ -1,4 +1,6 @@
 // Erasure: `erasure_fixpoint` over the table of a sheet that passed rows 1 to 7, and `cty_erased` of every type under it.
+mod first_marks;
+
 use erasure::Erasure;
 ghost use Rattle.sheet.specs.Sheet as sheet;
 ghost use Rattle.tables.specs.Tables as tables;

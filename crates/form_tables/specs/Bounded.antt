@@ -4,7 +4,7 @@ use mathlib.Core.List.{List}
 use Prim.Native.Nat.{ℕ, zero, suc, _≤_, _<_}
 use native.Mathlib.Omega.{arith}
 use lib.ListN.{length, getD, replicate}
-use Rattle.rank_bounds.specs.Bounds.{Starts, Ends}
+use Rattle.form_tables.specs.Bounds.{Starts, Ends}
 use Rattle.rank_forms.specs.Next.{Within}
 
 pub within : (rank : List ℕ) (n r : ℕ) (start end : List ℕ) → Starts rank (length start) start → Ends rank (length end) end → length rank ≡ n → r < length start → r < length end

@@ -1,11 +1,13 @@
 // The normal forms of all unfolded declarations, rank after rank.
+mod rank_bounds;
+
 ghost use mathlib.Core.Path.{_≡_};
 ghost use Prim.Native.Nat.{ℕ, _*_, _≤_, _<_};
 ghost use lib.ListN.{length, getD};
 ghost use Rattle.sheet.specs.Sheet.{lines};
 ghost use Rattle.tables.specs.Tables.{decls-of};
 ghost use Rattle.normal_forms.specs.Ranks.{Ranked, Formed};
-ghost use Rattle.rank_bounds.specs.Bounds.{Starts, Ends};
+ghost use Rattle.form_tables.specs.Bounds.{Starts, Ends};
 
 // Zeros in the first k cells.
 fn clear(f: &mut [u64], k: usize)

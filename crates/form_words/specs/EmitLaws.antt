@@ -42,7 +42,7 @@ use Rattle.refusals.specs.Rows.{Passed}
 use Rattle.outcomes.specs.Answer.{parts, plain, listed}
 use Rattle.kids.specs.Nodes.{y-line, kind-of, type-of, kids-of, kid-of}
 use Rattle.kids.specs.NodesLaws.{node-at, var-type, app-type, plain-type, parts-of}
-use Rattle.type_lists.specs.TypeLists.{types-of}
+use Rattle.type_lines.specs.TypeLists.{types-of}
 use Rattle.declared.specs.TypeLaws.{type-tree}
 use Rattle.node_words.specs.Own.{y-count, y-own, y-node, label}
 use Rattle.arguments.specs.Params.{params-of}

@@ -16,7 +16,7 @@ use Rattle.layouts.specs.declared.Layout.{Layout}
 use Rattle.layouts.specs.declared.Verdict.{Verdict}
 use Rattle.layouts.specs.Layouts.{no-verdict}
 use Rattle.candidates.specs.Candidates.{candidate-of}
-use Rattle.collapses.specs.Chosen.{dropped-of, Chosen}
+use Rattle.laying.specs.Chosen.{dropped-of, Chosen}
 
 -- declaration d by its body, where it is not erased
 abbrev pub of-body : List Line → ℕ → decl.Layout

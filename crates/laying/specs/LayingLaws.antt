@@ -38,8 +38,8 @@ use Rattle.layouts.specs.declared.Layout.the-variants.{Erased, Struct, Abbrevia
 use Rattle.layouts.specs.declared.Verdict.{Verdict}
 use Rattle.layouts.specs.Layouts.{no-verdict, Laid}
 use Rattle.candidates.specs.Candidates.{candidate-of}
-use Rattle.collapses.specs.Chosen.{dropped-of, collapsed, kept-one, Chosen}
-use Rattle.collapses.specs.ChosenLaws.{erased-chosen, struct-chosen, abbrev-chosen, opaque-chosen}
+use Rattle.laying.specs.Chosen.{dropped-of, collapsed, kept-one, Chosen}
+use Rattle.laying.specs.ChosenLaws.{erased-chosen, struct-chosen, abbrev-chosen, opaque-chosen}
 use Rattle.laying.specs.Laying.{of-body, Partly}
 
 -- ---- by the body

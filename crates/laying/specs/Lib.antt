@@ -1,2 +1,4 @@
+pub mod Chosen
+pub mod ChosenLaws
 pub mod Laying
 pub mod LayingLaws

@@ -1,5 +1,7 @@
 // Layouts: `compute_layouts` over the table of a sheet that passed rows 1 to 7. An import has the layout of its V line; a local type's
 // is chosen by its mark, its body, its candidate and the guard.
+mod collapses;
+
 use layouts::Layout;
 use layouts::Verdict;
 ghost use mathlib.Core.Path.{_≡_};
@@ -14,7 +16,7 @@ ghost use Rattle.tables.specs.Tables as tables;
 ghost use Rattle.keeps.specs.Keeps as keeps;
 ghost use Rattle.layouts.specs.Layouts as layouts;
 ghost use Rattle.candidates.specs.Candidates as candidates;
-ghost use Rattle.collapses.specs.Chosen as chosen;
+ghost use Rattle.laying.specs.Chosen as chosen;
 ghost use Rattle.laying.specs.Laying as laying;
 
 // A local type that is not erased, by its body.

@@ -1,2 +1,4 @@
+pub mod Program
+pub mod ProgramLaws
 pub mod SheetLaws
 pub mod FewLaws

@@ -28,8 +28,8 @@ use Rattle.header.specs.OrderLaws.{ordered-lines, name-letter, name-before, cou
 use Rattle.refusals.specs.Rows.{Passed}
 use Rattle.tables.specs.Tables.{nth, sizes-of, header, joined, sections, cells-of, Tabled}
 use Rattle.declared.specs.LineLaws.{nth-at}
-use Rattle.node_lines.specs.Lines.{arg-row}
-use Rattle.node_lines.specs.LinesLaws.{puts-last, length-puts, args-whole}
+use Rattle.emitter.specs.Lines.{arg-row}
+use Rattle.emitter.specs.LinesLaws.{puts-last, length-puts, args-whole}
 use Rattle.emitter.specs.LaidLaws.{laid, puts-puts, puts-append}
 use Rattle.lefts.specs.Lefts.{left-written}
 use Rattle.places.specs.declared.Place.{Place}

@@ -1,4 +1,6 @@
 // Writes the left sheet of an accepted sheet into an output that has room for it.
+mod left_program;
+
 ghost use mathlib.Core.Path.{_≡_};
 ghost use Prim.Native.Nat.{_*_, _≤_};
 ghost use lib.ListN.{length};

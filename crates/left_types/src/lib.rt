@@ -1,4 +1,6 @@
 // Counts the A and Y lines of what types resolve to, and of kept fields with their F lines.
+mod node_count;
+
 ghost use mathlib.Core.Path.{_≡_};
 ghost use mathlib.Core.List.{List, [], _∷_};
 ghost use mathlib.Core.Bool.{true};

@@ -19,7 +19,7 @@ use Rattle.meaning.specs.Program.{name-line, arg-line, type-line, select, list-
 use Rattle.meaning.specs.Rows.{count-of}
 use Rattle.model_laws.specs.Rounds.{cases-eq}
 use Rattle.limits.specs.Limits.{counts-of}
-use Rattle.type_lists.specs.TypeLists.{types-of}
+use Rattle.type_lines.specs.TypeLists.{types-of}
 use Rattle.type_lines.specs.TypeLinesLaws.{past}
 use Rattle.refusals.specs.Rows.{Passed}
 use Rattle.refusals.specs.RowsLaws.{passed-kept}

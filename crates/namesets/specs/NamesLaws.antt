@@ -17,7 +17,7 @@ use Rattle.model.specs.Decl.{Decl, member, position}
 use Rattle.model.specs.Layout.{positions, names-in}
 use Rattle.meaning.specs.Program.{name-line, arg-line, type-line, select, list-of, tree, trees, program}
 use Rattle.meaning.specs.Rows.{count-of, good-type}
-use Rattle.type_lists.specs.TypeLists.{types-of}
+use Rattle.type_lines.specs.TypeLists.{types-of}
 use Rattle.type_lines.specs.TypeLinesLaws.{past}
 use Rattle.refusals.specs.Rows.{Passed}
 use Rattle.tables.specs.Tables.{nth}

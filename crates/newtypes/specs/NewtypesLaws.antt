@@ -21,8 +21,8 @@ use Rattle.meaning.specs.Output.{all-slots}
 use Rattle.meaning.specs.Program.{name-line, ctor-line, field-line, Group, program}
 use Rattle.meaning.specs.Rows.{line-at, count-of}
 use Rattle.limits.specs.Limits.{start, counts-of}
-use Rattle.repeats.specs.Ways.{Declared, Constructors, takes}
-use Rattle.repeats.specs.WaysLaws.{named-below}
+use Rattle.distinct.specs.Ways.{Declared, Constructors, takes}
+use Rattle.distinct.specs.WaysLaws.{named-below}
 use Rattle.refusals.specs.Rows.{Passed}
 use Rattle.refusals.specs.RowsLaws.{passed-kept}
 use Rattle.tables.specs.Tables.{head-line, decls-of, first-of}

@@ -1,2 +1,3 @@
+pub mod DueLaws
 pub mod StepLaws
 pub mod OrderLaws

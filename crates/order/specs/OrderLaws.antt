@@ -17,7 +17,7 @@ use Rattle.sheet.specs.SheetLaws.{length-lines, getD-lines, line-good}
 use Rattle.meaning.specs.declared.Due.{Due}
 use Rattle.meaning.specs.declared.Due.the-variants.{Header}
 use Rattle.meaning.specs.Rows.{line-at, raws, due, due-after, is-broken, is-within, row3}
-use Rattle.steps.specs.DueLaws.{due-name, due-arg, due-type}
+use Rattle.order.specs.DueLaws.{due-name, due-arg, due-type}
 use Rattle.runs.specs.declared.Runs.{Runs}
 use Rattle.runs.specs.RunsLaws.{upward, Spans}
 use Rattle.order.specs.StepLaws.{due-after-suc}

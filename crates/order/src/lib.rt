@@ -1,5 +1,7 @@
 // Row 3: the order of a sheet's lines and their counts, of a sheet that row 2 passed. The runs at its
 // front are in order, so that only the lines after them are looked at one by one.
+mod steps;
+
 use meaning::Due;
 use parts::LINE;
 use runs::Runs;

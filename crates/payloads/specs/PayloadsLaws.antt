@@ -13,7 +13,7 @@ use Rattle.model.specs.Cty.{Cty, TUnit, TAny, TExn, TVar, TInt, TFloat, TConst,
 use Rattle.model.specs.Decl.{member, close}
 use Rattle.meaning.specs.Program.{type-line, field-line, tree, trees}
 use Rattle.meaning.specs.Rows.{count-of}
-use Rattle.type_lists.specs.TypeLists.{types-of}
+use Rattle.type_lines.specs.TypeLists.{types-of}
 use Rattle.refusals.specs.Rows.{Passed}
 use Rattle.declared.specs.TypeLaws.{good-inline, good-type-at, type-tree}
 use Rattle.bodies.specs.BodiesLaws as bodies

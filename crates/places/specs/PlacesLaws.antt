@@ -21,8 +21,8 @@ use Rattle.meaning.specs.Output.{Written, last, emit, Lines}
 use Rattle.meaning.specs.Laws.Output.{grows-args, grows-types, emit-adds}
 use Rattle.normal.specs.Nodes.{Node, post, count-args}
 use Rattle.normal.specs.NodesLaws.{length-post, emit-args, emit-types}
-use Rattle.node_lines.specs.Lines.{arg-row}
-use Rattle.node_lines.specs.LinesLaws.{puts-last, length-puts, args-whole}
+use Rattle.emitter.specs.Lines.{arg-row}
+use Rattle.emitter.specs.LinesLaws.{puts-last, length-puts, args-whole}
 use Rattle.emitter.specs.declared.Pen.{Pen}
 use Rattle.emitter.specs.Pens as pens
 use Rattle.emitter.specs.Pens.{Sheet, sheet, moved, write-line, write-lines}

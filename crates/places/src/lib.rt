@@ -1,5 +1,7 @@
 // Writes types and lines of the left sheet, each into its own 32 bytes: A and Y lines into their runs of lines, lines of
 // declarations one behind the other.
+mod node_rows;
+
 ghost use mathlib.Core.Path.{_≡_};
 ghost use Prim.Native.Nat.{_≤_};
 ghost use lib.ListN.{length};

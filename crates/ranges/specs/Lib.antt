@@ -1,2 +1,4 @@
+pub mod DeclLines
+pub mod DeclLinesLaws
 pub mod Ranges
 pub mod RangesLaws

@@ -14,7 +14,7 @@ use Rattle.meaning.specs.Program.{name-line, type-line}
 use Rattle.meaning.specs.Rows.{count-before, good-type, good-numbers, row5}
 use Rattle.header.specs.Header.{Counted}
 use Rattle.header.specs.OrderLaws.{ordered-lines, name-before, type-before, name-letter, arg-letter, type-letter, header-le}
-use Rattle.type_lists.specs.TypeLists.{types-of}
+use Rattle.type_lines.specs.TypeLists.{types-of}
 use Rattle.ranges.specs.Ranges.{ArgLine, good-arg}
 
 -- the place, where it is in an earlier part

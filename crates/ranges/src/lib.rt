@@ -1,5 +1,7 @@
 // Row 5: the numbers of each line are in range (FORMAT, section 5). By sections: N,
 // A and Y lines, and then the declarations.
+mod decl_lines;
+
 use parts::LINE;
 ghost use mathlib.Core.Path.{_≡_};
 ghost use Prim.Native.Nat.{_+_};

@@ -1,4 +1,6 @@
 // The normal forms of the declarations of one rank.
+mod own_forms;
+
 ghost use Prim.Native.Nat.{_+_, _*_, _≤_, _<_};
 ghost use lib.ListN.{length};
 ghost use Rattle.sheet.specs.Sheet.{lines};

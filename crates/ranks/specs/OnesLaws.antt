@@ -25,7 +25,7 @@ use Rattle.bits.specs.BitsLaws.{digit-lt}
 use Rattle.search.specs.Search.{Steps, steps}
 use Rattle.search.specs.SearchLaws.{steps-within}
 use Rattle.loops.specs.Loops.{First}
-use Rattle.closure.specs.Closure.{Closed}
+use Rattle.ranks.specs.Closure.{Closed}
 use Rattle.ranks.specs.Ones.{ones-of, Ranks}
 
 -- ---- the bits of a word

@@ -1,4 +1,6 @@
 // How many nodes each node reaches, as the ones of the words of its row.
+mod closure;
+
 ghost use mathlib.Core.Path.{_≡_};
 ghost use Prim.Native.Nat.{_+_, _*_, _≤_, _<_};
 ghost use lib.ListN.{length};

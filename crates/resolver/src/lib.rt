@@ -1,5 +1,7 @@
 // Rows 9 and 10 by outcomes, of a type as it stands in its declaration. An answer is a number: below
 // `VALUE` it says why there is no outcome.
+mod resolution;
+
 ghost use Rattle.sheet.specs.Sheet as sheet;
 ghost use Rattle.memory.specs.Slots.{Slots};
 ghost use Rattle.resolving.specs.Resolver as resolver;

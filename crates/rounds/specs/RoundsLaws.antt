@@ -21,7 +21,7 @@ use Rattle.model_laws.specs.Lists.{trues, true-of}
 use Rattle.model_laws.specs.Rounds.{At, Le, At-lt, cases-eq, trues-le, same-eq, same-refl, Sound, length-round}
 use Rattle.model_laws.specs.Erasure.{cty-erased-mono, rule-mono, start-at}
 use Rattle.meaning.specs.Laws.Program.{length-program}
-use Rattle.type_lists.specs.TypeLists.{types-of}
+use Rattle.type_lines.specs.TypeLists.{types-of}
 use Rattle.limits.specs.Limits.{counts-of}
 use Rattle.refusals.specs.Rows.{Passed}
 use Rattle.refusals.specs.RowsLaws.{passed-kept}

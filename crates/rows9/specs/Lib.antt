@@ -1,2 +1,5 @@
+pub mod Closing
+pub mod Attempts
+pub mod AttemptsLaws
 pub mod Rows9
 pub mod Rows9Laws

@@ -14,9 +14,9 @@ use Rattle.answer.specs.Answer.{refusal}
 use Rattle.limits.specs.Limits.{start}
 use Rattle.tables.specs.Tables.{decls-of}
 use Rattle.head_rows.specs.HeadRows.{faulty, fault-refusal}
-use Rattle.attempts.specs.declared.Outcome.{Outcome}
-use Rattle.attempts.specs.declared.Outcome.the-variants.{Clear, Fault, NoRoom}
-use Rattle.attempts.specs.Attempts.{fault-of, FaultAt, Comes}
+use Rattle.rows9.specs.declared.attempts.Outcome.{Outcome}
+use Rattle.rows9.specs.declared.attempts.Outcome.the-variants.{Clear, Fault, NoRoom}
+use Rattle.rows9.specs.Attempts.{fault-of, FaultAt, Comes}
 use Rattle.rows9.specs.Rows9.{faults-row}
 
 -- a full array says the less, the smaller it is

@@ -1,4 +1,6 @@
 // Rows 9 and 10: the first declaration that meets a fault, and its code.
+mod attempts;
+
 use answer::Refusal;
 use attempts::Outcome;
 ghost use mathlib.Core.Path.{_≡_};
@@ -6,7 +8,7 @@ ghost use mathlib.Core.List.{[], _∷_};
 ghost use Prim.Native.Nat.{_≤_};
 ghost use Rattle.answer.specs.Answer as answer;
 ghost use Rattle.tables.specs.Tables as tables;
-ghost use Rattle.attempts.specs.Attempts as attempts;
+ghost use Rattle.rows9.specs.Attempts as attempts;
 ghost use Rattle.rows9.specs.Rows9 as rows9;
 
 // 1 for the state of an unfolded declaration.

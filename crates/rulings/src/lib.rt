@@ -1,4 +1,6 @@
 // `dtype_erased` of a declaration: by its lines alone, by the type that it abbreviates, or by its fields.
+mod ways;
+
 use bodies::Ruled;
 ghost use mathlib.Core.Path.{_≡_};
 ghost use mathlib.Core.Bool.{false};

@@ -1,4 +1,6 @@
 // Rounds until one erases nothing.
+mod sweeps;
+
 ghost use Rattle.sheet.specs.Sheet as sheet;
 ghost use Rattle.tables.specs.Tables as tables;
 ghost use Rattle.rounds.specs.Rounds as rounds;

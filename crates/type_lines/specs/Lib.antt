@@ -1,1 +1,3 @@
+pub mod TypeLists
+pub mod TypeListsLaws
 pub mod TypeLinesLaws

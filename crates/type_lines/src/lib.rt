@@ -1,4 +1,6 @@
 // Row 5: the kind and the numbers of a Y line.
+mod type_lists;
+
 ghost use mathlib.Core.Path.{_≡_};
 ghost use mathlib.Core.Bool.{_&&_};
 ghost use Prim.Native.Nat.{_<_};
@@ -7,7 +9,7 @@ ghost use Rattle.sheet.specs.Sheet as sheet;
 ghost use Rattle.meaning.specs.Program.{type-line};
 ghost use Rattle.meaning.specs.Rows as rows;
 ghost use Rattle.header.specs.Header.{Counted};
-ghost use Rattle.type_lists.specs.TypeLists.{types-of};
+ghost use Rattle.type_lines.specs.TypeLists.{types-of};
 
 fn both(a: bool, b: bool) -> bool
     ensures { λ r. ⌜ r ≡ (a && b) ⌝ }

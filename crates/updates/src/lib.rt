@@ -1,4 +1,6 @@
 // A declaration in a round of erasure.
+mod standing;
+
 use rounds::Round;
 ghost use Prim.Native.Nat.{_≤_, _<_};
 ghost use Rattle.sheet.specs.Sheet as sheet;

@@ -1,4 +1,6 @@
 // The verdict sheet: a copy of the sheet, in which single bytes of local declarations' D, F and V lines are changed.
+mod overlay;
+
 use overlay::THIRD;
 use parts::LINE;
 ghost use mathlib.Core.Path.{_≡_};
@@ -14,7 +16,7 @@ ghost use Rattle.tables.specs.Tables.{decls-of, Tabled};
 ghost use Rattle.keeps.specs.Keeps.{Slotted};
 ghost use Rattle.states.specs.States.{Settled};
 ghost use Rattle.lefts.specs.Lefts.{Recorded};
-ghost use Rattle.overlay.specs.Upto.{Known, Next, Moved, upto};
+ghost use Rattle.verdict_sheet.specs.Upto.{Known, Next, Moved, upto};
 
 // Line i of a local declaration d, before which there are f F lines; and how many there are after it.
 fn put_line(

@@ -1,2 +1,4 @@
+pub mod VerdictLines
+pub mod VerdictLinesLaws
 pub mod Verdicts
 pub mod VerdictsLaws

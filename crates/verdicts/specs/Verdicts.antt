@@ -6,7 +6,7 @@ use Rattle.columns.specs.Column.{pick, _⇒_∥_}
 use Rattle.sheet.specs.Line.{Line, number}
 use Rattle.meaning.specs.Program.{import-line, field-line, verdict-line, is, is-head}
 use Rattle.meaning.specs.Rows.{good-verdict}
-use Rattle.verdict_lines.specs.VerdictLines.{no-verdict}
+use Rattle.verdicts.specs.VerdictLines.{no-verdict}
 use Rattle.verdicts.specs.declared.Decl.{Decl}
 
 -- the V line of the declaration that begins with h

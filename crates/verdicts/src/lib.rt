@@ -1,4 +1,6 @@
 // Row 7: keep numbers and verdicts (FORMAT, section 5).
+mod verdict_lines;
+
 use parts::LINE;
 ghost use mathlib.Core.Path.{_≡_};
 ghost use Prim.Native.Nat.{_<_};

@@ -10,7 +10,7 @@ use Rattle.sheet.specs.Sheet.{first, lines}
 use Rattle.sheet.specs.FirstLaws.{first-more, first-found}
 use Rattle.header.specs.Header.{Headed}
 use Rattle.header.specs.OrderLaws.{from-le}
-use Rattle.repeats.specs.Ways.{repeated-any}
+use Rattle.distinct.specs.Ways.{repeated-any}
 use Rattle.distinct.specs.DistinctLaws.{Seen, seen-none, none-repeated, named-line, seen-test, seen-next, groups-small}
 use Rattle.distinct.proofs.repeated.Statement.{statement}
 use Rattle.distinct.proofs.repeated.Tie as tie

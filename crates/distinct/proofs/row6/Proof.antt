@@ -1,7 +1,7 @@
 -- `distinct::row6` meets its contract: its place is the lesser of those of spellings and of names. Assumes nothing.
 use mathlib.Core.Path.{sym}
 use borrow.Author.Needs.{needs}
-use Rattle.repeats.specs.WaysLaws.{first-row6}
+use Rattle.distinct.specs.WaysLaws.{first-row6}
 use Rattle.distinct.proofs.row6.Statement.{statement}
 use Rattle.distinct.proofs.row6.Tie as tie
 

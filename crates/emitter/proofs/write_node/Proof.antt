@@ -6,7 +6,7 @@ use native.Mathlib.Omega.{arith}
 use lib.ListN.{length, take, drop}
 use Rattle.normal.specs.Nodes.{taken, args-of}
 use Rattle.nodes.specs.Words.{node-of}
-use Rattle.node_lines.specs.Lines.{listed}
+use Rattle.emitter.specs.Lines.{listed}
 use Rattle.emitter.specs.PensLaws.{listed-few, part-few, write-law}
 use borrow.Author.Needs.{needs}
 use Rattle.emitter.proofs.write_node.Statement.{statement}

@@ -2,7 +2,7 @@
 use mathlib.Core.Path.{_≡_}
 use native.Mathlib.Omega.{arith}
 use Rattle.arguments.specs.ParamsLaws.{decls-few}
-use Rattle.rank_bounds.specs.Bounds.{starts-own, ends-own}
+use Rattle.form_tables.specs.Bounds.{starts-own, ends-own}
 use borrow.Author.Needs.{needs}
 use Rattle.form_tables.proofs.bounded.Statement.{statement}
 use Rattle.form_tables.proofs.bounded.Tie as tie

@@ -9,7 +9,7 @@ use Rattle.resolver.proofs.resolved.Statement.{statement}
 use Rattle.resolver.proofs.resolved.Tie as tie
 use Rattle.resolver.proofs.resolved.Reads as reads
 use Rattle.resolver.proofs.resolved.Lts as lts
-use Rattle.resolution.proofs.node.Reads as node-reads
+use Rattle.resolver.proofs.resolution.node.Reads as node-reads
 use Rattle.weighing.proofs.weigh.Reads as weigh-reads
 
 weigh-requires : tie.Need-weigh-requires

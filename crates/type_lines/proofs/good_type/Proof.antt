@@ -8,7 +8,7 @@ use Rattle.sheet.specs.Line.{letter}
 use Rattle.sheet.specs.Sheet.{count, lines, line, row2}
 use Rattle.meaning.specs.Program.{name-line}
 use Rattle.meaning.specs.Rows.{good-type}
-use Rattle.type_lists.specs.TypeLists.{types-of}
+use Rattle.type_lines.specs.TypeLists.{types-of}
 use Rattle.type_lines.specs.TypeLinesLaws.{past, type-over}
 use borrow.Author.Needs.{needs}
 use Rattle.type_lines.proofs.good_type.Statement.{statement}

@@ -12,9 +12,9 @@ use Rattle.meaning.specs.Rows.{count-before}
 use Rattle.limits.specs.Limits.{start}
 use Rattle.tables.specs.Tables.{head-line}
 use Rattle.keeps.specs.KeepsLaws.{decls-few}
-use Rattle.overlay.specs.Upto.{upto}
-use Rattle.overlay.specs.LineLaws.{start-le}
-use Rattle.overlay.specs.StepLaws.{starts-rise, import-whole, local-next, upto-self}
+use Rattle.verdict_sheet.specs.Upto.{upto}
+use Rattle.verdict_sheet.specs.LineLaws.{start-le}
+use Rattle.verdict_sheet.specs.StepLaws.{starts-rise, import-whole, local-next, upto-self}
 use Rattle.verdict_sheet.proofs.put_decl.Statement.{statement}
 use Rattle.verdict_sheet.proofs.put_decl.Tie as tie
 

@@ -4,7 +4,7 @@ use Prim.Native.Nat.{ℕ, _+_, _*_, _≤_, _<_}
 use native.Mathlib.Omega.{arith}
 use lib.ListN.{length, getD}
 use borrow.Author.Needs.{needs}
-use Rattle.overlay.specs.StepLaws.{here-room, field-inside, field-small, step-head, step-field, verdict-moved, step-other}
+use Rattle.verdict_sheet.specs.StepLaws.{here-room, field-inside, field-small, step-head, step-field, verdict-moved, step-other}
 use Rattle.verdict_sheet.proofs.put_line.Statement.{statement}
 use Rattle.verdict_sheet.proofs.put_line.Tie as tie
 

@@ -8,9 +8,9 @@ use borrow.Author.Needs.{needs}
 use Rattle.sheet.specs.Sheet.{lines}
 use Rattle.limits.specs.Limits.{start}
 use Rattle.tables.specs.Tables.{decls-of}
-use Rattle.overlay.specs.Upto.{upto}
-use Rattle.overlay.specs.LineLaws.{start-le}
-use Rattle.overlay.specs.StepLaws.{upto-self, begun, ended, decl-next}
+use Rattle.verdict_sheet.specs.Upto.{upto}
+use Rattle.verdict_sheet.specs.LineLaws.{start-le}
+use Rattle.verdict_sheet.specs.StepLaws.{upto-self, begun, ended, decl-next}
 use Rattle.verdict_sheet.proofs.put_verdicts.Statement.{statement}
 use Rattle.verdict_sheet.proofs.put_verdicts.Tie as tie
 

@@ -1,2 +1,0 @@
-pub mod Attempts
-pub mod AttemptsLaws

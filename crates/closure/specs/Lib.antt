@@ -1,2 +1,0 @@
-pub mod Closure
-pub mod ClosureLaws

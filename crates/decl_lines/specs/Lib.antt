@@ -1,2 +1,0 @@
-pub mod DeclLines
-pub mod DeclLinesLaws

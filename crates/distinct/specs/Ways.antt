@@ -1,0 +1,98 @@
+-- Row 6 by the ways in which a line repeats an earlier one. Assumes nothing.
+use mathlib.Core.Path.{_≡_}
+use mathlib.Core.List.{List}
+use mathlib.Core.Bool.{Bool, true, false, _&&_, _||_}
+use Prim.Native.Nat.{ℕ, zero, suc, _+_, _<_}
+use lib.Dec.{eqb}
+use lib.ListN.{getD, set}
+use Rattle.columns.specs.Column.{pick, _⇒_∥_}
+use Rattle.sheet.specs.Line.{Line, number}
+use Rattle.meaning.specs.Program.{param-line, ctor-line, field-line, is, is-head}
+use Rattle.meaning.specs.Rows.{some-below, line-at, count-before, heads-before, is-ctor, same-decl, same-ctor}
+use Rattle.distinct.specs.declared.repeats.Groups.{Groups}
+
+-- The ways in which the name of a line is not to repeat that of an earlier one: the names of all
+-- declarations, of the parameters of one declaration, of the fields of one constructor or record,
+-- and of all constructors and record types.
+pub data Way : Type 0 where
+  Declared : Way
+  Parameters : Way
+  Fields : Way
+  Constructors : Way
+
+-- ---- names
+-- lines j and i have names that are to differ
+abbrev pub alike : Way → List Line → ℕ → ℕ → Bool
+alike Declared ls j i = is-head (line-at ls j) && is-head (line-at ls i)
+alike Parameters ls j i = is param-line (line-at ls j) && is param-line (line-at ls i) && same-decl ls j i
+alike Fields ls j i = is field-line (line-at ls j) && is field-line (line-at ls i) && same-ctor ls j i
+alike Constructors ls j i = is-ctor (line-at ls j) && is-ctor (line-at ls i)
+
+-- line i has the name of an earlier line, from which it is to differ
+unfoldable pub repeated : Way → List Line → ℕ → Bool
+repeated way ls i = some-below (λ j. eqb (number (line-at ls j) 0) (number (line-at ls i) 0) && alike way ls j i) i
+
+-- in one of the ways
+abbrev pub repeated-any : List Line → ℕ → Bool
+repeated-any ls i = repeated Declared ls i || (repeated Parameters ls i || (repeated Fields ls i || repeated Constructors ls i))
+
+-- ---- groups of lines within which names are to differ
+-- the line has a name of this way
+abbrev pub takes : Way → Line → Bool
+takes Declared l = is-head l
+takes Parameters l = is param-line l
+takes Fields l = is field-line l
+takes Constructors l = is-ctor l
+
+-- the line begins a group
+abbrev pub begins : Way → Line → Bool
+begins Declared l = false
+begins Parameters l = is-head l
+begins Fields l = is-head l || is ctor-line l
+begins Constructors l = false
+
+-- how many groups begin before line i
+abbrev pub group : Way → List Line → ℕ → ℕ
+group Declared ls i = 0
+group Parameters ls i = heads-before ls i
+group Fields ls i = heads-before ls i + count-before ctor-line ls i
+group Constructors ls i = 0
+
+-- Among the lines before line i of which the test holds, the group of the last with the name v, counted from 1; 0 where there is none.
+unfoldable pub stamp : (ℕ → Bool) → (ℕ → ℕ) → (ℕ → ℕ) → ℕ → ℕ → ℕ
+stamp p x g zero v = 0
+stamp p x g (suc i) v = let r : ℕ = stamp p x g i v in p i && eqb (x i) v ⇒ suc (g i) ∥ r
+
+-- ---- one line, by the last group of each name
+-- a line with a name of any way has a name below 256
+pub record Named (l : Line) : Type 0 where
+  pub below : (way : Way) → takes way l ≡ true → number l 0 < 256
+
+-- the line's name was last seen in group g
+abbrev pub found : Way → Line → ℕ → List ℕ → Bool
+found way l g last = takes way l && eqb (getD last (number l 0) 0) g
+
+abbrev pub found-in : Line → Groups → List ℕ → List ℕ → List ℕ → List ℕ → Bool
+found-in l g declared params fields ctors =
+    found Declared l 1 declared || (found Parameters l (g .params) params || (found Fields l (g .fields) fields || found Constructors l 1 ctors))
+
+-- the last group of each name, after the line
+abbrev pub marked : Way → Line → ℕ → List ℕ → List ℕ
+marked way l g last = pick (takes way l) (set last (number l 0) g) last
+
+-- Of a line, the groups and the four arrays before it: what is found, and the arrays after it.
+abbrev pub After : Line → Groups → List ℕ → List ℕ → List ℕ → List ℕ → Bool → List ℕ → List ℕ → List ℕ → List ℕ → Type 0
+After l g d p f c r d' p' f' c' =
+    (r ≡ found-in l g d p f c)
+    × (d' ≡ marked Declared l 1 d)
+    × (p' ≡ marked Parameters l (g .params) p)
+    × (f' ≡ marked Fields l (g .fields) f)
+    × (c' ≡ marked Constructors l 1 c)
+
+-- the groups, after the line
+abbrev pub groups-after : Line → Groups → Groups
+groups-after l g =
+    record {
+      params = pick (begins Parameters l) (g .params + 1) (g .params);
+      fields = pick (begins Fields l) (g .fields + 1) (g .fields);
+    }

@@ -1,0 +1,98 @@
+// The A and Y lines of one node of a type.
+ghost use mathlib.Core.Path.{_≡_};
+ghost use mathlib.Core.List.{map};
+ghost use Prim.Native.Nat.{_+_, _*_, _≤_};
+ghost use lib.ListN.{length, getD};
+ghost use Rattle.sheet.specs.Output.{puts};
+ghost use Rattle.normal.specs.Nodes.{taken, first-of};
+ghost use Rattle.nodes.specs.Words.{node-of};
+ghost use Rattle.emitter.specs.Lines.{y-row, arg-row, has-list, listed};
+use nodes::count;
+use nodes::kind;
+use nodes::own;
+use writer::row_at;
+
+// Element i, 0 where there is none.
+fn nth(ns: &[u32], i: usize) -> u32
+    ensures { λ r. ⌜ r ≡ getD (now (ns .entry)) i 0 ⌝ }
+{
+    if i < ns.len() {
+        return ns[i];
+    }
+    0
+}
+
+// The first of n A lines where a are written before, 0 where there is none.
+fn first_of(a: u32, n: u32) -> u32
+    ensures { λ r. ⌜ r ≡ first-of a n ⌝ }
+{
+    if n == 0 {
+        return 0;
+    }
+    a
+}
+
+// The numbers of a node's Y line; ns are its children, and a the A lines that are written before its own.
+pub fn y_numbers(w: u64, ns: &[u32], a: u32) -> [u32; 5]
+    ensures { λ r. ⌜ r ≡ y-row (node-of w) (now (ns .entry)) a ⌝ }
+{
+    let k = kind(w);
+    let n = count(w);
+    let x = own(w);
+    let l = nth(ns, 0);
+    let r = nth(ns, 1);
+    let f = first_of(a, n);
+    match k {
+        4 => [k, n, x, 0, 0],
+        7 => [k, l, x, r, 0],
+        8 => [k, x, f, n, 0],
+        9 => [k, f, n, 0, 0],
+        10 => [k, l, 0, 0, 0],
+        11 => [k, x, l, 0, 0],
+        12 => [k, l, 0, 0, 0],
+        _ => [k, x, 0, 0, 0],
+    }
+}
+
+// A node's children have A lines.
+fn lists(w: u64) -> bool
+    ensures { λ r. ⌜ r ≡ has-list (node-of w) ⌝ }
+{
+    let k = kind(w);
+    if k == 8 {
+        return true;
+    }
+    k == 9
+}
+
+// How many children a node has.
+pub fn children(w: u64) -> usize
+    ensures { λ r. ⌜ r ≡ taken (node-of w) ⌝ }
+{
+    if kind(w) <= 6 {
+        return 0;
+    }
+    count(w) as usize
+}
+
+// An A line for each of ns, from line i of the output on.
+fn put_args(out: &mut [u8], i: usize, ns: &[u32])
+    requires { ⌜ 32 * (i + length (now ns)) ≤ length (now out) ⌝ }
+    ensures { λ _. ⌜ now (out .exit) ≡ puts 6 (now (out .entry)) i (map arg-row (now (ns .entry))) ⌝ }
+{
+    for j in 0..ns.len() {
+        row_at(out, i + j, b'A', [ns[j], 0, 0, 0, 0]);
+    }
+}
+
+// The A lines of a node's children, from line i on, and how many they are.
+pub fn put_list(out: &mut [u8], i: usize, w: u64, ns: &[u32]) -> usize
+    requires { ⌜ 32 * (i + length (listed (node-of w) (now ns))) ≤ length (now out) ⌝ }
+    ensures { λ r. ⌜ (r ≡ length (listed (node-of w) (now (ns .entry)))) × (now (out .exit) ≡ puts 6 (now (out .entry)) i (map arg-row (listed (node-of w) (now (ns .entry))))) ⌝ }
+{
+    if !lists(w) {
+        return 0;
+    }
+    put_args(out, i, ns);
+    ns.len()
+}

@@ -1,2 +1,0 @@
-pub mod TypeLists
-pub mod TypeListsLaws

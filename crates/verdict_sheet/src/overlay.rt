@@ -1,0 +1,83 @@
+// The verdict sheet over a copy of the sheet: the copy, and a V line. `upto` says what stands in the output when some lines are written.
+use parts::LINE;
+ghost use mathlib.Core.Path.{_≡_};
+ghost use mathlib.Core.List.{_++_};
+ghost use Prim.Native.Nat.{suc, _*_, _≤_, _<_};
+ghost use lib.Dec.{eqb};
+ghost use lib.ListN.{length, drop, getD};
+ghost use Rattle.columns.specs.Column.{pick};
+ghost use Rattle.sheet.specs.Sheet.{lines};
+ghost use Rattle.model.specs.Decl as decl;
+ghost use Rattle.model.specs.Run.{layout-of-decl};
+ghost use Rattle.meaning.specs.Program.{program};
+ghost use Rattle.tables.specs.Tables.{decls-of, Tabled};
+ghost use Rattle.states.specs.States.{Settled};
+ghost use Rattle.lefts.specs.Lefts.{Recorded};
+ghost use Rattle.verdict_sheet.specs.Upto.{Next, upto};
+
+// The sheet's bytes at the front of an output.
+pub fn copy(s: &[u8], out: &mut [u8])
+    requires { ⌜ length (now s) ≤ length (now out) ⌝ }
+    ensures { λ _. ⌜ now (out .exit) ≡ now (s .entry) ++ drop (length (now (s .entry))) (now (out .entry)) ⌝ }
+{
+    let n = s.len();
+    copier::copy_lines(&mut out[0..n], s);
+}
+
+// The places of a line's first three numbers, where each has one digit.
+pub const FIRST: usize = 6;
+
+pub const SECOND: usize = 12;
+
+pub const THIRD: usize = 18;
+
+// The layout's number of declaration d: by its cell, and by its body kind where its name is left or abbreviates.
+fn layout_number(s: &[u8], t: &[u32], u: &[u16], d: usize) -> u8
+    requires { ⌜ Tabled (now s) (now t) × Settled (now s) (now u) ⌝ }
+    requires { ⌜ d < decls-of (lines 6 (now s)) ⌝ }
+    ensures { λ r. ⌜ r ≡ decl.layout-number (layout-of-decl (program (lines 6 (now (s .entry)))) d) ⌝ }
+{
+    let state = u[2 * d];
+    if state == 0 {
+        return 0;
+    }
+    if state == 1 {
+        return 1;
+    }
+    let kind = tables::decl_number(s, t, d, 2);
+    if kind == 0 {
+        return 4;
+    }
+    if kind == 1 {
+        return 3;
+    }
+    2
+}
+
+// The erased number of a layout.
+fn erased(layout: u8) -> u8
+    ensures { λ r. ⌜ r ≡ pick (eqb layout 0) 1 0 ⌝ }
+{
+    if layout == 0 { 1 } else { 0 }
+}
+
+// The V line i of a local declaration d: erased, layout, record.
+pub fn put_verdict(
+    s: &[u8],
+    t: &[u32],
+    u: &[u16],
+    records: &[u8],
+    out: &mut [u8],
+    d: usize,
+    i: usize,
+)
+    requires { ⌜ Tabled (now s) (now t) × Settled (now s) (now u) × Recorded (now s) (now records) ⌝ }
+    requires { ⌜ Next (now s) (now out) d i × (getD (now s) (i * 32) 0 ≡ 86) ⌝ }
+    ensures { λ _. ⌜ now (out .exit) ≡ upto (now (s .entry)) (suc i) (now (out .entry)) ⌝ }
+{
+    let layout = layout_number(s, t, u, d);
+    let at = i * LINE;
+    out[at + FIRST] = b'0' + erased(layout);
+    out[at + SECOND] = b'0' + layout;
+    out[at + THIRD] = b'0' + records[d];
+}
