@@ -1,8 +1,8 @@
 -- What the owner of the build's memory needs to know of a sheet that passed rows 1 to 7. Assumes nothing.
-use mathlib.Core.Path.{_≡_, refl, ap, sym, _∙_}
+use mathlib.Core.Path.{_≡_, refl, sym, _∙_}
 use mathlib.Core.List.{List, [], _∷_}
-use mathlib.Core.Bool.{Bool, true, false, _||_}
-use Prim.Native.Nat.{ℕ, _+_, _*_, _-_, _≤_, _<_}
+use mathlib.Core.Bool.{Bool, true, false}
+use Prim.Native.Nat.{ℕ, _+_, _*_, _-_, _≤_}
 use native.Mathlib.Omega.{arith}
 use lib.Dec.{eqb}
 use lib.ListN.{length, take, replicate, length-replicate}
@@ -11,10 +11,10 @@ use borrow.Author.Tests.{eqb-true}
 use Rattle.columns.specs.Column.{pick}
 use Rattle.sheet.specs.Format.{base}
 use Rattle.sheet.specs.Line.{Line, letter}
-use Rattle.sheet.specs.Sheet.{lines}
+use Rattle.sheet.specs.Sheet.{lines, count}
 use Rattle.sheet.specs.SheetLaws.{length-lines}
 use Rattle.model.specs.Decl.{bit}
-use Rattle.meaning.specs.Program.{name-line, arg-line, type-line, local-line, import-line, param-line, ctor-line, field-line, is, select}
+use Rattle.meaning.specs.Program.{name-line, arg-line, type-line, local-line, import-line, param-line, ctor-line, field-line, select, verdict-line}
 use Rattle.meaning.specs.Rows.{count-of}
 use Rattle.answer.specs.Answer.{refusal, sheet-rows}
 use Rattle.answer.specs.Cut.{Call}
@@ -28,41 +28,12 @@ use Rattle.refusals.specs.Rows.{with-counts, checked-of, Passed}
 use Rattle.refusals.specs.RowsLaws.{accepted-passed, passed-checked, passed-kept}
 use Rattle.tables.specs.Tables.{decls-of, sizes-of, cells}
 use Rattle.sizing.specs.Sizing.{Counted}
-use Rattle.sizing.specs.SizingLaws.{lines-few}
 use Rattle.built.specs.declared.Built.{Built}
 use Rattle.built.specs.Built.{refused-as, given, Gives}
 use Rattle.built.specs.BuiltLaws.{rows-sheet, gives-refused}
+use Rattle.decoder.specs.DecodingLaws.{verdicts-all}
 
--- ---- the lines of all letters together
--- at most one of the letters is a line's
-one-letter : (x : ℕ) → bit (eqb x 78) + bit (eqb x 65) + bit (eqb x 89) + bit (eqb x 80) + bit (eqb x 67) + bit (eqb x 70) ≤ 1
-one-letter x = go (eqb x 78) refl (eqb x 65) refl (eqb x 89) refl (eqb x 80) refl (eqb x 67) refl (eqb x 70) refl
-  where
-    go : (a : Bool) → eqb x 78 ≡ a → (b : Bool) → eqb x 65 ≡ b → (c : Bool) → eqb x 89 ≡ c → (d : Bool) → eqb x 80 ≡ d → (e : Bool) → eqb x 67 ≡ e → (f : Bool) → eqb x 70 ≡ f
-        → bit a + bit b + bit c + bit d + bit e + bit f ≤ 1
-    go true p true q c r d s e t f u = absurd (omega (arith, eqb-true x 78 p, eqb-true x 65 q))
-    go true p false q true r d s e t f u = absurd (omega (arith, eqb-true x 78 p, eqb-true x 89 r))
-    go true p false q false r true s e t f u = absurd (omega (arith, eqb-true x 78 p, eqb-true x 80 s))
-    go true p false q false r false s true t f u = absurd (omega (arith, eqb-true x 78 p, eqb-true x 67 t))
-    go true p false q false r false s false t true u = absurd (omega (arith, eqb-true x 78 p, eqb-true x 70 u))
-    go true p false q false r false s false t false u = omega arith
-    go false p true q true r d s e t f u = absurd (omega (arith, eqb-true x 65 q, eqb-true x 89 r))
-    go false p true q false r true s e t f u = absurd (omega (arith, eqb-true x 65 q, eqb-true x 80 s))
-    go false p true q false r false s true t f u = absurd (omega (arith, eqb-true x 65 q, eqb-true x 67 t))
-    go false p true q false r false s false t true u = absurd (omega (arith, eqb-true x 65 q, eqb-true x 70 u))
-    go false p true q false r false s false t false u = omega arith
-    go false p false q true r true s e t f u = absurd (omega (arith, eqb-true x 89 r, eqb-true x 80 s))
-    go false p false q true r false s true t f u = absurd (omega (arith, eqb-true x 89 r, eqb-true x 67 t))
-    go false p false q true r false s false t true u = absurd (omega (arith, eqb-true x 89 r, eqb-true x 70 u))
-    go false p false q true r false s false t false u = omega arith
-    go false p false q false r true s true t f u = absurd (omega (arith, eqb-true x 80 s, eqb-true x 67 t))
-    go false p false q false r true s false t true u = absurd (omega (arith, eqb-true x 80 s, eqb-true x 70 u))
-    go false p false q false r true s false t false u = omega arith
-    go false p false q false r false s true t true u = absurd (omega (arith, eqb-true x 67 t, eqb-true x 70 u))
-    go false p false q false r false s true t false u = omega arith
-    go false p false q false r false s false t true u = omega arith
-    go false p false q false r false s false t false u = omega arith
-
+-- ---- the cells of the table
 count-step : (x : ℕ) (l : Line) (ls : List Line) → count-of x (l ∷ ls) ≡ bit (eqb (letter l) x) + count-of x ls
 unfolding select
 count-step x l ls = go (eqb (letter l) x)
@@ -71,18 +42,48 @@ count-step x l ls = go (eqb (letter l) x)
     go true = omega arith
     go false = omega arith
 
-all-letters : (ls : List Line) → count-of name-line ls + count-of arg-line ls + count-of type-line ls + count-of param-line ls + count-of ctor-line ls + count-of field-line ls ≤ length ls
-unfolding select
-all-letters [] = omega arith
-all-letters (l ∷ ls) =
-    omega (arith, count-step name-line l ls, count-step arg-line l ls, count-step type-line l ls, count-step param-line l ls, count-step ctor-line l ls, count-step field-line l ls, one-letter (letter l), all-letters ls)
+-- a line has one letter
+bit-le : (b : Bool) → bit b ≤ 1
+bit-le true = omega arith
+bit-le false = omega arith
 
--- the table of every sheet
-pub cells-few : (b : List ℕ) → Passed b → cells (sizes-of (lines 6 b)) ≤ 8336
-unfolding sizes-of counts-of
-cells-few b p =
-    let k = passed-kept b p in
-    omega (arith, k .types, k .args, k .names, k .decls, all-letters (lines 6 b), length-lines 6 b, lines-few b p)
+-- what a line takes of the table, by its letter: six cells at the most
+taken : ℕ → ℕ
+taken x = bit (eqb x 78) + bit (eqb x 65) + 4 * bit (eqb x 89) + 6 * bit (eqb x 68) + 6 * bit (eqb x 73) + 6 * bit (eqb x 86) + bit (eqb x 80) + 2 * bit (eqb x 67) + 3 * bit (eqb x 70)
+
+six : (x : ℕ) → taken x ≤ 6
+unfolding taken
+six x =
+    go (eqb x 78) refl (eqb x 65) refl (eqb x 89) refl (eqb x 68) refl (eqb x 73) refl (eqb x 86) refl (eqb x 80) refl (eqb x 67) refl (eqb x 70) refl
+  where
+    one : (n m : ℕ) (b : Bool) → eqb x n ≡ true → eqb x m ≡ b → (n ≡ m → ⊥) → bit b ≡ 0
+    one n m true e f d = absurd (d (sym (eqb-true x n e) ∙ eqb-true x m f))
+    one n m false e f d = refl
+
+    go : (a : Bool) → eqb x 78 ≡ a → (b : Bool) → eqb x 65 ≡ b → (c : Bool) → eqb x 89 ≡ c → (d : Bool) → eqb x 68 ≡ d → (e : Bool) → eqb x 73 ≡ e → (f : Bool) → eqb x 86 ≡ f → (g : Bool) → eqb x 80 ≡ g → (h : Bool) → eqb x 67 ≡ h → (i : Bool) → eqb x 70 ≡ i
+        → bit a + bit b + 4 * bit c + 6 * bit d + 6 * bit e + 6 * bit f + bit g + 2 * bit h + 3 * bit i ≤ 6
+    go a pa b pb c pc true pd e pe f pf g pg h ph i pi =
+        omega (arith, one 68 78 a pd pa (λ z. omega arith), one 68 65 b pd pb (λ z. omega arith), one 68 89 c pd pc (λ z. omega arith), one 68 73 e pd pe (λ z. omega arith), one 68 86 f pd pf (λ z. omega arith), one 68 80 g pd pg (λ z. omega arith), one 68 67 h pd ph (λ z. omega arith), one 68 70 i pd pi (λ z. omega arith))
+    go a pa b pb c pc false pd true pe f pf g pg h ph i pi =
+        omega (arith, one 73 78 a pe pa (λ z. omega arith), one 73 65 b pe pb (λ z. omega arith), one 73 89 c pe pc (λ z. omega arith), one 73 86 f pe pf (λ z. omega arith), one 73 80 g pe pg (λ z. omega arith), one 73 67 h pe ph (λ z. omega arith), one 73 70 i pe pi (λ z. omega arith))
+    go a pa b pb c pc false pd false pe true pf g pg h ph i pi =
+        omega (arith, one 86 78 a pf pa (λ z. omega arith), one 86 65 b pf pb (λ z. omega arith), one 86 89 c pf pc (λ z. omega arith), one 86 80 g pf pg (λ z. omega arith), one 86 67 h pf ph (λ z. omega arith), one 86 70 i pf pi (λ z. omega arith))
+    go a pa b pb true pc false pd false pe false pf g pg h ph i pi =
+        omega (arith, one 89 78 a pc pa (λ z. omega arith), one 89 65 b pc pb (λ z. omega arith), one 89 80 g pc pg (λ z. omega arith), one 89 67 h pc ph (λ z. omega arith), one 89 70 i pc pi (λ z. omega arith))
+    go a pa b pb false pc false pd false pe false pf g pg h ph true pi =
+        omega (arith, one 70 78 a pi pa (λ z. omega arith), one 70 65 b pi pb (λ z. omega arith), one 70 80 g pi pg (λ z. omega arith), one 70 67 h pi ph (λ z. omega arith))
+    go a pa b pb false pc false pd false pe false pf g pg h ph false pi = omega (arith, bit-le a, bit-le b, bit-le g, bit-le h)
+
+all-taken : (ls : List Line) → count-of name-line ls + count-of arg-line ls + 4 * count-of type-line ls + 6 * count-of local-line ls + 6 * count-of import-line ls + 6 * count-of verdict-line ls + count-of param-line ls + 2 * count-of ctor-line ls + 3 * count-of field-line ls ≤ 6 * length ls
+unfolding select taken
+all-taken [] = omega arith
+all-taken (l ∷ ls) =
+    omega (arith, count-step name-line l ls, count-step arg-line l ls, count-step type-line l ls, count-step local-line l ls, count-step import-line l ls, count-step verdict-line l ls, count-step param-line l ls, count-step ctor-line l ls, count-step field-line l ls, six (letter l), all-taken ls)
+
+-- six cells for each line, and the header's and the end's
+pub cells-room : (b : List ℕ) → Passed b → cells (sizes-of (lines 6 b)) ≤ 6 * count 6 b + 16
+unfolding sizes-of
+cells-room b p = omega (arith, all-taken (lines 6 b), length-lines 6 b, verdicts-all b p)
 
 -- ---- rows 1 to 7
 passed-of : (b : List ℕ) (q : Refusal) (k : Counts) → refusal (sheet-rows base b) ≡ q → with-counts q k .refusal ≡ Accepted → refusal (sheet-rows base b) ≡ Accepted

@@ -3,9 +3,11 @@ use answer::Refusal;
 use built::Built;
 use tables::Sizes;
 ghost use mathlib.Core.Path.{_≡_};
-ghost use Prim.Native.Nat.{_≤_};
+ghost use mathlib.Core.Bool.{false};
+ghost use Prim.Native.Nat.{_+_, _*_, _≤_};
 ghost use lib.ListN.{length};
-ghost use Rattle.sheet.specs.Sheet.{lines};
+ghost use Rattle.sheet.specs.Format.{base};
+ghost use Rattle.sheet.specs.Sheet.{count, lines, row1};
 ghost use Rattle.meaning.specs.Program.{name-line};
 ghost use Rattle.meaning.specs.Rows.{count-of};
 ghost use Rattle.refusals.specs.Rows.{Passed};
@@ -13,12 +15,12 @@ ghost use Rattle.tables.specs.Tables.{Tabled, sizes-of, cells};
 ghost use Rattle.sizing.specs.Sizing.{Counted};
 ghost use Rattle.built.specs.Built.{Gives};
 
-// Cells that a small sheet's table fits, those that nearly every sheet's fits, and those that every sheet's fits.
-const FEW: usize = 480;
+// Bytes of 77, 338 and 1,024 lines, whose cells fit 480, 2,048 and 6,160: six for each line, and 16 for the table's header and end.
+const SMALL: usize = 2464;
 
-const MANY: usize = 2048;
+const MIDDLE: usize = 10816;
 
-const CELLS: usize = 8336;
+const LARGE: usize = 32768;
 
 // Memory for the passes, of as many declarations as a sheet may have.
 fn tabled(s: &[u8], t: &[u32], names: usize, v: &mut [u8], l: &mut [u8]) -> Built
@@ -51,9 +53,10 @@ fn filled(s: &[u8], z: Sizes, t: &mut [u32], v: &mut [u8], l: &mut [u8]) -> Buil
     tabled(s, t, names, v, l)
 }
 
-// A sheet that passed rows 1 to 7, with as many lines of each kind.
+// A sheet that passed rows 1 to 7, with as many lines of each kind. Its table has room where its lines had.
 fn passed(
     s: &[u8],
+    t: &mut [u32],
     names: usize,
     args: usize,
     types: usize,
@@ -62,32 +65,26 @@ fn passed(
     l: &mut [u8],
 ) -> Built
     requires { ⌜ Passed (now s) × Counted (lines 6 (now s)) names args types decls ⌝ }
+    requires { ⌜ 6 * count 6 (now s) + 16 ≤ length (now t) ⌝ }
     ensures { λ r. ⌜ Gives (now (s .entry)) (now (v .entry)) (now (l .entry)) r (now (v .exit)) (now (l .exit)) ⌝ }
 {
     let z = sizing::sizes_of(s, names, args, types, decls);
     let m = sizing::cells(z);
-    if m <= FEW {
-        let mut t = [0u32; FEW];
-        return filled(s, z, &mut t[0..m], v, l);
-    }
-    if m <= MANY {
-        let mut t = [0u32; MANY];
-        return filled(s, z, &mut t[0..m], v, l);
-    }
-    let mut t = [0u32; CELLS];
     filled(s, z, &mut t[0..m], v, l)
 }
 
-// Builds a sheet. A refusal changes no byte of the outputs; else each of them begins with its sheet, and what stands behind it stays.
-pub fn build(s: &[u8], v: &mut [u8], l: &mut [u8]) -> Built
+// Rows 2 to 7, with memory for the cells of the lines and then for the table; and the build of a sheet that passes them.
+fn checked(s: &[u8], t: &mut [u32], v: &mut [u8], l: &mut [u8]) -> Built
+    requires { ⌜ (row1 base (now s) ≡ false) × (6 * count 6 (now s) + 16 ≤ length (now t)) ⌝ }
     ensures { λ r. ⌜ Gives (now (s .entry)) (now (v .entry)) (now (l .entry)) r (now (v .exit)) (now (l .exit)) ⌝ }
 {
-    let checked = refusals::check_rows(s);
+    let checked = refusals::check_rows(s, t);
     let refusal = checked.refusal;
     let counts = checked.counts;
     match refusal {
         Refusal::Accepted => passed(
             s,
+            t,
             counts.names,
             counts.args,
             counts.types,
@@ -97,4 +94,27 @@ pub fn build(s: &[u8], v: &mut [u8], l: &mut [u8]) -> Built
         ),
         Refusal::Refused { code, place } => built::refused(code, place),
     }
+}
+
+// Builds a sheet. A refusal changes no byte of the outputs; else each of them begins with its sheet, and what stands behind it stays.
+pub fn build(s: &[u8], v: &mut [u8], l: &mut [u8]) -> Built
+    ensures { λ r. ⌜ Gives (now (s .entry)) (now (v .entry)) (now (l .entry)) r (now (v .exit)) (now (l .exit)) ⌝ }
+{
+    if format::row1(s) {
+        return built::refused(1, 0);
+    }
+    if s.len() <= SMALL {
+        let mut t = [0u32; 480];
+        return checked(s, &mut t, v, l);
+    }
+    if s.len() <= MIDDLE {
+        let mut t = [0u32; 2048];
+        return checked(s, &mut t, v, l);
+    }
+    if s.len() <= LARGE {
+        let mut t = [0u32; 6160];
+        return checked(s, &mut t, v, l);
+    }
+    let mut t = [0u32; 12304];
+    checked(s, &mut t, v, l)
 }

@@ -1,6 +1,5 @@
 -- Where the walk of row 4 and the counts begins, and what it hands out. Assumes nothing.
-use mathlib.Core.List.{List}
-use Prim.Native.Nat.{ℕ, _-_}
+use Prim.Native.Nat.{_-_}
 use lib.Dec.{ltb}
 use Rattle.columns.specs.Column.{_⇒_∥_}
 use Rattle.sheet.specs.Format.{Format}
@@ -23,5 +22,5 @@ kept f r =
 abbrev pub headed : Runs → Tally
 headed r = record { names = r .names; args = r .args - r .names; types = r .types - r .args; decls = 0; params = 0; ctors = 0; fields = 0 }
 
-abbrev pub declared : Tally → List ℕ → Counts
-declared t starts = record { names = t .names; args = t .args; types = t .types; decls = t .decls; starts = starts }
+abbrev pub declared : Tally → Counts
+declared t = record { names = t .names; args = t .args; types = t .types; decls = t .decls }

@@ -1,5 +1,5 @@
 -- The counts after the runs at the front, to which row 4 does not apply where they are within their limits. Assumes nothing.
-use mathlib.Core.Path.{_≡_, refl, ap, sym, _∙_}
+use mathlib.Core.Path.{_≡_, refl, sym, _∙_}
 use mathlib.Core.List.{List}
 use mathlib.Core.Bool.{Bool, true, false}
 use Prim.Native.Nat.{ℕ, suc, _+_, _-_, _≤_, _<_}
@@ -11,14 +11,14 @@ use borrow.Author.Tests.{lt-leb, ltb-false}
 use Rattle.columns.specs.Column.{pick}
 use Rattle.sheet.specs.Format.{Format}
 use Rattle.sheet.specs.Line.{Line, letter}
-use Rattle.sheet.specs.Sheet.{first, count, lines}
+use Rattle.sheet.specs.Sheet.{first}
 use Rattle.sheet.specs.FirstLaws.{first-more}
-use Rattle.meaning.specs.Rows.{line-at, heads-before, row4}
+use Rattle.meaning.specs.Rows.{line-at, row4}
 use Rattle.runs.specs.declared.Runs.{Runs}
 use Rattle.runs.specs.RunsLaws.{upward, Spans}
 use Rattle.limits.specs.declared.Tally.{Tally}
 use Rattle.limits.specs.Limits.{tally-before, counted, past, counts-of}
-use Rattle.limits.specs.LimitsLaws.{tally-zero, tally-suc, row4-past, Found, found-end, counts-whole}
+use Rattle.limits.specs.LimitsLaws.{tally-zero, tally-suc, row4-past, counts-whole}
 use Rattle.counts.specs.Walk.{no-runs, kept, headed, declared}
 
 -- row 4 applies to no line before line i, and the lines before it are counted by t
@@ -108,12 +108,6 @@ module _ (f : Format) (ls : List Line) where
             counts = after-runs r s (ltb-false (f .names) (r .names) n) (ltb-false (f .args) (r .args - r .names) a) (ltb-false (f .types) (r .types - r .args) y);
           }
 
--- ---- for the walk
-pub decls-are : (f : Format) (ls : List Line) (i : ℕ) (t : Tally) → Counted f ls i t → t .decls ≡ heads-before ls i
-unfolding tally-before
-decls-are f ls i t c = ap (λ (k : Tally). k .decls) (c .tally)
-
--- what the counts after the last line and the places found say
-pub declared-all : (w : ℕ) (b : List ℕ) (i : ℕ) (t : Tally) (starts : List ℕ) → i ≡ count w b → t ≡ tally-before (lines w b) i → Found (lines w b) i starts
-    → declared t starts ≡ counts-of (lines w b)
-declared-all w b i t starts e q g = rw (q, e, found-end w b i starts e g) (counts-whole w b)
+-- what the counts after the last line say
+pub declared-all : (ls : List Line) (i : ℕ) (t : Tally) → i ≡ length ls → t ≡ tally-before ls i → declared t ≡ counts-of ls
+declared-all ls i t e q = rw (q, e) (counts-whole ls)

@@ -1,3 +1,4 @@
 pub mod Ways
 pub mod WaysLaws
 pub mod DistinctLaws
+pub mod BareLaws

@@ -4,12 +4,20 @@ use mathlib.Core.List.{List}
 use mathlib.Core.Bool.{Bool, true, false, _&&_, _||_}
 use Prim.Native.Nat.{ℕ, zero, suc, _+_, _<_}
 use lib.Dec.{eqb}
-use lib.ListN.{getD, set}
+use lib.ListN.{getD, set, length}
 use Rattle.columns.specs.Column.{pick, _⇒_∥_}
 use Rattle.sheet.specs.Line.{Line, number}
 use Rattle.meaning.specs.Program.{param-line, ctor-line, field-line, is, is-head}
-use Rattle.meaning.specs.Rows.{some-below, line-at, count-before, heads-before, is-ctor, same-decl, same-ctor}
+use Rattle.meaning.specs.Rows.{some-below, line-at, count-before, heads-before, is-ctor, same-decl, same-ctor, row5, row4, row3}
 use Rattle.distinct.specs.declared.repeats.Groups.{Groups}
+use Rattle.sheet.specs.Sheet.{first}
+use Rattle.sheet.specs.Format.{base}
+
+-- the lines passed rows 3, 4 and 5
+pub record Ranged (ls : List Line) : Type 0 where
+  pub in-order : first (row3 ls) (suc (length ls)) ≡ suc (length ls)
+  pub in-limits : first (row4 base ls) (length ls) ≡ length ls
+  pub in-range : first (row5 ls) (length ls) ≡ length ls
 
 -- The ways in which the name of a line is not to repeat that of an earlier one: the names of all
 -- declarations, of the parameters of one declaration, of the fields of one constructor or record,

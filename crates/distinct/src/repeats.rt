@@ -5,10 +5,11 @@
 use limits::NAMES;
 ghost use mathlib.Core.Path.{_≡_};
 ghost use mathlib.Core.Bool.{_||_};
-ghost use Prim.Native.Nat.{_<_};
+ghost use Prim.Native.Nat.{_/_, _<_};
 ghost use lib.Dec.{eqb};
-ghost use lib.ListN.{getD, set};
-ghost use Rattle.sheet.specs.Sheet as sheet;
+ghost use lib.ListN.{length, getD, set};
+ghost use Rattle.cells.specs.Cells.{lines-of};
+ghost use Rattle.meaning.specs.Rows as rows;
 ghost use Rattle.distinct.specs.Ways as ways;
 
 // The groups within which the names of parameters and of fields are to differ, counted from 1. All
@@ -37,7 +38,7 @@ fn seen(last: &mut [u16; NAMES], x: usize, group: u16) -> bool
 
 // Whether line i repeats an earlier one in one of the ways; its name is seen in them from now on.
 pub fn repeats(
-    s: &[u8],
+    t: &[u32],
     i: usize,
     g: Groups,
     declared: &mut [u16; NAMES],
@@ -45,41 +46,41 @@ pub fn repeats(
     fields: &mut [u16; NAMES],
     ctors: &mut [u16; NAMES],
 ) -> bool
-    requires { ⌜ sheet.row2 6 (now s) ≡ sheet.count 6 (now s) ⌝ }
-    requires { ⌜ ways.Named (sheet.line 6 (now s) i) ⌝ }
-    ensures { λ r. ⌜ ways.After (sheet.line 6 (now (s .entry)) i) g (now (declared .entry)) (now (params .entry)) (now (fields .entry)) (now (ctors .entry)) r (now (declared .exit)) (now (params .exit)) (now (fields .exit)) (now (ctors .exit)) ⌝ }
+    requires { ⌜ i < length (now t) / 6 ⌝ }
+    requires { ⌜ ways.Named (rows.line-at (lines-of (now t)) i) ⌝ }
+    ensures { λ r. ⌜ ways.After (rows.line-at (lines-of (now (t .entry))) i) g (now (declared .entry)) (now (params .entry)) (now (fields .entry)) (now (ctors .entry)) r (now (declared .exit)) (now (params .exit)) (now (fields .exit)) (now (ctors .exit)) ⌝ }
 {
-    let letter = reader::letter_of(s, i);
-    let x = reader::value(s, i, 0) as usize;
+    let letter = cells::letter(t, i);
+    let x = cells::number(t, i, 0) as usize;
     match letter {
-        b'D' | b'I' => {
+        68 | 73 => {
             let again = seen(declared, x, 1);
-            if reader::value(s, i, 2) == 2 {
+            if cells::number(t, i, 2) == 2 {
                 return either(again, seen(ctors, x, 1));
             }
             again
         }
-        b'P' => seen(params, x, g.params),
-        b'F' => seen(fields, x, g.fields),
-        b'C' => seen(ctors, x, 1),
+        80 => seen(params, x, g.params),
+        70 => seen(fields, x, g.fields),
+        67 => seen(ctors, x, 1),
         _ => false,
     }
 }
 
 // The groups after line i: a declaration begins one for its parameters, and one for its fields, and
 // so does each constructor.
-pub fn groups_after(s: &[u8], i: usize, g: Groups) -> Groups
-    requires { ⌜ sheet.row2 6 (now s) ≡ sheet.count 6 (now s) ⌝ }
+pub fn groups_after(t: &[u32], i: usize, g: Groups) -> Groups
+    requires { ⌜ i < length (now t) / 6 ⌝ }
     requires { ⌜ (g .params < 65535) × (g .fields < 65535) ⌝ }
-    ensures { λ r. ⌜ r ≡ ways.groups-after (sheet.line 6 (now (s .entry)) i) g ⌝ }
+    ensures { λ r. ⌜ r ≡ ways.groups-after (rows.line-at (lines-of (now (t .entry))) i) g ⌝ }
 {
-    let letter = reader::letter_of(s, i);
+    let letter = cells::letter(t, i);
     match letter {
-        b'D' | b'I' => Groups {
+        68 | 73 => Groups {
             params: g.params + 1,
             fields: g.fields + 1,
         },
-        b'C' => Groups {
+        67 => Groups {
             params: g.params,
             fields: g.fields + 1,
         },

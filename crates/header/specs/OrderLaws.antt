@@ -141,6 +141,9 @@ ordered-row3 (x ∷ ls) (suc n) l h =
     let d : is-broken (due-after (Header 0) (take (suc n) (x ∷ ls))) ≡ false = rw (a, row3) at e in
     ordered-due (Header 0) (x ∷ ls) (rw t at d)
 
+pub ordered-of : (ls : List Line) → first (row3 ls) (suc (length ls)) ≡ suc (length ls) → Ordered 0 (map letter ls)
+ordered-of ls h = ordered-row3 ls (length ls) refl h
+
 pub ordered-lines : (w : ℕ) (b : List ℕ) → row2 w b ≡ count w b → first (row3 (raws w b)) (suc (count w b)) ≡ suc (count w b) → Ordered 0 (map letter (lines w b))
 unfolding raws
 ordered-lines w b good h = rw (letters-raws w b good) at (ordered-row3 (raws w b) (count w b) (length-table (raw w b) (count w b)) h)
@@ -388,14 +391,13 @@ lower-le p (l ∷ ls) = go (ltb (rank (letter l)) p) (lower-le p ls)
 pub header-le : (ls : List Line) → header ls ≤ length ls
 header-le ls = omega (arith, lower-head ls, lower-le 3 ls)
 
--- ---- the lines of a sheet before the declarations
-module _ (b : List ℕ) (from : ℕ) (h : Headed b from) where
-  pub from-le : from ≤ count 6 b
-  from-le = omega (arith, h .from-is, header-le (lines 6 b), length-lines 6 b)
+-- ---- the lines before the declarations
+module _ (ls : List Line) (from : ℕ) (h : Headed ls from) where
+  pub from-le : from ≤ length ls
+  from-le = omega (arith, h .from-is, header-le ls)
 
-  pub before-from : (i : ℕ) → i < from → (letter (line 6 b i) ≡ name-line) ⊎ ((letter (line 6 b i) ≡ arg-line) ⊎ (letter (line 6 b i) ≡ type-line))
-  before-from i k =
-      header-cases (letter (line 6 b i)) (rw (← (getD-lines 6 b i)) (header-letter (lines 6 b) (ordered-lines 6 b (h .no-bad) (h .in-order)) i (omega (arith, h .from-is))))
+  pub before-from : (i : ℕ) → i < from → (letter (getD ls i bad) ≡ name-line) ⊎ ((letter (getD ls i bad) ≡ arg-line) ⊎ (letter (getD ls i bad) ≡ type-line))
+  before-from i k = header-cases (letter (getD ls i bad)) (header-letter ls (ordered-of ls (h .in-order)) i (omega (arith, h .from-is)))
 
 pub count-of-le : (x : ℕ) (ls : List Line) → count-of x ls ≤ length ls
 unfolding select

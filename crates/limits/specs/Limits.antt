@@ -9,17 +9,7 @@ use Rattle.columns.specs.Column.{_⇒_∥_}
 use Rattle.sheet.specs.Format.{Format, base}
 use Rattle.sheet.specs.Line.{Line}
 use Rattle.sheet.specs.Sheet.{first, count, lines, row1, row2}
-use Rattle.model.specs.Decl.{table}
-use Rattle.meaning.specs.Program.{
-  name-line,
-  arg-line,
-  type-line,
-  local-line,
-  import-line,
-  param-line,
-  ctor-line,
-  field-line,
-}
+use Rattle.meaning.specs.Program.{name-line, arg-line, type-line, local-line, import-line, param-line, ctor-line, field-line}
 use Rattle.meaning.specs.Rows.{count-of, count-before, heads-before, params-after, row4}
 use Rattle.limits.specs.declared.Tally.{Tally}
 use Rattle.limits.specs.declared.Counts.{Counts}
@@ -91,10 +81,6 @@ pub record Small (t : Tally) : Type 0 where
 unfoldable pub start : List Line → ℕ → ℕ
 start ls k = first (λ i. ltb k (heads-before ls (suc i))) (length ls)
 
--- the starts of as many declarations as a sheet may have, and of one more
-unfoldable pub starts-of : List Line → List ℕ
-starts-of ls = table (start ls) (suc (base .decls))
-
 unfoldable pub counts-of : List Line → Counts
 counts-of ls =
     record {
@@ -102,7 +88,6 @@ counts-of ls =
       args = count-of arg-line ls;
       types = count-of type-line ls;
       decls = count-of local-line ls + count-of import-line ls;
-      starts = starts-of ls;
     }
 
 -- the bytes passed rows 1, 2 and 4

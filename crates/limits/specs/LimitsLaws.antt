@@ -1,6 +1,6 @@
 -- The counts of row 4 line by line, the limits that a sheet keeps where row 4 does not apply, and where declarations begin.
 -- Assumes nothing.
-use mathlib.Core.Path.{_≡_, refl, ap, sym, _∙_}
+use mathlib.Core.Path.{_≡_, refl, sym, _∙_}
 use mathlib.Core.List.{List}
 use mathlib.Core.Logic.{_⊎_, inl, inr}
 use mathlib.Core.Bool.{Bool, true, false, _||_, not}
@@ -8,22 +8,19 @@ use Prim.Native.Nat.{ℕ, zero, suc, _+_, _%_, _≤_, _<_}
 use native.Mathlib.Omega.{arith}
 use native.Mathlib.Numerals.{add-one}
 use lib.Dec.{eqb, leb, ltb}
-use lib.ListN.{length, getD, set, take, replicate, length-set, getD-replicate}
-use lib.Seq.{take-length, ext-getD, getD-set-same, getD-set-other}
-use borrow.Author.Tests.{lt-ltb, le-ltb, ltb-true, ltb-false, leb-true, leb-false, eqb-true, eqb-false}
+use lib.ListN.{length, take}
+use lib.Seq.{take-length}
+use borrow.Author.Tests.{lt-ltb, le-ltb, ltb-true, ltb-false, leb-true, leb-false, eqb-true}
 use Rattle.columns.specs.Column.{pick}
 use Rattle.sheet.specs.Format.{Format, base}
 use Rattle.sheet.specs.Line.{Line, letter}
-use Rattle.sheet.specs.Sheet.{first, count, line, lines, row1}
-use Rattle.sheet.specs.SheetLaws.{length-lines, getD-lines}
+use Rattle.sheet.specs.Sheet.{first, row1}
 use Rattle.sheet.specs.FirstLaws.{Place, first-place, first-le-at, first-found, first-none, none-first}
-use Rattle.model.specs.Decl.{table}
 use Rattle.meaning.specs.Program.{name-line, arg-line, type-line, param-line, ctor-line, field-line, is, is-head, select}
 use Rattle.meaning.specs.Rows.{line-at, count-before, heads-before, params-after, row4}
 use Rattle.order.specs.StepLaws.{count-before-step, heads-before-step, params-after-suc, count-before-le, heads-before-le, params-after-le, heads-before-mono}
 use Rattle.limits.specs.declared.Tally.{Tally}
-use Rattle.limits.specs.Limits.{head-letter, none, tally-before, counted, past, Small, start, starts-of, counts-of, Kept}
-use Rattle.model_laws.specs.Lists.{length-table, getD-table}
+use Rattle.limits.specs.Limits.{head-letter, none, tally-before, counted, past, Small, start, counts-of, Kept}
 
 -- ---- letters
 -- a letter by the kind of its lines
@@ -219,10 +216,6 @@ module _ (ls : List Line) where
       first-none (λ j. ltb k (heads-before ls (suc j))) (length ls)
       (λ j l. le-ltb k (heads-before ls (suc j)) (omega (arith, heads-before-mono ls (suc j) (length ls) l (omega arith))))
 
-  pub starts-at : (k : ℕ) → k < 97 → getD (starts-of ls) k 0 ≡ start ls k
-  unfolding starts-of
-  starts-at k h = getD-table (start ls) 97 k 0 h
-
   -- up to the start of declaration k, and no further back, there are more than k D and I lines
   start-place : (k : ℕ) → Place (λ i. ltb k (heads-before ls (suc i))) (length ls) (start ls k)
   unfolding start
@@ -275,51 +268,6 @@ module _ (ls : List Line) where
       go true e false q = leb-false (start ls (suc k)) (start ls k) q
       go false e d q = omega (arith, l, start-past (suc k) (ltb-false (suc k) (heads-before ls (length ls)) e))
 
-ltb-other : (k m n : ℕ) → n ≡ m + 1 → (k ≡ m → ⊥) → ltb k m ≡ ltb k n
-ltb-other k m n e d = go (ltb k m) refl
-  where
-    go : (b : Bool) → ltb k m ≡ b → ltb k m ≡ ltb k n
-    go true q = q ∙ sym (lt-ltb k n (omega (arith, ltb-true k m q)))
-    go false q = q ∙ sym (le-ltb k n (omega (arith, ltb-false k m q)))
-
--- The places found in the lines before line i: those of the declarations that begin there, and the count of lines for others.
-pub record Found (ls : List Line) (i : ℕ) (places : List ℕ) : Type 0 where
-  pub sized : length places ≡ 97
-  pub held : (k : ℕ) → k < 97 → getD places k 0 ≡ pick (ltb k (heads-before ls i)) (start ls k) (length ls)
-
-module _ (ls : List Line) where
-  pub found-none : (i : ℕ) → heads-before ls i ≡ 0 → Found ls i (replicate 97 (length ls))
-  found-none i e = record { sized = refl; held = λ k h. getD-replicate 97 k (length ls) 0 h ∙ rw (e, le-ltb k 0 (omega arith)) }
-
-  pub found-head : (i : ℕ) (places : List ℕ) → i < length ls → is-head (line-at ls i) ≡ true → heads-before ls i < 97
-      → Found ls i places → Found ls (suc i) (set places (heads-before ls i) i)
-  found-head i places h e m g =
-      record { sized = length-set places (heads-before ls i) i ∙ g .sized; held = λ k l. go k l (eqb k (heads-before ls i)) refl }
-    where
-      go : (k : ℕ) → k < 97 → (b : Bool) → eqb k (heads-before ls i) ≡ b
-          → getD (set places (heads-before ls i) i) k 0 ≡ pick (ltb k (heads-before ls (suc i))) (start ls k) (length ls)
-      go k l true q =
-          let s : k ≡ heads-before ls i = eqb-true k (heads-before ls i) q in
-          let n : heads-before ls (suc i) ≡ heads-before ls i + 1 = rw e at (heads-before-step ls i h) in
-          rw (s, lt-ltb (heads-before ls i) (heads-before ls (suc i)) (omega arith), start-at ls i h e)
-          (getD-set-same places (heads-before ls i) i 0 (omega (arith, g .sized)))
-      go k l false q =
-          let n : heads-before ls (suc i) ≡ heads-before ls i + 1 = rw e at (heads-before-step ls i h) in
-          getD-set-other places (heads-before ls i) k i 0 (eqb-false k (heads-before ls i) q) ∙ g .held k l ∙ ap (λ (b : Bool). pick b (start ls k) (length ls)) (ltb-other k (heads-before ls i) (heads-before ls (suc i)) n (eqb-false k (heads-before ls i) q))
-
-  pub found-other : (i : ℕ) (places : List ℕ) → i < length ls → is-head (line-at ls i) ≡ false → Found ls i places → Found ls (suc i) places
-  found-other i places h e g = record { sized = g .sized; held = λ k l. g .held k l ∙ rw (heads-before-step ls i h, e) }
-
-  pub found-all : (places : List ℕ) → Found ls (length ls) places → places ≡ starts-of ls
-  unfolding starts-of
-  found-all places g =
-      ext-getD 0 places (table (start ls) 97) (g .sized ∙ sym (length-table (start ls) 97))
-      (λ k l. let m : k < 97 = omega (arith, g .sized) in g .held k m ∙ go k (ltb k (heads-before ls (length ls))) refl ∙ sym (getD-table (start ls) 97 k 0 m))
-    where
-      go : (k : ℕ) (b : Bool) → ltb k (heads-before ls (length ls)) ≡ b → pick (ltb k (heads-before ls (length ls))) (start ls k) (length ls) ≡ start ls k
-      go k true q = rw q
-      go k false q = rw q (sym (start-past ls k (ltb-false k (heads-before ls (length ls)) q)))
-
 -- ---- lengths
 pub short-bytes : (b : List ℕ) → row1 base b ≡ false → length b ≤ 65536
 unfolding row1
@@ -329,43 +277,19 @@ short-bytes b e = go (ltb 65536 (length b)) refl e
     go true q k = let z : _≡_ {A = ℕ} 0 1 = cc in absurd (omega arith)
     go false q k = ltb-false 65536 (length b) q
 
--- ---- for a loop over the lines of a sheet, with the tally t before line i and the letter x of that line
-module _ (w : ℕ) (b : List ℕ) (t : Tally) (x i : ℕ) (e : x ≡ letter (line w b i)) (q : t ≡ tally-before (lines w b) i) where
-  pub tally-next : i < count w b → counted t x ≡ tally-before (lines w b) (suc i)
-  tally-next h =
-      let m : i < length (lines w b) = omega (arith, length-lines w b) in
-      rw (q, e, tally-suc (lines w b) i m, getD-lines w b i)
+-- ---- for a loop over lines, with the tally t before line i and the letter x of that line
+module _ (ls : List Line) (t : Tally) (x i : ℕ) (e : x ≡ letter (line-at ls i)) (q : t ≡ tally-before ls i) where
+  pub tally-next : i < length ls → counted t x ≡ tally-before ls (suc i)
+  tally-next h = rw (q, e, tally-suc ls i h)
 
-  pub row4-next : (f : Format) → row4 f (lines w b) i ≡ past f t x
-  row4-next f = rw (q, e, row4-past f (lines w b) i, getD-lines w b i)
+  pub row4-next : (f : Format) → row4 f ls i ≡ past f t x
+  row4-next f = rw (q, e, row4-past f ls i)
 
-  pub small-next : i < count w b → i < 1152921504606846976 → Small t
-  small-next h l = rw q (tally-small (lines w b) i (omega (arith, length-lines w b)) l)
+  pub small-next : i < length ls → i < 1152921504606846976 → Small t
+  small-next h l = rw q (tally-small ls i (omega arith) l)
 
--- ---- for a loop over the lines of a sheet, with the number k of declarations before line i, and the places found before and after it
-module _ (w : ℕ) (b : List ℕ) where
-  pub found-begin : (i : ℕ) → heads-before (lines w b) i ≡ 0 → Found (lines w b) i (replicate 97 (count w b))
-  found-begin i e = rw (length-lines w b) at (found-none (lines w b) i e)
-
-  pub found-end : (i : ℕ) (places : List ℕ) → i ≡ count w b → Found (lines w b) i places → places ≡ starts-of (lines w b)
-  found-end i places e g = let m : i ≡ length (lines w b) = omega (arith, length-lines w b) in found-all (lines w b) places (rw m at g)
-
-  module _ (x i : ℕ) (e : x ≡ letter (line w b i)) (h : i < count w b) where
-    inside : i < length (lines w b)
-    inside = omega (arith, length-lines w b)
-
-    same-head : (c : Bool) → head-letter x ≡ c → is-head (line-at (lines w b) i) ≡ c
-    same-head c g = rw (getD-lines w b i, ← e) g
-
-    module _ (k : ℕ) (places places' : List ℕ) (q : k ≡ heads-before (lines w b) i) (g : Found (lines w b) i places) where
-      pub found-head-next : head-letter x ≡ true → k < 97 → places' ≡ set places k i → Found (lines w b) (suc i) places'
-      found-head-next t m r = rw (r, q) (found-head (lines w b) i places inside (same-head true t) (rw (← q) m) g)
-
-      pub found-other-next : head-letter x ≡ false → places' ≡ places → Found (lines w b) (suc i) places'
-      found-other-next t r = rw r (found-other (lines w b) i places inside (same-head false t) g)
-
-  -- what the tally after the last line and the places say
-  pub counts-whole : (let t : Tally = tally-before (lines w b) (count w b) in
-      record { names = t .names; args = t .args; types = t .types; decls = t .decls; starts = starts-of (lines w b) }) ≡ counts-of (lines w b)
-  unfolding tally-before counts-of
-  counts-whole = rw (← length-lines w b, take-length (lines w b))
+-- what the tally after the last line says
+pub counts-whole : (ls : List Line) → (let t : Tally = tally-before ls (length ls) in
+    record { names = t .names; args = t .args; types = t .types; decls = t .decls }) ≡ counts-of ls
+unfolding tally-before counts-of
+counts-whole ls = rw (take-length ls)

@@ -1,5 +1,4 @@
-// Row 4's counts and limits, by the letter of a line; and what the lines of a sheet declare: how many
-// there are of each kind, and where each declaration begins.
+// Row 4's counts and limits, by the letter of a line; and how many lines of each kind a sheet has.
 ghost use mathlib.Core.Path.{_≡_};
 ghost use Rattle.sheet.specs.Format.{base};
 ghost use Rattle.limits.specs.Limits as limits;
@@ -30,59 +29,47 @@ pub struct Tally {
     pub fields: usize,
 }
 
-// What the lines of a sheet declare. The declaration of number k begins at line starts[k]; from
-// the last one on, starts has the count of lines.
+// What the lines of a sheet declare.
 pub struct Counts {
     pub names: usize,
     pub args: usize,
     pub types: usize,
     pub decls: usize,
-    pub starts: [u16; 97],
-}
-
-// A D or I line's letter.
-pub fn is_head(letter: u8) -> bool
-    ensures { λ r. ⌜ r ≡ limits.head-letter letter ⌝ }
-{
-    match letter {
-        b'D' | b'I' => true,
-        _ => false,
-    }
 }
 
 // After a line of this letter.
-pub fn counted(t: Tally, letter: u8) -> Tally
+pub fn counted(t: Tally, letter: u32) -> Tally
     requires { ⌜ limits.Small t ⌝ }
     ensures { λ r. ⌜ r ≡ limits.counted t letter ⌝ }
 {
     let mut next = t;
     match letter {
-        b'N' => {
+        78 => {
             next.names += 1;
             next
         }
-        b'A' => {
+        65 => {
             next.args += 1;
             next
         }
-        b'Y' => {
+        89 => {
             next.types += 1;
             next
         }
-        b'D' | b'I' => {
+        68 | 73 => {
             next.decls += 1;
             next.params = 0;
             next
         }
-        b'P' => {
+        80 => {
             next.params += 1;
             next
         }
-        b'C' => {
+        67 => {
             next.ctors += 1;
             next
         }
-        b'F' => {
+        70 => {
             next.fields += 1;
             next
         }
@@ -91,17 +78,17 @@ pub fn counted(t: Tally, letter: u8) -> Tally
 }
 
 // A line of this letter is past the limit of its kind.
-pub fn past(t: Tally, letter: u8) -> bool
+pub fn past(t: Tally, letter: u32) -> bool
     ensures { λ r. ⌜ r ≡ limits.past base t letter ⌝ }
 {
     match letter {
-        b'N' => t.names >= NAMES,
-        b'A' => t.args >= ARGS,
-        b'Y' => t.types >= TYPES,
-        b'D' | b'I' => t.decls >= DECLS,
-        b'P' => t.params >= PARAMS,
-        b'C' => t.ctors >= CTORS,
-        b'F' => t.fields >= FIELDS,
+        78 => t.names >= NAMES,
+        65 => t.args >= ARGS,
+        89 => t.types >= TYPES,
+        68 | 73 => t.decls >= DECLS,
+        80 => t.params >= PARAMS,
+        67 => t.ctors >= CTORS,
+        70 => t.fields >= FIELDS,
         _ => false,
     }
 }

@@ -13,8 +13,8 @@ use lib.Seq.{take-suc, getD-drop, getD-append-seam}
 use borrow.Author.Tests.{eqb-true, not-false}
 use Rattle.columns.specs.Column.{pick, _⇒_∥_}
 use Rattle.sheet.specs.Line.{Line, bad, letter, number}
-use Rattle.sheet.specs.Sheet.{first, count, line, lines}
-use Rattle.sheet.specs.SheetLaws.{length-lines, getD-lines}
+use Rattle.sheet.specs.Sheet.{count, lines}
+use Rattle.sheet.specs.SheetLaws.{length-lines}
 use Rattle.sheet.specs.FirstLaws.{none-first}
 use Rattle.sheet.specs.ListLaws.{false-true, both, one-of}
 use Rattle.model.specs.Decl.{NewtypeLayout, Body, TAbstract, TAbbrev, TRecord, TVariant, Dtype, CtorLayout, Layout, L-erased, L-newtype, L-struct, L-abbrev, L-opaque, Origin, here, imported, dtype-at, origin-at, close-fields}
@@ -160,15 +160,13 @@ module _ (b : List ℕ) (p : Passed b) (d : ℕ) (h : d < decls-of (lines 6 b)) 
   pub judged : is import-line (head-line ls d) ≡ true → Judged ls d
   judged e =
       let n : ℕ = kept-after 0 (take place ls) in
-      let s : head-line ls d ≡ line 6 b (start ls d) = ap (λ (g : Group). g .head) (group-is ls d h) ∙ getD-lines 6 b (start ls d) in
-      let l : place < count 6 b = omega (arith, inside, length-lines 6 b) in
-      let v : line 6 b place ≡ w .last = sym (getD-lines 6 b place) ∙ last-is in
-      let r : good-line (line 6 b (start ls d)) n (line 6 b place) ≡ true = not-false _ (sym (row7-line 6 b place l (start ls d) n (head-of-last ∙ getD-lines 6 b (start ls d)) refl) ∙ none-first (row7 ls) (count 6 b) (p .in-verdict) place l) in
+      let s : head-line ls d ≡ line-at ls (start ls d) = ap (λ (g : Group). g .head) (group-is ls d h) in
+      let r : good-line (line-at ls (start ls d)) n (line-at ls place) ≡ true = not-false _ (sym (row7-line ls place inside (start ls d) n head-of-last refl) ∙ none-first (row7 ls) (count 6 b) (p .in-verdict) place (omega (arith, inside, length-lines 6 b))) in
       record {
         kept = n;
         good =
-            ap₂ (λ (x y : Line). good-verdict x n y) s (verdict-last ∙ sym v)
-            ∙ chosen (line 6 b (start ls d)) n (line 6 b place) (eqb-true (letter (line 6 b place)) verdict-line (ap (is verdict-line) v ∙ w .is-last)) (ap (is import-line) (sym s) ∙ e) r;
+            ap₂ (λ (x y : Line). good-verdict x n y) s (verdict-last ∙ sym last-is)
+            ∙ chosen (line-at ls (start ls d)) n (line-at ls place) (eqb-true (letter (line-at ls place)) verdict-line (ap (is verdict-line) last-is ∙ w .is-last)) (ap (is import-line) (sym s) ∙ e) r;
       }
     where
       chosen : (x : Line) (n : ℕ) (y : Line) → letter y ≡ 86 → is import-line x ≡ true → good-line x n y ≡ true → good-verdict x n y ≡ true

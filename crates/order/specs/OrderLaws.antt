@@ -1,4 +1,4 @@
--- Row 3 by what is due, line by line, and that it may be tested on the lines that row 2 passed. Assumes nothing.
+-- Row 3 by what is due, line by line. Assumes nothing.
 use mathlib.Core.Path.{_≡_, refl, ap, sym, _∙_}
 use mathlib.Core.List.{List}
 use mathlib.Core.Bool.{Bool, true, false}
@@ -11,17 +11,16 @@ use lib.Seq.{take-all}
 use borrow.Author.Tests.{eq-eqb, ne-eqb}
 use Rattle.columns.specs.Column.{pick}
 use Rattle.sheet.specs.Line.{Line, letter}
-use Rattle.sheet.specs.Sheet.{first, count, line, lines, row2}
-use Rattle.sheet.specs.FirstLaws.{first-congr, first-more}
-use Rattle.sheet.specs.SheetLaws.{length-lines, getD-lines, line-good}
+use Rattle.sheet.specs.Sheet.{first}
+use Rattle.sheet.specs.FirstLaws.{first-more}
 use Rattle.meaning.specs.declared.Due.{Due}
 use Rattle.meaning.specs.declared.Due.the-variants.{Header}
-use Rattle.meaning.specs.Rows.{line-at, raws, due, due-after, is-broken, is-within, row3}
+use Rattle.meaning.specs.Rows.{line-at, due, due-after, is-broken, is-within, row3}
 use Rattle.order.specs.DueLaws.{due-name, due-arg, due-type}
 use Rattle.runs.specs.declared.Runs.{Runs}
 use Rattle.runs.specs.RunsLaws.{upward, Spans}
 use Rattle.order.specs.StepLaws.{due-after-suc}
-use Rattle.meaning.specs.Laws.Rows.{row3-inside, row3-past, row3-raws}
+use Rattle.meaning.specs.Laws.Rows.{row3-inside, row3-past}
 
 -- ---- row 3 of a list of lines
 module _ (ls : List Line) where
@@ -75,23 +74,16 @@ module _ (ls : List Line) where
       small true = omega arith
       small false = omega arith
 
--- ---- the lines of a sheet without bad lines
-module _ (w : ℕ) (b : List ℕ) (good : row2 w b ≡ count w b) where
-  -- row 3 may be tested on the lines that row 2 passed
-  pub first-row3 : first (row3 (raws w b)) (suc (count w b)) ≡ first (row3 (lines w b)) (suc (count w b))
-  first-row3 = first-congr (row3 (raws w b)) (row3 (lines w b)) (suc (count w b)) (λ i h. row3-raws w b (line-good w b good) i)
-
-  -- ---- for a loop over the lines, with what is due before line i
+-- ---- for a loop over the lines, with what is due before line i
+module _ (ls : List Line) (q : Due) (i : ℕ) (e : q ≡ due-after (Header 0) (take i ls)) where
   -- what is due after it
-  pub due-next : (q : Due) (i : ℕ) → i < count w b → q ≡ due-after (Header 0) (take i (lines w b)) → due q (line w b i) ≡ due-after (Header 0) (take (suc i) (lines w b))
-  due-next q i h e = let m : i < length (lines w b) = omega (arith, length-lines w b) in rw (due-after-suc (lines w b) i m (Header 0), e, getD-lines w b i)
+  pub due-next : i < length ls → due q (line-at ls i) ≡ due-after (Header 0) (take (suc i) ls)
+  due-next h = rw (due-after-suc ls i h (Header 0), e)
 
   -- whether row 3 applies at it
-  pub row3-step : (q : Due) (i : ℕ) → i < count w b → q ≡ due-after (Header 0) (take i (lines w b)) → row3 (lines w b) i ≡ is-broken (due q (line w b i))
-  row3-step q i h e = let m : i < length (lines w b) = omega (arith, length-lines w b) in rw (row3-at (lines w b) i m, e, getD-lines w b i)
+  pub row3-step : i < length ls → row3 ls i ≡ is-broken (due q (line-at ls i))
+  row3-step h = rw (row3-at ls i h, e)
 
   -- and after the last line
-  pub row3-stop : (q : Due) (i : ℕ) → i ≡ count w b → q ≡ due-after (Header 0) (take i (lines w b)) → row3 (lines w b) i ≡ is-within q
-  row3-stop q i h e =
-      let m : i ≡ length (lines w b) = omega (arith, length-lines w b) in
-      ap (row3 (lines w b)) m ∙ row3-end (lines w b) ∙ ap is-within (ap (due-after (Header 0)) (sym (take-all i (lines w b) (omega arith))) ∙ sym e)
+  pub row3-stop : i ≡ length ls → row3 ls i ≡ is-within q
+  row3-stop h = ap (row3 ls) h ∙ row3-end ls ∙ ap is-within (ap (due-after (Header 0)) (sym (take-all i ls (omega arith))) ∙ sym e)

@@ -1,13 +1,15 @@
-// Row 3: the order of a sheet's lines and their counts, of a sheet that row 2 passed. The runs at its
+// Row 3: the order of a sheet's lines and their counts, by their cells. The runs at its
 // front are in order, so that only the lines after them are looked at one by one.
 mod steps;
 
+use cells::CELLS;
 use meaning::Due;
-use parts::LINE;
 use runs::Runs;
 ghost use mathlib.Core.Path.{_≡_};
 ghost use Prim.Native.Nat.{suc};
-ghost use Rattle.sheet.specs.Sheet as sheet;
+ghost use lib.ListN.{length};
+ghost use Rattle.sheet.specs.Sheet.{first};
+ghost use Rattle.cells.specs.Cells.{lines-of};
 ghost use Rattle.runs.specs.RunsLaws.{Spans};
 ghost use Rattle.meaning.specs.Rows as rows;
 ghost use Rattle.order.specs.OrderLaws.{after-runs};
@@ -54,16 +56,15 @@ fn due_after(r: Runs) -> Due
 }
 
 // Row 3: the first line that does not fit, the count of lines where the sheet ends early, or one more.
-pub fn row3(s: &[u8], r: Runs) -> usize
-    requires { ⌜ sheet.row2 6 (now s) ≡ sheet.count 6 (now s) ⌝ }
-    requires { ⌜ Spans (sheet.lines 6 (now s)) r ⌝ }
-    ensures { λ i. ⌜ i ≡ sheet.first (rows.row3 (rows.raws 6 (now (s .entry)))) (suc (sheet.count 6 (now (s .entry)))) ⌝ }
+pub fn row3(t: &[u32], r: Runs) -> usize
+    requires { ⌜ Spans (lines-of (now t)) r ⌝ }
+    ensures { λ i. ⌜ i ≡ first (rows.row3 (lines-of (now (t .entry)))) (suc (length (lines-of (now (t .entry))))) ⌝ }
 {
-    let n = s.len() / LINE;
+    let n = t.len() / CELLS;
     let mut q = due_after(r);
     let mut i = r.types;
     while i < n {
-        q = steps::due(s, i, q);
+        q = steps::due(t, i, q);
         if is_broken(q) {
             return i;
         }

@@ -1,9 +1,11 @@
-// One line of row 3: what is due after it, by its letter and its numbers, of a sheet that row 2 passed.
+// One line of row 3: what is due after it, by its letter and its numbers.
 use meaning::Due;
 ghost use mathlib.Core.Path.{_≡_};
+ghost use Prim.Native.Nat.{_/_, _<_};
 ghost use lib.Dec.{leb};
+ghost use lib.ListN.{length};
 ghost use Rattle.columns.specs.Column.{pick};
-ghost use Rattle.sheet.specs.Sheet as sheet;
+ghost use Rattle.cells.specs.Cells.{lines-of};
 ghost use Rattle.meaning.specs.Rows as rows;
 
 // What a D or I line announces, by its body kind, count of parameters and last number.
@@ -41,32 +43,32 @@ fn later(place: u32, next: u32) -> Due
 }
 
 // Line i, outside a declaration.
-fn header(s: &[u8], i: usize, place: u32) -> Due
-    requires { ⌜ sheet.row2 6 (now s) ≡ sheet.count 6 (now s) ⌝ }
-    ensures { λ r. ⌜ r ≡ rows.due-header place (sheet.line 6 (now (s .entry)) i) ⌝ }
+fn header(t: &[u32], i: usize, place: u32) -> Due
+    requires { ⌜ i < length (now t) / 6 ⌝ }
+    ensures { λ r. ⌜ r ≡ rows.due-header place (rows.line-at (lines-of (now (t .entry))) i) ⌝ }
 {
-    let letter = reader::letter_of(s, i);
+    let letter = cells::letter(t, i);
     match letter {
-        b'N' => later(place, 0),
-        b'A' => later(place, 1),
-        b'Y' => later(place, 2),
-        b'D' | b'I' => announced(
-            reader::value(s, i, 2),
-            reader::value(s, i, 3),
-            reader::value(s, i, 4),
+        78 => later(place, 0),
+        65 => later(place, 1),
+        89 => later(place, 2),
+        68 | 73 => announced(
+            cells::number(t, i, 2),
+            cells::number(t, i, 3),
+            cells::number(t, i, 4),
         ),
         _ => Due::Broken,
     }
 }
 
 // Line i, in a declaration.
-fn within(s: &[u8], i: usize, params: u32, fields: u32, ctors: u32) -> Due
-    requires { ⌜ sheet.row2 6 (now s) ≡ sheet.count 6 (now s) ⌝ }
-    ensures { λ r. ⌜ r ≡ rows.due (Due.Within params fields ctors) (sheet.line 6 (now (s .entry)) i) ⌝ }
+fn within(t: &[u32], i: usize, params: u32, fields: u32, ctors: u32) -> Due
+    requires { ⌜ i < length (now t) / 6 ⌝ }
+    ensures { λ r. ⌜ r ≡ rows.due (Due.Within params fields ctors) (rows.line-at (lines-of (now (t .entry))) i) ⌝ }
 {
-    let letter = reader::letter_of(s, i);
+    let letter = cells::letter(t, i);
     match letter {
-        b'P' => {
+        80 => {
             if params == 0 {
                 return Due::Broken;
             }
@@ -76,7 +78,7 @@ fn within(s: &[u8], i: usize, params: u32, fields: u32, ctors: u32) -> Due
                 ctors,
             }
         }
-        b'F' => {
+        70 => {
             if params > 0 {
                 return Due::Broken;
             }
@@ -89,7 +91,7 @@ fn within(s: &[u8], i: usize, params: u32, fields: u32, ctors: u32) -> Due
                 ctors,
             }
         }
-        b'C' => {
+        67 => {
             if params > 0 {
                 return Due::Broken;
             }
@@ -101,11 +103,11 @@ fn within(s: &[u8], i: usize, params: u32, fields: u32, ctors: u32) -> Due
             }
             Due::Within {
                 params: 0,
-                fields: reader::value(s, i, 1),
+                fields: cells::number(t, i, 1),
                 ctors: ctors - 1,
             }
         }
-        b'V' => {
+        86 => {
             if params > 0 {
                 return Due::Broken;
             }
@@ -122,17 +124,17 @@ fn within(s: &[u8], i: usize, params: u32, fields: u32, ctors: u32) -> Due
 }
 
 // What is due after line i, where q was due.
-pub fn due(s: &[u8], i: usize, q: Due) -> Due
-    requires { ⌜ sheet.row2 6 (now s) ≡ sheet.count 6 (now s) ⌝ }
-    ensures { λ r. ⌜ r ≡ rows.due q (sheet.line 6 (now (s .entry)) i) ⌝ }
+pub fn due(t: &[u32], i: usize, q: Due) -> Due
+    requires { ⌜ i < length (now t) / 6 ⌝ }
+    ensures { λ r. ⌜ r ≡ rows.due q (rows.line-at (lines-of (now (t .entry))) i) ⌝ }
 {
     match q {
-        Due::Header(place) => header(s, i, place),
+        Due::Header(place) => header(t, i, place),
         Due::Within {
             params,
             fields,
             ctors,
-        } => within(s, i, params, fields, ctors),
+        } => within(t, i, params, fields, ctors),
         Due::Broken => Due::Broken,
     }
 }

@@ -1,8 +1,9 @@
 // Row 5: the numbers of a line of a declaration.
 ghost use mathlib.Core.Path.{_≡_};
 ghost use mathlib.Core.Bool.{_&&_};
-ghost use Prim.Native.Nat.{_+_, _≤_, _<_};
-ghost use Rattle.sheet.specs.Sheet as sheet;
+ghost use Prim.Native.Nat.{_+_, _/_, _≤_, _<_};
+ghost use lib.ListN.{length};
+ghost use Rattle.cells.specs.Cells.{lines-of};
 ghost use Rattle.meaning.specs.Rows as rows;
 ghost use Rattle.header.specs.Header.{Counted};
 ghost use Rattle.ranges.specs.DeclLines.{good-last};
@@ -28,14 +29,14 @@ fn good_last(kind: u32, last: usize, types: usize) -> bool
 }
 
 // The name, the flags and the last number of a D or I line.
-fn good_head(s: &[u8], i: usize, names: usize, types: usize) -> bool
-    requires { ⌜ sheet.row2 6 (now s) ≡ sheet.count 6 (now s) ⌝ }
-    ensures { λ r. ⌜ r ≡ rows.good-head names types (sheet.line 6 (now (s .entry)) i) ⌝ }
+fn good_head(t: &[u32], i: usize, names: usize, types: usize) -> bool
+    requires { ⌜ i < length (now t) / 6 ⌝ }
+    ensures { λ r. ⌜ r ≡ rows.good-head names types (rows.line-at (lines-of (now (t .entry))) i) ⌝ }
 {
-    let name = reader::value(s, i, 0) as usize;
-    let flags = reader::value(s, i, 1) as usize;
-    let last = reader::value(s, i, 4) as usize;
-    let kind = reader::value(s, i, 2);
+    let name = cells::number(t, i, 0) as usize;
+    let flags = cells::number(t, i, 1) as usize;
+    let last = cells::number(t, i, 4) as usize;
+    let kind = cells::number(t, i, 2);
     both(
         both(name < names, flags <= FLAGS),
         good_last(kind, last, types),
@@ -43,21 +44,21 @@ fn good_head(s: &[u8], i: usize, names: usize, types: usize) -> bool
 }
 
 // Line i, of a declaration, is as it should be, by its letter.
-pub fn good_part(s: &[u8], i: usize, names: usize, args: usize, types: usize) -> bool
-    requires { ⌜ Counted (now s) names args types ⌝ }
-    requires { ⌜ (names + args + types ≤ i) × (i < sheet.count 6 (now s)) ⌝ }
-    ensures { λ r. ⌜ r ≡ rows.good-numbers (sheet.lines 6 (now (s .entry))) i ⌝ }
+pub fn good_part(t: &[u32], i: usize, names: usize, args: usize, types: usize) -> bool
+    requires { ⌜ Counted (lines-of (now t)) names args types ⌝ }
+    requires { ⌜ (names + args + types ≤ i) × (i < length (now t) / 6) ⌝ }
+    ensures { λ r. ⌜ r ≡ rows.good-numbers (lines-of (now (t .entry))) i ⌝ }
 {
-    let letter = reader::letter_of(s, i);
-    let a = reader::value(s, i, 0) as usize;
+    let letter = cells::letter(t, i);
+    let a = cells::number(t, i, 0) as usize;
     match letter {
-        b'D' | b'I' => good_head(s, i, names, types),
-        b'P' => both(a < names, unused::zeros_from(s, i, 1)),
-        b'C' => both(a < names, unused::zeros_from(s, i, 2)),
-        b'F' => both(
-            both(a < names, (reader::value(s, i, 1) as usize) < types),
-            unused::zeros_from(s, i, 3),
+        68 | 73 => good_head(t, i, names, types),
+        80 => both(a < names, unused::zeros_from(t, i, 1)),
+        67 => both(a < names, unused::zeros_from(t, i, 2)),
+        70 => both(
+            both(a < names, (cells::number(t, i, 1) as usize) < types),
+            unused::zeros_from(t, i, 3),
         ),
-        _ => unused::zeros_from(s, i, 3),
+        _ => unused::zeros_from(t, i, 3),
     }
 }

@@ -3,7 +3,6 @@ use mathlib.Core.Path.{_≡_}
 use mathlib.Core.List.{List}
 use mathlib.Core.Bool.{false}
 use Prim.Native.Nat.{ℕ, suc}
-use lib.ListN.{replicate}
 use Rattle.sheet.specs.Format.{base}
 use Rattle.sheet.specs.Sheet.{first, count, lines, row1, row2}
 use Rattle.answer.specs.declared.Refusal.{Refusal}
@@ -16,7 +15,7 @@ use Rattle.refusals.specs.declared.Checked.{Checked}
 
 -- ---- what the test of these rows answers
 abbrev pub no-counts : Counts
-no-counts = record { names = 0; args = 0; types = 0; decls = 0; starts = replicate 97 0 }
+no-counts = record { names = 0; args = 0; types = 0; decls = 0 }
 
 abbrev pub refused-as : ℕ → ℕ → Checked
 refused-as code place = record { refusal = Refused code place; counts = no-counts }

@@ -1,9 +1,21 @@
-// Rows 1 to 7 (FORMAT, section 5), in the order in which they are tested, of any bytes.
+// Rows 2 to 7 (FORMAT, section 5), in the order in which they are tested, of bytes that passed row 1. Row 2 puts the lines into lent
+// cells, and here the rows of cells become those of bytes.
 use answer::Refusal;
+use cells::CELLS;
 use limits::Counts;
 use parts::LINE;
+ghost use mathlib.Core.List.{map};
 ghost use mathlib.Core.Path.{_≡_};
+ghost use mathlib.Core.Bool.{false};
+ghost use Prim.Native.Nat.{_*_, _≤_};
+ghost use lib.ListN.{length};
+ghost use Rattle.sheet.specs.Format.{base};
+ghost use Rattle.sheet.specs.Sheet.{count, lines, row1, row2};
+ghost use Rattle.cells.specs.Cells.{lines-of, bare};
 ghost use Rattle.refusals.specs.Rows.{refused-as, checked-of};
+
+// The columns of a number.
+const COLUMNS: usize = 6;
 
 // The first of the rows that applies; and where none does what the sheet declares, else zeros.
 pub struct Checked {
@@ -19,7 +31,6 @@ fn refused(code: u32, place: usize) -> Checked
         args: 0,
         types: 0,
         decls: 0,
-        starts: [0u16; 97],
     };
     Checked {
         refusal: Refusal::Refused { code, place },
@@ -27,24 +38,18 @@ fn refused(code: u32, place: usize) -> Checked
     }
 }
 
-// Tests rows 1 to 7.
-pub fn check_rows(s: &[u8]) -> Checked
+// Rows 3 to 7, of the cells of the lines.
+fn lines_checked(s: &[u8], t: &[u32]) -> Checked
+    requires { ⌜ (row1 base (now s) ≡ false) × (row2 6 (now s) ≡ count 6 (now s)) × (lines-of (now t) ≡ map bare (lines 6 (now s))) ⌝ }
     ensures { λ r. ⌜ r ≡ checked-of (now (s .entry)) ⌝ }
 {
-    if format::row1(s) {
-        return refused(1, 0);
-    }
-    let n = s.len() / LINE;
-    let bad = format::row2(s);
-    if bad < n {
-        return refused(2, bad);
-    }
-    let front = runs::runs_of(s);
-    let misplaced = order::row3(s, front);
+    let n = t.len() / CELLS;
+    let front = runs::runs_of(t);
+    let misplaced = order::row3(t, front);
     if misplaced <= n {
         return refused(3, misplaced);
     }
-    let walked = counts::walk(s, front);
+    let walked = counts::walk(t, front);
     let past = walked.past;
     if past < n {
         return refused(4, past);
@@ -53,16 +58,16 @@ pub fn check_rows(s: &[u8]) -> Checked
     let names = counts.names;
     let args = counts.args;
     let types = counts.types;
-    let outside = ranges::row5(s, names, args, types);
+    let outside = ranges::row5(t, names, args, types);
     if outside < n {
         return refused(5, outside);
     }
     let from = names + args + types;
-    let repeated = distinct::row6(s, names, from);
+    let repeated = distinct::row6(s, t, names, from);
     if repeated < n {
         return refused(6, repeated);
     }
-    let wrong = verdicts::row7(s, from);
+    let wrong = verdicts::row7(t, from);
     if wrong < n {
         return refused(7, wrong);
     }
@@ -70,4 +75,18 @@ pub fn check_rows(s: &[u8]) -> Checked
         refusal: Refusal::Accepted,
         counts,
     }
+}
+
+// Tests rows 2 to 7; where they pass, the lines stand in the cells.
+pub fn check_rows(s: &[u8], t: &mut [u32]) -> Checked
+    requires { ⌜ (row1 base (now s) ≡ false) × (6 * count 6 (now s) ≤ length (now t)) ⌝ }
+    ensures { λ r. ⌜ r ≡ checked-of (now (s .entry)) ⌝ }
+{
+    let n = s.len() / LINE;
+    let bad = decode::decode_lines(s, COLUMNS, t);
+    if bad < n {
+        return refused(2, bad);
+    }
+    let end = n * CELLS;
+    lines_checked(s, &t[0..end])
 }

@@ -8,8 +8,7 @@ use lib.Dec.{eqb, leb}
 use lib.ListN.{length}
 use borrow.Author.Tests.{eqb-true, eqb-false, ne-eqb, eq-eqb, le-leb, leb-true, leb-false}
 use Rattle.sheet.specs.Line.{Line, letter}
-use Rattle.sheet.specs.Sheet.{first, count, line, lines}
-use Rattle.sheet.specs.SheetLaws.{length-lines, getD-lines}
+use Rattle.sheet.specs.Sheet.{first}
 use Rattle.sheet.specs.FirstLaws.{first-le, first-holds, first-before, first-none, first-more, first-found}
 use Rattle.meaning.specs.Program.{name-line, arg-line, type-line, is}
 use Rattle.meaning.specs.Rows.{line-at}
@@ -58,21 +57,21 @@ module _ (x : ℕ) (ls : List Line) (i : ℕ) where
           let t : ends x ls i j ≡ true = rw (le-leb i j h, e) in
           let z : _≡_ {A = ℕ} 0 1 = cc in absurd (omega arith)
 
--- ---- for a loop over the lines of a sheet from line i on, at line j
-module _ (w : ℕ) (b : List ℕ) (x i : ℕ) where
-  pub run-begin : first (ends x (lines w b) i) i ≡ i
-  run-begin = first-none (ends x (lines w b) i) i (λ j h. go (leb i j) refl h)
+-- ---- for a loop over lines from line i on, at line j
+module _ (ls : List Line) (x i : ℕ) where
+  pub run-begin : first (ends x ls i) i ≡ i
+  run-begin = first-none (ends x ls i) i (λ j h. go (leb i j) refl h)
     where
-      go : {j : ℕ} (c : Bool) → leb i j ≡ c → j < i → (c && not (is x (line-at (lines w b) j))) ≡ false
+      go : {j : ℕ} (c : Bool) → leb i j ≡ c → j < i → (c && not (is x (line-at ls j))) ≡ false
       go true e h = absurd (omega (arith, leb-true i _ e))
       go false e h = refl
 
-  module _ (j y : ℕ) (h : i ≤ j) (e : y ≡ letter (line w b j)) where
-    pub run-stays : y ≡ x → ends x (lines w b) i j ≡ false
-    run-stays q = rw (getD-lines w b j, ← e, eq-eqb y x q, le-leb i j h)
+  module _ (j y : ℕ) (h : i ≤ j) (e : y ≡ letter (line-at ls j)) where
+    pub run-stays : y ≡ x → ends x ls i j ≡ false
+    run-stays q = rw (← e, eq-eqb y x q, le-leb i j h)
 
-    pub run-stops : (y ≡ x → ⊥) → ends x (lines w b) i j ≡ true
-    run-stops q = rw (getD-lines w b j, ← e, ne-eqb y x q, le-leb i j h)
+    pub run-stops : (y ≡ x → ⊥) → ends x ls i j ≡ true
+    run-stops q = rw (← e, ne-eqb y x q, le-leb i j h)
 
 -- ---- the runs
 -- each run begins where the one before it ends, and has lines of its letter alone

@@ -1,8 +1,9 @@
-// The runs of N, A and Y lines at the front of a sheet that row 2 passed. Of them only the letters are read.
-use parts::LINE;
+// The runs of N, A and Y lines at the front of a sheet, by the letters of its cells.
+use cells::CELLS;
 ghost use mathlib.Core.Path.{_≡_};
 ghost use Prim.Native.Nat.{_≤_};
-ghost use Rattle.sheet.specs.Sheet as sheet;
+ghost use lib.ListN.{length};
+ghost use Rattle.cells.specs.Cells.{lines-of};
 ghost use Rattle.runs.specs.Runs as runs;
 
 // The line after each run: after the N lines, after the A lines and after the Y lines.
@@ -13,15 +14,14 @@ pub struct Runs {
 }
 
 // The first line from a line on that has another letter, or the count of lines.
-fn run_end(s: &[u8], from: usize, letter: u8) -> usize
-    requires { ⌜ sheet.row2 6 (now s) ≡ sheet.count 6 (now s) ⌝ }
-    requires { ⌜ from ≤ sheet.count 6 (now s) ⌝ }
-    ensures { λ r. ⌜ r ≡ runs.run-end letter (sheet.lines 6 (now (s .entry))) from ⌝ }
+fn run_end(t: &[u32], from: usize, letter: u32) -> usize
+    requires { ⌜ from ≤ length (lines-of (now t)) ⌝ }
+    ensures { λ r. ⌜ r ≡ runs.run-end letter (lines-of (now (t .entry))) from ⌝ }
 {
-    let n = s.len() / LINE;
+    let n = t.len() / CELLS;
     let mut i = from;
     while i < n {
-        if reader::letter_of(s, i) != letter {
+        if cells::letter(t, i) != letter {
             return i;
         }
         i += 1;
@@ -30,12 +30,11 @@ fn run_end(s: &[u8], from: usize, letter: u8) -> usize
 }
 
 // The runs at the front.
-pub fn runs_of(s: &[u8]) -> Runs
-    requires { ⌜ sheet.row2 6 (now s) ≡ sheet.count 6 (now s) ⌝ }
-    ensures { λ r. ⌜ r ≡ runs.runs-of (sheet.lines 6 (now (s .entry))) ⌝ }
+pub fn runs_of(t: &[u32]) -> Runs
+    ensures { λ r. ⌜ r ≡ runs.runs-of (lines-of (now (t .entry))) ⌝ }
 {
-    let names = run_end(s, 0, b'N');
-    let args = run_end(s, names, b'A');
-    let types = run_end(s, args, b'Y');
+    let names = run_end(t, 0, 78);
+    let args = run_end(t, names, 65);
+    let types = run_end(t, args, 89);
     Runs { names, args, types }
 }

@@ -8,15 +8,14 @@ use lib.Dec.{eqb, leb, ltb}
 use lib.ListN.{length, getD, length-map, List·getD-map}
 use borrow.Author.Tests.{eq-eqb, ne-eqb, lt-ltb, le-ltb, le-leb, lt-leb}
 use Rattle.sheet.specs.Line.{Line, bad, number}
-use Rattle.sheet.specs.Sheet.{first, count, line, lines}
+use Rattle.sheet.specs.Sheet.{first}
 use Rattle.sheet.specs.FirstLaws.{first-more}
-use Rattle.sheet.specs.SheetLaws.{length-lines, getD-lines}
 use Rattle.meaning.specs.Program.{name-line, arg-line, select}
-use Rattle.meaning.specs.Rows.{some-below, is-list}
+use Rattle.meaning.specs.Rows.{some-below, is-list, line-at}
 use Rattle.header.specs.Header.{Counted}
 use Rattle.unused.specs.UnusedLaws.{some-at, some-none}
 use Rattle.type_lines.specs.TypeLists.{types-of}
-use Rattle.header.specs.OrderLaws.{ordered-lines, arg-at, count-of-le}
+use Rattle.header.specs.OrderLaws.{ordered-of, arg-at, header-le}
 
 -- ---- lists
 -- A line i + j is not of a lower type than y
@@ -46,22 +45,19 @@ module _ (xs : List ℕ) (y i : ℕ) where
   list-more j h e = first-more (too-high xs y i) j e (rw (lt-ltb (getD xs (i + j) 0) y h))
 
 -- ---- a sheet in order
-module _ (b : List ℕ) (names args types : ℕ) (c : Counted b names args types) where
-  pub args-length : length (types-of (lines 6 b)) ≡ args
-  args-length = length-map (select arg-line (lines 6 b)) (λ a. number a 0) ∙ sym (c .args-are)
+module _ (ls : List Line) (names args types : ℕ) (c : Counted ls names args types) where
+  pub args-length : length (types-of ls) ≡ args
+  args-length = length-map (select arg-line ls) (λ a. number a 0) ∙ sym (c .args-are)
 
   -- the type of A line j, by its place in the sheet
-  pub arg-type : (j : ℕ) → j < args → getD (types-of (lines 6 b)) j 0 ≡ number (line 6 b (names + j)) 0
+  pub arg-type : (j : ℕ) → j < args → getD (types-of ls) j 0 ≡ number (line-at ls (names + j)) 0
   arg-type j h =
-      let e : getD (select arg-line (lines 6 b)) j bad ≡ line 6 b (names + j) =
-      arg-at (lines 6 b) (ordered-lines 6 b (c .no-bad) (c .in-order)) j (omega (arith, c .args-are)) ∙ rw (← (c .names-are)) (getD-lines 6 b (names + j)) in
-      List·getD-map (λ a. number a 0) (select arg-line (lines 6 b)) j bad ∙ ap (λ (l : Line). number l 0) e
+      let e : getD (select arg-line ls) j bad ≡ line-at ls (names + j) =
+      rw (c .names-are) (arg-at ls (ordered-of ls (c .in-order)) j (omega (arith, c .args-are))) in
+      List·getD-map (λ a. number a 0) (select arg-line ls) j bad ∙ ap (λ (l : Line). number l 0) e
 
-  pub arg-type-from : (i j : ℕ) → i + j < args → getD (types-of (lines 6 b)) (i + j) 0 ≡ number (line 6 b (names + i + j)) 0
+  pub arg-type-from : (i j : ℕ) → i + j < args → getD (types-of ls) (i + j) 0 ≡ number (line-at ls (names + i + j)) 0
   arg-type-from i j h = let e : names + (i + j) ≡ names + i + j = omega arith in rw e at (arg-type (i + j) h)
 
-  pub names-le : names ≤ count 6 b
-  names-le = omega (arith, c .names-are, count-of-le name-line (lines 6 b), length-lines 6 b)
-
-  pub args-le : args ≤ count 6 b
-  args-le = omega (arith, c .args-are, count-of-le arg-line (lines 6 b), length-lines 6 b)
+  pub args-within : names + args ≤ length ls
+  args-within = omega (arith, c .names-are, c .args-are, header-le ls)

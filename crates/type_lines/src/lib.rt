@@ -3,10 +3,10 @@ mod type_lists;
 
 ghost use mathlib.Core.Path.{_≡_};
 ghost use mathlib.Core.Bool.{_&&_};
-ghost use Prim.Native.Nat.{_<_};
-ghost use Rattle.sheet.specs.Line.{letter, number};
-ghost use Rattle.sheet.specs.Sheet as sheet;
-ghost use Rattle.meaning.specs.Program.{type-line};
+ghost use Prim.Native.Nat.{_/_, _<_};
+ghost use lib.ListN.{length};
+ghost use Rattle.cells.specs.Cells.{lines-of};
+ghost use Rattle.sheet.specs.Line.{number};
 ghost use Rattle.meaning.specs.Rows as rows;
 ghost use Rattle.header.specs.Header.{Counted};
 ghost use Rattle.type_lines.specs.TypeLists.{types-of};
@@ -18,71 +18,71 @@ fn both(a: bool, b: bool) -> bool
 }
 
 // Number k of line i.
-fn number_at(s: &[u8], i: usize, k: usize) -> usize
-    requires { ⌜ sheet.row2 6 (now s) ≡ sheet.count 6 (now s) ⌝ }
-    ensures { λ r. ⌜ (r ≡ number (sheet.line 6 (now (s .entry)) i) k) × (r < 4294967296) ⌝ }
+fn number_at(t: &[u32], i: usize, k: usize) -> usize
+    requires { ⌜ (i < length (now t) / 6) × (k < 5) ⌝ }
+    ensures { λ r. ⌜ (r ≡ number (rows.line-at (lines-of (now (t .entry))) i) k) × (r < 4294967296) ⌝ }
 {
-    reader::value(s, i, k) as usize
+    cells::number(t, i, k) as usize
 }
 
 // The kind and the numbers of Y line i, for type y; a number is read where its kind has it.
-pub fn good_type(s: &[u8], i: usize, names: usize, args: usize, types: usize, y: usize) -> bool
-    requires { ⌜ Counted (now s) names args types ⌝ }
-    requires { ⌜ (i < sheet.count 6 (now s)) × (letter (sheet.line 6 (now s) i) ≡ type-line) ⌝ }
-    ensures { λ r. ⌜ r ≡ rows.good-type names (types-of (sheet.lines 6 (now (s .entry)))) y (sheet.line 6 (now (s .entry)) i) ⌝ }
+pub fn good_type(t: &[u32], i: usize, names: usize, args: usize, types: usize, y: usize) -> bool
+    requires { ⌜ Counted (lines-of (now t)) names args types ⌝ }
+    requires { ⌜ i < length (now t) / 6 ⌝ }
+    ensures { λ r. ⌜ r ≡ rows.good-type names (types-of (lines-of (now (t .entry)))) y (rows.line-at (lines-of (now (t .entry))) i) ⌝ }
 {
-    let kind = reader::value(s, i, 0);
+    let kind = cells::number(t, i, 0);
     match kind {
-        3 => both(number_at(s, i, 1) < names, unused::zeros_from(s, i, 2)),
+        3 => both(number_at(t, i, 1) < names, unused::zeros_from(t, i, 2)),
         4 => both(
             both(
-                number_at(s, i, 1) <= 1,
-                type_lists::is_width(number_at(s, i, 2)),
+                number_at(t, i, 1) <= 1,
+                type_lists::is_width(number_at(t, i, 2)),
             ),
-            unused::zeros_from(s, i, 3),
+            unused::zeros_from(t, i, 3),
         ),
-        5 => both(number_at(s, i, 1) <= 3, unused::zeros_from(s, i, 2)),
-        6 => unused::zeros_from(s, i, 2),
+        5 => both(number_at(t, i, 1) <= 3, unused::zeros_from(t, i, 2)),
+        6 => unused::zeros_from(t, i, 2),
         7 => both(
             both(
-                both(number_at(s, i, 1) < y, number_at(s, i, 2) <= 2),
-                number_at(s, i, 3) < y,
+                both(number_at(t, i, 1) < y, number_at(t, i, 2) <= 2),
+                number_at(t, i, 3) < y,
             ),
-            unused::zeros_from(s, i, 4),
+            unused::zeros_from(t, i, 4),
         ),
         8 => both(
             both(
-                number_at(s, i, 1) < names,
+                number_at(t, i, 1) < names,
                 type_lists::is_list(
-                    s,
+                    t,
                     names,
                     args,
                     types,
                     y,
-                    number_at(s, i, 2),
-                    number_at(s, i, 3),
+                    number_at(t, i, 2),
+                    number_at(t, i, 3),
                 ),
             ),
-            unused::zeros_from(s, i, 4),
+            unused::zeros_from(t, i, 4),
         ),
         9 => both(
             type_lists::is_list(
-                s,
+                t,
                 names,
                 args,
                 types,
                 y,
-                number_at(s, i, 1),
-                number_at(s, i, 2),
+                number_at(t, i, 1),
+                number_at(t, i, 2),
             ),
-            unused::zeros_from(s, i, 3),
+            unused::zeros_from(t, i, 3),
         ),
         11 => both(
-            both(number_at(s, i, 1) <= 1, number_at(s, i, 2) < y),
-            unused::zeros_from(s, i, 3),
+            both(number_at(t, i, 1) <= 1, number_at(t, i, 2) < y),
+            unused::zeros_from(t, i, 3),
         ),
-        0..=2 => unused::zeros_from(s, i, 1),
-        10..=12 => both(number_at(s, i, 1) < y, unused::zeros_from(s, i, 2)),
+        0..=2 => unused::zeros_from(t, i, 1),
+        10..=12 => both(number_at(t, i, 1) < y, unused::zeros_from(t, i, 2)),
         _ => false,
     }
 }

@@ -1,7 +1,7 @@
 // Row 5: the widths and the lists of types that Y lines may have.
 ghost use mathlib.Core.Path.{_≡_};
 ghost use Prim.Native.Nat.{_<_};
-ghost use Rattle.sheet.specs.Sheet as sheet;
+ghost use Rattle.cells.specs.Cells.{lines-of};
 ghost use Rattle.meaning.specs.Rows as rows;
 ghost use Rattle.header.specs.Header.{Counted};
 ghost use Rattle.type_lines.specs.TypeLists.{types-of};
@@ -23,7 +23,7 @@ pub fn is_width(w: usize) -> bool
 
 // The list of k A lines from A line `at` on is one that type y can use.
 pub fn is_list(
-    s: &[u8],
+    t: &[u32],
     names: usize,
     args: usize,
     types: usize,
@@ -31,9 +31,9 @@ pub fn is_list(
     at: usize,
     k: usize,
 ) -> bool
-    requires { ⌜ Counted (now s) names args types ⌝ }
+    requires { ⌜ Counted (lines-of (now t)) names args types ⌝ }
     requires { ⌜ (at < 4294967296) × (k < 4294967296) ⌝ }
-    ensures { λ r. ⌜ r ≡ rows.is-list (types-of (sheet.lines 6 (now (s .entry)))) y at k ⌝ }
+    ensures { λ r. ⌜ r ≡ rows.is-list (types-of (lines-of (now (t .entry)))) y at k ⌝ }
 {
     if k == 0 {
         return at == 0;
@@ -44,7 +44,7 @@ pub fn is_list(
     let from = names + at;
     let mut j = 0;
     while j < k {
-        if reader::value(s, from + j, 0) as usize >= y {
+        if cells::number(t, from + j, 0) as usize >= y {
             return false;
         }
         j += 1;

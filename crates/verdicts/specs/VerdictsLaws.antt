@@ -1,5 +1,4 @@
--- Row 7 line by line: what is kept of the lines before a line, and the row's test by it. For any number of columns.
--- Assumes nothing.
+-- Row 7 line by line: what is kept of the lines before a line, and the row's test by it. -- Assumes nothing.
 use mathlib.Core.Path.{_≡_, refl, sym, ap, _∙_}
 use mathlib.Core.List.{List, [], _∷_, _++_}
 use mathlib.Core.Logic.{_⊎_, inl, inr}
@@ -8,21 +7,21 @@ use Prim.Native.Nat.{ℕ, zero, suc, _+_, _≤_, _<_}
 use native.Mathlib.Numerals.{add-one}
 use native.Mathlib.Omega.{arith}
 use lib.Dec.{eqb}
-use lib.ListN.{take}
+use lib.ListN.{take, length, List·getD-eq-default}
 use lib.Seq.{take-suc}
 use borrow.Author.Tests.{ne-eqb, eqb-true}
 use Rattle.columns.specs.Column.{pick, _⇒_∥_}
 use Rattle.sheet.specs.Line.{Line, bad, letter, number}
-use Rattle.sheet.specs.Sheet.{first, count, line, lines}
+use Rattle.sheet.specs.Sheet.{first}
 use Rattle.sheet.specs.FirstLaws.{first-none}
-use Rattle.sheet.specs.SheetLaws.{length-lines, getD-lines, line-past}
 use Rattle.meaning.specs.Program.{name-line, arg-line, type-line, import-line, field-line, verdict-line, is, is-head}
-use Rattle.meaning.specs.Rows.{last-head, kept-after, good-verdicts, row7}
+use Rattle.meaning.specs.Rows.{last-head, kept-after, good-verdicts, row7, line-at}
 use Rattle.header.specs.Header.{Headed}
 use Rattle.header.specs.OrderLaws.{from-le, before-from}
 use Rattle.verdicts.specs.declared.Decl.{Decl}
-use Rattle.verdicts.specs.Verdicts.{good-line, kept-at, decl-at}
+use Rattle.verdicts.specs.Verdicts.{good-line, kept-at, decl-at, most-keep, declared-verdict}
 use Rattle.meaning.specs.Laws.Rows.{last-head-append, kept-after-append}
+use Rattle.verdicts.specs.VerdictLines.{no-verdict}
 
 -- ---- one line more
 last-head-snoc : (h : Line) (ls : List Line) (l : Line) → last-head h (ls ++ (l ∷ [])) ≡ pick (is-head l) l (last-head h ls)
@@ -41,40 +40,40 @@ kept-at-le n l = go (is-head l) (is field-line l && not (eqb (number l 2) 0))
     go false true = omega arith
     go false false = omega arith
 
--- ---- the lines of a sheet
+-- ---- a list of lines
 -- before the first line
-pub head-none : (w : ℕ) (b : List ℕ) → last-head bad (take 0 (lines w b)) ≡ line w b (count w b)
+pub head-none : (ls : List Line) → last-head bad (take 0 ls) ≡ line-at ls (length ls)
 unfolding last-head
-head-none w b = sym (line-past w b (count w b) (omega arith))
+head-none ls = sym (List·getD-eq-default ls bad (omega arith))
 
-pub kept-none : (w : ℕ) (b : List ℕ) → 0 ≡ kept-after 0 (take 0 (lines w b))
+pub kept-none : (ls : List Line) → 0 ≡ kept-after 0 (take 0 ls)
 unfolding kept-after
-kept-none w b = refl
+kept-none ls = refl
 
-module _ (w : ℕ) (b : List ℕ) (i : ℕ) (q : i < count w b) where
-  take-line : take (i + 1) (lines w b) ≡ take i (lines w b) ++ (line w b i ∷ [])
-  take-line = rw add-one (take-suc (lines w b) i bad (omega (arith, length-lines w b)) ∙ rw (getD-lines w b i))
+module _ (ls : List Line) (i : ℕ) (q : i < length ls) where
+  take-line : take (i + 1) ls ≡ take i ls ++ (line-at ls i ∷ [])
+  take-line = rw add-one (take-suc ls i bad q)
 
   -- the declaration's first line
-  pub head-more : (h r : ℕ) → last-head bad (take i (lines w b)) ≡ line w b h → r ≡ pick (is-head (line w b i)) i h → last-head bad (take (i + 1) (lines w b)) ≡ line w b r
+  pub head-more : (h r : ℕ) → last-head bad (take i ls) ≡ line-at ls h → r ≡ pick (is-head (line-at ls i)) i h → last-head bad (take (i + 1) ls) ≡ line-at ls r
   head-more h r e f =
-      ap (last-head bad) take-line ∙ last-head-snoc bad (take i (lines w b)) (line w b i) ∙ rw (e, f) (go (is-head (line w b i)))
+      ap (last-head bad) take-line ∙ last-head-snoc bad (take i ls) (line-at ls i) ∙ rw (e, f) (go (is-head (line-at ls i)))
     where
-      go : (a : Bool) → pick a (line w b i) (line w b h) ≡ line w b (pick a i h)
+      go : (a : Bool) → pick a (line-at ls i) (line-at ls h) ≡ line-at ls (pick a i h)
       go true = refl
       go false = refl
 
   -- the kept fields
-  pub kept-more : (n r : ℕ) → n ≡ kept-after 0 (take i (lines w b)) → r ≡ kept-at n (line w b i) → r ≡ kept-after 0 (take (i + 1) (lines w b))
-  kept-more n r e f = f ∙ sym (ap (kept-after 0) take-line ∙ kept-after-snoc 0 (take i (lines w b)) (line w b i) ∙ rw (← e))
+  pub kept-more : (n r : ℕ) → n ≡ kept-after 0 (take i ls) → r ≡ kept-at n (line-at ls i) → r ≡ kept-after 0 (take (i + 1) ls)
+  kept-more n r e f = f ∙ sym (ap (kept-after 0) take-line ∙ kept-after-snoc 0 (take i ls) (line-at ls i) ∙ rw (← e))
 
   -- row 7's test
-  pub row7-line : (h n : ℕ) → last-head bad (take (i + 1) (lines w b)) ≡ line w b h → n ≡ kept-after 0 (take i (lines w b)) → row7 (lines w b) i ≡ not (good-line (line w b h) n (line w b i))
+  pub row7-line : (h n : ℕ) → last-head bad (take (i + 1) ls) ≡ line-at ls h → n ≡ kept-after 0 (take i ls) → row7 ls i ≡ not (good-line (line-at ls h) n (line-at ls i))
   unfolding row7 good-verdicts
   row7-line h n e f =
-      let g : last-head bad (take (suc i) (lines w b)) ≡ line w b h = rw (← add-one i) e in
-      rw (getD-lines w b i, g, f)
-      (ap not (go (is field-line (line w b i)) (is verdict-line (line w b i)) (is import-line (line w b h)) _ _ _))
+      let g : last-head bad (take (suc i) ls) ≡ line-at ls h = rw (← add-one i) e in
+      rw (g, f)
+      (ap not (go (is field-line (line-at ls i)) (is verdict-line (line-at ls i)) (is import-line (line-at ls h)) _ _ _))
     where
       go : (a v m x y z : Bool) → (a ⇒ x ∥ v && m ⇒ y ∥ v ⇒ z ∥ true) ≡ (a ⇒ x ∥ v ⇒ pick m y z ∥ true)
       go true v m x y z = refl
@@ -93,22 +92,22 @@ kept-same h n l = go (is field-line l) refl (is verdict-line l) refl
 
 -- ---- the declaration that a line is in
 -- d is the declaration that line i - 1 is in
-abbrev pub In : List ℕ → ℕ → Decl → Type 0
-In b i d = (d .kept ≤ i) × (last-head bad (take i (lines 6 b)) ≡ line 6 b (d .head)) × (d .kept ≡ kept-after 0 (take i (lines 6 b)))
+abbrev pub In : List Line → ℕ → Decl → Type 0
+In ls i d = (d .kept ≤ i) × (last-head bad (take i ls) ≡ line-at ls (d .head)) × (d .kept ≡ kept-after 0 (take i ls))
 
-module _ (b : List ℕ) (i : ℕ) (q : i < count 6 b) (d e : Decl) (s : In b i d) (f : e ≡ decl-at d i (line 6 b i)) where
-  pub in-next : In b (i + 1) e
+module _ (ls : List Line) (i : ℕ) (q : i < length ls) (d e : Decl) (s : In ls i d) (f : e ≡ decl-at d i (line-at ls i)) where
+  pub in-next : In ls (i + 1) e
   in-next =
-      let k : e .kept ≡ kept-at (d .kept) (line 6 b i) = ap (λ (x : Decl). x .kept) f in (
-        omega (arith, kept-at-le (d .kept) (line 6 b i), s .0),
-        head-more 6 b i q (d .head) (e .head) (s .1) (ap (λ (x : Decl). x .head) f),
-        kept-more 6 b i q (d .kept) (e .kept) (s .2) k,
+      let k : e .kept ≡ kept-at (d .kept) (line-at ls i) = ap (λ (x : Decl). x .kept) f in (
+        omega (arith, kept-at-le (d .kept) (line-at ls i), s .0),
+        head-more ls i q (d .head) (e .head) (s .1) (ap (λ (x : Decl). x .head) f),
+        kept-more ls i q (d .kept) (e .kept) (s .2) k,
       )
 
-  pub in-test : row7 (lines 6 b) i ≡ not (good-line (line 6 b (e .head)) (e .kept) (line 6 b i))
+  pub in-test : row7 ls i ≡ not (good-line (line-at ls (e .head)) (e .kept) (line-at ls i))
   in-test =
-      row7-line 6 b i q (e .head) (d .kept) (in-next .1) (s .2)
-      ∙ ap not (kept-same (line 6 b (e .head)) (d .kept) (line 6 b i) ∙ ap (λ (x : Decl). good-line (line 6 b (e .head)) (x .kept) (line 6 b i)) (sym f))
+      row7-line ls i q (e .head) (d .kept) (in-next .1) (s .2)
+      ∙ ap not (kept-same (line-at ls (e .head)) (d .kept) (line-at ls i) ∙ ap (λ (x : Decl). good-line (line-at ls (e .head)) (x .kept) (line-at ls i)) (sym f))
 
 -- a line of the header is in no declaration, and passes
 header-decl : (d : Decl) (i : ℕ) (l : Line) → (letter l ≡ name-line) ⊎ ((letter l ≡ arg-line) ⊎ (letter l ≡ type-line)) → d ≡ decl-at d i l
@@ -121,17 +120,17 @@ header-good h n l (inl e) = rw e
 header-good h n l (inr (inl e)) = rw e
 header-good h n l (inr (inr e)) = rw e
 
-module _ (b : List ℕ) (from : ℕ) (h : Headed b from) (d : Decl) (n : d .head ≡ count 6 b) (z : d .kept ≡ 0) where
-  pub in-header : (i : ℕ) → i ≤ from → In b i d
-  in-header zero k = (omega arith, rw n (head-none 6 b), rw z (kept-none 6 b))
+module _ (ls : List Line) (from : ℕ) (h : Headed ls from) (d : Decl) (n : d .head ≡ length ls) (z : d .kept ≡ 0) where
+  pub in-header : (i : ℕ) → i ≤ from → In ls i d
+  in-header zero k = (omega arith, rw n (head-none ls), rw z (kept-none ls))
   in-header (suc i) k =
-      let q : i < count 6 b = omega (arith, from-le b from h) in
-      rw (← (add-one i)) (in-next b i q d d (in-header i (omega arith)) (header-decl d i (line 6 b i) (before-from b from h i k)))
+      let q : i < length ls = omega (arith, from-le ls from h) in
+      rw (← (add-one i)) (in-next ls i q d d (in-header i (omega arith)) (header-decl d i (line-at ls i) (before-from ls from h i k)))
 
-  pub header-passes : first (row7 (lines 6 b)) from ≡ from
-  header-passes = first-none (row7 (lines 6 b)) from (λ i k.
-      let q : i < count 6 b = omega (arith, from-le b from h) in
-      in-test b i q d d (in-header i (omega arith)) (header-decl d i (line 6 b i) (before-from b from h i k)) ∙ ap not (header-good (line 6 b (d .head)) (d .kept) (line 6 b i) (before-from b from h i k)))
+  pub header-passes : first (row7 ls) from ≡ from
+  header-passes = first-none (row7 ls) from (λ i k.
+      let q : i < length ls = omega (arith, from-le ls from h) in
+      in-test ls i q d d (in-header i (omega arith)) (header-decl d i (line-at ls i) (before-from ls from h i k)) ∙ ap not (header-good (line-at ls (d .head)) (d .kept) (line-at ls i) (before-from ls from h i k)))
 
 -- ---- one line, by its letter
 module _ (d : Decl) (i : ℕ) (l : Line) (x : ℕ) (e : x ≡ letter l) where
@@ -147,3 +146,11 @@ module _ (d : Decl) (i : ℕ) (l : Line) (x : ℕ) (e : x ≡ letter l) where
 
   pub decl-other : ((x ≡ 68) ⊎ (x ≡ 73) → ⊥) → (x ≡ 70 → ⊥) → d ≡ decl-at d i l
   decl-other a f = rw (← e, ne-eqb x 68 (λ y. a (inl y)), ne-eqb x 73 (λ y. a (inr y)), ne-eqb x 70 f)
+
+-- ---- before the first declaration
+module _ (ls : List Line) (h : ℕ) (past : length ls ≤ h) where
+  pub most-none : most-keep (line-at ls h) ≡ 0
+  most-none = rw (List·getD-eq-default ls bad past)
+
+  pub declared-none : (n : ℕ) (v : Line) → declared-verdict (line-at ls h) n v ≡ no-verdict v
+  declared-none n v = rw (List·getD-eq-default ls bad past)

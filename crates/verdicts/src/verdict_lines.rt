@@ -1,7 +1,9 @@
 // The V lines of row 7: of an import, by its declaration's first line and kept fields, and of a local declaration.
 ghost use mathlib.Core.Path.{_≡_};
 ghost use mathlib.Core.Bool.{_&&_};
-ghost use Rattle.sheet.specs.Sheet as sheet;
+ghost use Prim.Native.Nat.{_/_, _<_};
+ghost use lib.ListN.{length};
+ghost use Rattle.cells.specs.Cells.{lines-of};
 ghost use Rattle.meaning.specs.Rows as rows;
 ghost use Rattle.verdicts.specs.VerdictLines as lines;
 
@@ -46,15 +48,15 @@ fn good_layout(layout: u32, kind: u32, last: u32, kept: usize) -> bool
 }
 
 // The V line i of an import that begins at line `head`.
-pub fn good_verdict(s: &[u8], head: usize, kept: usize, i: usize) -> bool
-    requires { ⌜ sheet.row2 6 (now s) ≡ sheet.count 6 (now s) ⌝ }
-    ensures { λ r. ⌜ r ≡ rows.good-verdict (sheet.line 6 (now (s .entry)) head) kept (sheet.line 6 (now (s .entry)) i) ⌝ }
+pub fn good_verdict(t: &[u32], head: usize, kept: usize, i: usize) -> bool
+    requires { ⌜ (head < length (now t) / 6) × (i < length (now t) / 6) ⌝ }
+    ensures { λ r. ⌜ r ≡ rows.good-verdict (rows.line-at (lines-of (now (t .entry))) head) kept (rows.line-at (lines-of (now (t .entry))) i) ⌝ }
 {
-    let erased = reader::value(s, i, 0);
-    let layout = reader::value(s, i, 1);
-    let as_record = reader::value(s, i, 2);
-    let kind = reader::value(s, head, 2);
-    let last = reader::value(s, head, 4);
+    let erased = cells::number(t, i, 0);
+    let layout = cells::number(t, i, 1);
+    let as_record = cells::number(t, i, 2);
+    let kind = cells::number(t, head, 2);
+    let last = cells::number(t, head, 4);
     if as_record > 1 {
         return false;
     }
@@ -65,12 +67,12 @@ pub fn good_verdict(s: &[u8], head: usize, kept: usize, i: usize) -> bool
 }
 
 // The V line i of a local declaration.
-pub fn no_verdict(s: &[u8], i: usize) -> bool
-    requires { ⌜ sheet.row2 6 (now s) ≡ sheet.count 6 (now s) ⌝ }
-    ensures { λ r. ⌜ r ≡ lines.no-verdict (sheet.line 6 (now (s .entry)) i) ⌝ }
+pub fn no_verdict(t: &[u32], i: usize) -> bool
+    requires { ⌜ i < length (now t) / 6 ⌝ }
+    ensures { λ r. ⌜ r ≡ lines.no-verdict (rows.line-at (lines-of (now (t .entry))) i) ⌝ }
 {
-    let erased = reader::value(s, i, 0);
-    let layout = reader::value(s, i, 1);
-    let as_record = reader::value(s, i, 2);
+    let erased = cells::number(t, i, 0);
+    let layout = cells::number(t, i, 1);
+    let as_record = cells::number(t, i, 2);
     both(both(erased == 0, layout == 0), as_record == 0)
 }

@@ -1,34 +1,75 @@
--- `build::build` meets its contract, by the refusal of rows 1 to 7. Assumes nothing.
+-- `build::build` meets its contract: row 1, and then the rest with as many cells as the lines need. Assumes nothing.
 use mathlib.Core.Path.{_≡_, ap, sym, _∙_}
+use mathlib.Core.Bool.{false}
+use native.Mathlib.Omega.{arith}
 use borrow.Author.Needs.{needs}
+use Rattle.sheet.specs.Format.{base}
+use Rattle.sheet.specs.Sheet.{row1}
+use Rattle.limits.specs.LimitsLaws.{short-bytes}
 use Rattle.refusals.specs.declared.Checked.{Checked}
-use Rattle.build.specs.BuildLaws.{checked-passed, checked-counted, gives-sheet}
+use Rattle.refusals.specs.RowsLaws.{at1}
+use Rattle.build.specs.BuildLaws.{gives-sheet}
 use Rattle.build.proofs.build.Statement.{statement}
 use Rattle.build.proofs.build.Tie as tie
 
-passed-requires : tie.Need-passed-requires
-passed-requires c κs =
-    let a = c .before .before .before .before .before .before .before .before .before in
-    let r = c .before .before .before .before .before .check-rows in
-    let p = checked-passed (a .args .s .now) (ap (λ (k : Checked). k .refusal) (sym (r .ensures)) ∙ c .before .before .enum-told .given .1) in
-    (p, checked-counted (a .args .s .now) (r .result) (r .ensures) p)
+returns : tie.Need-returns
+returns c =
+    let a = c .before .before .before .before .before .before .args in
+    rw (c .refused .ensures)
+    (gives-sheet (a .s .now) (a .v .now) (a .l .now) 1 0 (ap (λ (k : Checked). k .refusal) (at1 (a .s .now) (sym (c .before .before .row1 .ensures) ∙ c .before .if1 .taken))))
 
-returns-2 : tie.Need-returns-2
-returns-2 c =
-    let a = c .before .before .before .before .before .before .before .before .before .args in
-    let r = c .before .before .before .before .before .check-rows in
-    rw (c .refused .ensures) (gives-sheet (a .s .now) (a .v .now) (a .l .now) _ _ (ap (λ (k : Checked). k .refusal) (sym (r .ensures)) ∙ c .before .before .refusal .given .1))
+checked-requires : tie.Need-checked-requires
+checked-requires c κs =
+    let e = c .before .before .before .before in
+    let s = e .before .before .before .before .before .args .s .now in
+    let h : row1 base s ≡ false = sym (e .before .row1 .ensures) ∙ e .if1 .left in
+    (h, omega (arith, short-bytes s h))
+
+checked-requires-2 : tie.Need-checked-requires-2
+checked-requires-2 c κs =
+    let e = c .before .before .before .before .before in
+    let s = e .before .before .before .before .before .args .s .now in
+    let h : row1 base s ≡ false = sym (e .before .row1 .ensures) ∙ e .if1 .left in
+    (h, omega (arith, short-bytes s h))
+
+checked-requires-3 : tie.Need-checked-requires-3
+checked-requires-3 c κs =
+    let e = c .before .before .before .before .before .before in
+    let s = e .before .before .before .before .before .args .s .now in
+    let h : row1 base s ≡ false = sym (e .before .row1 .ensures) ∙ e .if1 .left in
+    (h, omega (arith, short-bytes s h))
+
+checked-requires-4 : tie.Need-checked-requires-4
+checked-requires-4 c κs =
+    let e = c .before .before .before .before .before .before in
+    let s = e .before .before .before .before .before .args .s .now in
+    let h : row1 base s ≡ false = sym (e .before .row1 .ensures) ∙ e .if1 .left in
+    (h, omega (arith, short-bytes s h))
 
 pub build-spec : {M : Type 1} → statement M
 build-spec =
     tie.close
     (tie.spec
     (λ c κs. search needs)
-    (λ c. search needs)
-    passed-requires
-    (λ c. search needs)
     (λ c κs. search needs)
+    returns
+    (λ c. search needs)
+    checked-requires
     (λ c. search needs)
     (λ c. search needs)
     (λ c. search needs)
-    returns-2)
+    (λ c. search needs)
+    checked-requires-2
+    (λ c. search needs)
+    (λ c. search needs)
+    (λ c. search needs)
+    (λ c. search needs)
+    checked-requires-3
+    (λ c. search needs)
+    (λ c. search needs)
+    (λ c. search needs)
+    (λ c. search needs)
+    checked-requires-4
+    (λ c. search needs)
+    (λ c. search needs)
+    (λ c. search needs))

@@ -1,5 +1,5 @@
 -- `build::filled` meets its contract, by the table. Assumes nothing.
-use mathlib.Core.Path.{_≡_, ap}
+use mathlib.Core.Path.{ap}
 use borrow.Author.Needs.{needs}
 use Rattle.tables.specs.declared.Sizes.{Sizes}
 use Rattle.tables.specs.Tables.{sizes-of}

@@ -1,12 +1,14 @@
 -- `distinct::repeated` meets its contract: the arrays have the last group of each name passed, and no line passed repeats one.
 -- Assumes nothing.
 use mathlib.Core.Path.{_≡_, refl, sym, _∙_}
-use Prim.Native.Nat.{_-_, _/_, _≤_}
+use Prim.Native.Nat.{_-_, _≤_, _<_}
 use native.Mathlib.Omega.{arith}
 use native.Mathlib.Numerals.{add-one}
 use lib.ListN.{length}
 use borrow.Author.Needs.{needs}
-use Rattle.sheet.specs.Sheet.{first, lines}
+use Rattle.sheet.specs.Sheet.{first}
+use Rattle.cells.specs.Cells.{lines-of}
+use Rattle.cells.specs.CellsLaws.{length-lines-of}
 use Rattle.sheet.specs.FirstLaws.{first-more, first-found}
 use Rattle.header.specs.Header.{Headed}
 use Rattle.header.specs.OrderLaws.{from-le}
@@ -16,58 +18,61 @@ use Rattle.distinct.proofs.repeated.Statement.{statement}
 use Rattle.distinct.proofs.repeated.Tie as tie
 
 abbrev Inv-loop : tie.InvT-loop
-Inv-loop s from n declared₀ params₀ fields₀ ctors₀ g₀ i₀ declared params fields ctors g i =
-    (i ≤ n) × Seen (lines 6 s) i g declared params fields ctors × (first (repeated-any (lines 6 s)) i ≡ i)
+Inv-loop t from n declared₀ params₀ fields₀ ctors₀ g₀ i₀ declared params fields ctors g i =
+    (i ≤ n) × Seen (lines-of t) i g declared params fields ctors × (first (repeated-any (lines-of t)) i ≡ i)
 
 abbrev μ-loop : tie.MeasureT-loop
-μ-loop s from n declared₀ params₀ fields₀ ctors₀ g₀ i₀ declared params fields ctors g i = n - i
+μ-loop t from n declared₀ params₀ fields₀ ctors₀ g₀ i₀ declared params fields ctors g i = n - i
 
 loop-holds : tie.Need-loop-holds Inv-loop μ-loop
 loop-holds c =
     let a = c .before in
-    let s = a .args .s .now in
-    let h : Headed s (a .args .from) = record { no-bad = a .pre .0 .no-bad; in-order = a .pre .0 .in-order; from-is = a .pre .1 } in
-    (from-le s (a .args .from) h, seen-none s (a .args .from) h _ refl refl, none-repeated s (a .args .from) h)
+    let s = lines-of (a .args .t .now) in
+    let h : Headed s (a .args .from) = record { in-order = a .pre .0 .in-order; from-is = a .pre .1 } in
+    (omega (arith, from-le s (a .args .from) h, length-lines-of (a .args .t .now)), seen-none s (a .args .from) h _ refl refl, none-repeated s (a .args .from) h)
 
 repeats-requires : tie.Need-repeats-requires Inv-loop μ-loop
 repeats-requires c κs =
     let l = c .before .before .before .before .before in
     let a = l .before .before in
-    (a .pre .0 .no-bad, named-line (a .args .s .now) (a .pre .0) (l .loop .i) (omega arith))
+    (omega arith, named-line (lines-of (a .args .t .now)) (a .pre .0) (l .loop .i) (omega (arith, length-lines-of (a .args .t .now))))
 
 returns : tie.Need-returns Inv-loop μ-loop
 returns c =
     let l = c .before .before .before .before .before .before .before in
     let a = l .before .before in
-    let s = a .args .s .now in
+    let s = lines-of (a .args .t .now) in
     let o = l .loop in
+    let w : o .i < length s = omega (arith, length-lines-of (a .args .t .now)) in
     let r = c .before .repeats in
-    sym (first-found (repeated-any (lines 6 s)) (length s / 32) (o .i) (omega arith) (o .inv .2) (seen-test s (a .pre .0) (o .i) (omega arith) (o .g) (o .declared) (o .params) (o .fields) (o .ctors) (o .inv .1) (r .result) (r .ensures .0) ∙ c .if1 .taken))
+    sym (first-found (repeated-any s) (length s) (o .i) (omega arith) (o .inv .2) (seen-test s (a .pre .0) (o .i) w (o .g) (o .declared) (o .params) (o .fields) (o .ctors) (o .inv .1) (r .result) (r .ensures .0) ∙ c .if1 .taken))
 
 groups-after-requires : tie.Need-groups-after-requires Inv-loop μ-loop
 groups-after-requires c κs =
     let l = c .before .before .before .before .before .before .before in
     let a = l .before .before in
     let o = l .loop in
-    (a .pre .0 .no-bad, groups-small (a .args .s .now) (a .pre .0) (o .i) (omega arith) (o .g) (o .declared) (o .params) (o .fields) (o .ctors) (o .inv .1))
+    (omega arith, groups-small (lines-of (a .args .t .now)) (a .pre .0) (o .i) (omega (arith, length-lines-of (a .args .t .now))) (o .g) (o .declared) (o .params) (o .fields) (o .ctors) (o .inv .1))
 
 loop-again : tie.Need-loop-again Inv-loop μ-loop
 loop-again c =
     let l = c .before .before .before .before .before .before .before .before in
     let a = l .before .before in
-    let s = a .args .s .now in
+    let s = lines-of (a .args .t .now) in
     let o = l .loop in
+    let w : o .i < length s = omega (arith, length-lines-of (a .args .t .now)) in
     let r = c .before .before .repeats in (
       omega arith,
       rw add-one
-          (seen-next s (a .pre .0) (o .i) (omega arith) (o .g) (o .declared) (o .params) (o .fields) (o .ctors) (o .inv .1) (r .result) _ _ _ _ (c .groups-after .result) (r .ensures) (c .groups-after .ensures)),
-      first-more (repeated-any (lines 6 s)) (o .i) (o .inv .2) (seen-test s (a .pre .0) (o .i) (omega arith) (o .g) (o .declared) (o .params) (o .fields) (o .ctors) (o .inv .1) (r .result) (r .ensures .0) ∙ c .before .if1 .left),
+          (seen-next s (a .pre .0) (o .i) w (o .g) (o .declared) (o .params) (o .fields) (o .ctors) (o .inv .1) (r .result) _ _ _ _ (c .groups-after .result) (r .ensures) (c .groups-after .ensures)),
+      first-more (repeated-any s) (o .i) (o .inv .2) (seen-test s (a .pre .0) (o .i) w (o .g) (o .declared) (o .params) (o .fields) (o .ctors) (o .inv .1) (r .result) (r .ensures .0) ∙ c .before .if1 .left),
     )
 
 returns-2 : tie.Need-returns-2 Inv-loop μ-loop
 returns-2 c =
-    let e : c .before .loop .i ≡ length (c .before .before .before .args .s .now) / 32 = omega arith in
-    sym (rw e at (c .before .loop .inv .2))
+    let t = c .before .before .before .args .t .now in
+    let e : c .before .loop .i ≡ length (lines-of t) = omega (arith, length-lines-of t) in
+    omega (arith, length-lines-of t, (rw e at (c .before .loop .inv .2)))
 
 pub repeated-spec : {M : Type 1} → statement M
 repeated-spec =

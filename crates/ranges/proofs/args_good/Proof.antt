@@ -4,21 +4,22 @@ use mathlib.Core.Bool.{not}
 use Prim.Native.Nat.{_+_, _≤_, _-_}
 use native.Mathlib.Omega.{arith}
 use borrow.Author.Needs.{needs}
-use Rattle.sheet.specs.Sheet.{first, lines}
+use Rattle.sheet.specs.Sheet.{first}
+use Rattle.cells.specs.Cells.{lines-of}
 use Rattle.sheet.specs.FirstLaws.{first-more, first-found}
 use Rattle.meaning.specs.Rows.{row5}
-use Rattle.ranges.specs.RangesLaws.{header-within, arg-lettered, row5-arg}
+use Rattle.ranges.specs.RangesLaws.{within, row5-arg}
 use Rattle.ranges.proofs.args_good.Statement.{statement}
 use Rattle.ranges.proofs.args_good.Tie as tie
 
 abbrev Inv-loop : tie.InvT-loop
-Inv-loop s names args types end i₀ i = (names ≤ i) × (i ≤ end) × (first (row5 (lines 6 s)) i ≡ i)
+Inv-loop t names args types end i₀ i = (names ≤ i) × (i ≤ end) × (first (row5 (lines-of t)) i ≡ i)
 
 abbrev μ-loop : tie.MeasureT-loop
-μ-loop s names args types end i₀ i = end - i
+μ-loop t names args types end i₀ i = end - i
 
 add-end : tie.Need-add-end Inv-loop μ-loop
-add-end c = let a = c .before .args in omega (arith, header-within (a .s .now) (a .names) (a .args) (a .types) (c .before .pre .0))
+add-end c = let a = c .before .args in omega (arith, within (a .t .now) (a .names) (a .args) (a .types) (c .before .pre .0))
 
 loop-holds : tie.Need-loop-holds Inv-loop μ-loop
 loop-holds c = (omega arith, omega arith, c .before .pre .1)
@@ -26,32 +27,33 @@ loop-holds c = (omega arith, omega arith, c .before .pre .1)
 good-arg-requires : tie.Need-good-arg-requires Inv-loop μ-loop
 good-arg-requires c κs =
     let p = c .before .before .before in
-    arg-lettered (p .args .s .now) (p .args .names) (p .args .args) (p .args .types) (p .pre .0) (c .before .loop .i) (c .before .loop .inv .0) (omega arith)
+    let a = p .args in
+    omega (arith, within (a .t .now) (a .names) (a .args) (a .types) (p .pre .0))
 
 returns : tie.Need-returns Inv-loop μ-loop
 returns c =
     let p = c .before .before .before .before .before in
-    let s = p .args .s .now in
+    let s = lines-of (p .args .t .now) in
     let o = c .before .before .before .loop in
-    sym (first-found (row5 (lines 6 s)) (p .args .names + p .args .args) (o .i) (omega arith) (o .inv .2) (row5-arg s (p .args .names) (p .args .args) (p .args .types) (p .pre .0) (o .i) (o .inv .0) (omega arith) ∙ ap not (sym (c .before .good-arg .ensures)) ∙ c .if1 .taken))
+    sym (first-found (row5 s) (p .args .names + p .args .args) (o .i) (omega arith) (o .inv .2) (row5-arg s (p .args .names) (p .args .args) (p .args .types) (p .pre .0) (o .i) (o .inv .0) (omega arith) ∙ ap not (sym (c .before .good-arg .ensures)) ∙ c .if1 .taken))
 
 add-i : tie.Need-add-i Inv-loop μ-loop
 add-i c =
     let p = c .before .before .before .before .before in
     let a = p .args in
-    omega (arith, header-within (a .s .now) (a .names) (a .args) (a .types) (p .pre .0))
+    omega (arith, within (a .t .now) (a .names) (a .args) (a .types) (p .pre .0))
 
 loop-again : tie.Need-loop-again Inv-loop μ-loop
 loop-again c =
     let p = c .before .before .before .before .before in
-    let s = p .args .s .now in
+    let s = lines-of (p .args .t .now) in
     let o = c .before .before .before .loop in
-    (omega arith, omega arith, first-more (row5 (lines 6 s)) (o .i) (o .inv .2) (row5-arg s (p .args .names) (p .args .args) (p .args .types) (p .pre .0) (o .i) (o .inv .0) (omega arith) ∙ ap not (sym (c .before .good-arg .ensures)) ∙ c .if1 .left))
+    (omega arith, omega arith, first-more (row5 s) (o .i) (o .inv .2) (row5-arg s (p .args .names) (p .args .args) (p .args .types) (p .pre .0) (o .i) (o .inv .0) (omega arith) ∙ ap not (sym (c .before .good-arg .ensures)) ∙ c .if1 .left))
 
 returns-2 : tie.Need-returns-2 Inv-loop μ-loop
 returns-2 c =
     let p = c .before .before .before in
-    let s = p .args .s .now in
+    let s = lines-of (p .args .t .now) in
     let e : c .before .loop .i ≡ p .args .names + p .args .args = omega arith in
     sym (rw e at (c .before .loop .inv .2))
 

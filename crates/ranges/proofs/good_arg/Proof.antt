@@ -5,10 +5,10 @@ use Rattle.ranges.proofs.good_arg.Statement.{statement}
 use Rattle.ranges.proofs.good_arg.Tie as tie
 
 returns : tie.Need-returns
-returns c = rw (← (c .before .value .ensures), le-ltb _ _ (c .if1 .taken))
+returns c = rw (← (c .before .number .ensures), le-ltb _ _ (c .if1 .taken))
 
 returns-2 : tie.Need-returns-2
-returns-2 c = rw (c .zeros-from .ensures, ← (c .before .before .value .ensures), lt-ltb _ _ (c .before .if1 .left))
+returns-2 c = rw (c .zeros-from .ensures, ← (c .before .before .number .ensures), lt-ltb _ _ (c .before .if1 .left))
 
 pub good-arg-spec : {M : Type 1} → statement M
 good-arg-spec =

@@ -3,8 +3,7 @@ use mathlib.Core.Path.{_≡_, sym, _∙_}
 use Prim.Native.Nat.{_≤_}
 use native.Mathlib.Omega.{arith}
 use borrow.Author.Needs.{needs}
-use Rattle.sheet.specs.Sheet.{count, lines}
-use Rattle.sheet.specs.SheetLaws.{length-lines}
+use Rattle.cells.specs.Cells.{lines-of}
 use Rattle.meaning.specs.Program.{name-line, arg-line}
 use Rattle.runs.specs.Runs.{run-end, runs-of}
 use Rattle.runs.specs.RunsLaws.{run-le}
@@ -13,14 +12,13 @@ use Rattle.runs.proofs.runs_of.Tie as tie
 
 run-end-requires-2 : tie.Need-run-end-requires-2
 run-end-requires-2 c κs =
-    let s = c .before .before .args .s .now in
-    (c .before .before .pre, omega (arith, c .run-end .ensures, run-le name-line (lines 6 s) 0, length-lines 6 s))
+    let t = c .before .before .args .t .now in
+    omega (arith, c .run-end .ensures, run-le name-line (lines-of t) 0)
 
 run-end-requires-3 : tie.Need-run-end-requires-3
 run-end-requires-3 c κs =
-    let a = c .before .before .before in
-    let s = a .args .s .now in
-    (a .pre, omega (arith, c .run-end2 .ensures, run-le arg-line (lines 6 s) (c .before .run-end .result), length-lines 6 s))
+    let t = c .before .before .before .args .t .now in
+    omega (arith, c .run-end2 .ensures, run-le arg-line (lines-of t) (c .before .run-end .result))
 
 returns : tie.Need-returns
 unfolding runs-of

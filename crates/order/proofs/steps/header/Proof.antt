@@ -4,15 +4,16 @@ use mathlib.Core.Logic.{inl, inr}
 use borrow.Author.Needs.{needs}
 use borrow.Author.Tests.{ne-eqb}
 use Rattle.sheet.specs.Line.{letter}
-use Rattle.sheet.specs.Sheet.{line}
+use Rattle.cells.specs.Cells.{lines-of}
+use Rattle.meaning.specs.Rows.{line-at}
 use Rattle.meaning.specs.Rows.{due-header}
 use Rattle.order.specs.DueLaws.{due-head}
 use Rattle.order.proofs.steps.header.Statement.{statement}
 use Rattle.order.proofs.steps.header.Tie as tie
 
 -- what is read is the line's letter
-read : (c : tie.After-letter-of) → letter (line 6 (c .before .before .args .s .now) (c .before .before .args .i)) ≡ c .letter-of .result
-read c = sym (c .letter-of .ensures)
+read : (c : tie.After-letter) → letter (line-at (lines-of (c .before .before .args .t .now)) (c .before .before .args .i)) ≡ c .letter .result
+read c = sym (c .letter .ensures)
 
 returns : tie.Need-returns
 unfolding due-header
@@ -30,9 +31,9 @@ returns-4 : tie.Need-returns-4
 returns-4 c =
     rw (
       c .announced .ensures,
-      c .before .before .before .value .ensures,
-      c .before .before .value2 .ensures,
-      c .before .value3 .ensures,
+      c .before .before .before .number .ensures,
+      c .before .before .number2 .ensures,
+      c .before .number3 .ensures,
       due-head _ _ _ (read (c .before .before .before .before .before)) (c .before .before .before .before .match .keys4),
     )
 

@@ -3,26 +3,27 @@ use mathlib.Core.Path.{_≡_, sym, _∙_}
 use borrow.Author.Needs.{needs}
 use borrow.Author.Tests.{eq-eqb, ne-eqb, lt-ltb, le-ltb}
 use Rattle.sheet.specs.Line.{letter}
-use Rattle.sheet.specs.Sheet.{line}
+use Rattle.cells.specs.Cells.{lines-of}
+use Rattle.meaning.specs.Rows.{line-at}
 use Rattle.order.specs.DueLaws.{due-param, due-field, due-ctor, due-verdict, due-other}
 use Rattle.order.proofs.steps.within.Statement.{statement}
 use Rattle.order.proofs.steps.within.Tie as tie
 
 -- what is read is the line's letter
-read : (c : tie.After-letter-of) → letter (line 6 (c .before .before .args .s .now) (c .before .before .args .i)) ≡ c .letter-of .result
-read c = sym (c .letter-of .ensures)
+read : (c : tie.After-letter) → letter (line-at (lines-of (c .before .before .args .t .now)) (c .before .before .args .i)) ≡ c .letter .result
+read c = sym (c .letter .ensures)
 
 -- and in each arm it is that arm's
-param : (c : tie.At-match-keys1) → letter (line 6 (c .before .before .before .args .s .now) (c .before .before .before .args .i)) ≡ 80
+param : (c : tie.At-match-keys1) → letter (line-at (lines-of (c .before .before .before .args .t .now)) (c .before .before .before .args .i)) ≡ 80
 param c = read (c .before) ∙ c .match .keys1
 
-field : (c : tie.At-match-keys2) → letter (line 6 (c .before .before .before .args .s .now) (c .before .before .before .args .i)) ≡ 70
+field : (c : tie.At-match-keys2) → letter (line-at (lines-of (c .before .before .before .args .t .now)) (c .before .before .before .args .i)) ≡ 70
 field c = read (c .before) ∙ c .match .keys2
 
-ctor : (c : tie.At-match-keys3) → letter (line 6 (c .before .before .before .args .s .now) (c .before .before .before .args .i)) ≡ 67
+ctor : (c : tie.At-match-keys3) → letter (line-at (lines-of (c .before .before .before .args .t .now)) (c .before .before .before .args .i)) ≡ 67
 ctor c = read (c .before) ∙ c .match .keys3
 
-verdict : (c : tie.At-match-keys4) → letter (line 6 (c .before .before .before .args .s .now) (c .before .before .before .args .i)) ≡ 86
+verdict : (c : tie.At-match-keys4) → letter (line-at (lines-of (c .before .before .before .args .t .now)) (c .before .before .before .args .i)) ≡ 86
 verdict c = read (c .before) ∙ c .match .keys4
 
 returns : tie.Need-returns
@@ -59,7 +60,7 @@ returns-11 : tie.Need-returns-11
 returns-11 c = rw (due-field _ _ _ _ (field (c .before .before)), le-ltb _ _ (c .before .if2 .left), ne-eqb _ _ (c .if3 .left))
 
 returns-12 : tie.Need-returns-12
-returns-12 c = rw (due-ctor _ _ _ _ (ctor (c .before .before .before .before)), le-ltb _ _ (c .before .before .before .if4 .left), le-ltb _ _ (c .before .before .if5 .left), ne-eqb _ _ (c .before .if6 .left), c .value .ensures)
+returns-12 c = rw (due-ctor _ _ _ _ (ctor (c .before .before .before .before)), le-ltb _ _ (c .before .before .before .if4 .left), le-ltb _ _ (c .before .before .if5 .left), ne-eqb _ _ (c .before .if6 .left), c .number .ensures)
 
 returns-13 : tie.Need-returns-13
 returns-13 c = rw (due-verdict _ _ _ _ (verdict (c .before .before .before)), le-ltb _ _ (c .before .before .if7 .left), le-ltb _ _ (c .before .if8 .left), le-ltb _ _ (c .if9 .left))

@@ -8,7 +8,7 @@ returns : tie.Need-returns
 unfolding good-head
 returns c =
     let m = c .before .before .before in
-    rw (c .both2 .ensures, c .before .good-last .ensures, c .before .before .both .ensures, m .value4 .ensures, m .before .value3 .ensures, m .before .before .value2 .ensures, m .before .before .before .value .ensures)
+    rw (c .both2 .ensures, c .before .good-last .ensures, c .before .before .both .ensures, m .number4 .ensures, m .before .number3 .ensures, m .before .before .number2 .ensures, m .before .before .before .number .ensures)
 
 pub good-head-spec : {M : Type 1} → statement M
 good-head-spec =

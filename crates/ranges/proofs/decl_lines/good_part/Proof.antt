@@ -3,32 +3,19 @@ use mathlib.Core.Path.{_≡_, sym, _∙_}
 use mathlib.Core.Logic.{inl, inr, ⊎-elim}
 use borrow.Author.Needs.{needs}
 use borrow.Author.Tests.{ne-eqb}
-use Rattle.sheet.specs.Line.{letter}
-use Rattle.sheet.specs.Sheet.{line}
-use Rattle.sheet.specs.SheetLaws.{getD-lines}
-use Rattle.meaning.specs.Program.{name-line}
+use Rattle.cells.specs.Cells.{lines-of}
 use Rattle.meaning.specs.Rows.{good-numbers}
 use Rattle.ranges.specs.DeclLinesLaws.{no-name, no-arg, no-type}
 use Rattle.ranges.proofs.decl_lines.good_part.Statement.{statement}
+use Rattle.cells.specs.CellsLaws.{length-lines-of}
+use native.Mathlib.Omega.{arith}
+use lib.ListN.{length}
+use Prim.Native.Nat.{_<_}
 use Rattle.ranges.proofs.decl_lines.good_part.Tie as tie
 
--- the line is no N line
-other : (c : tie.After-value) → letter (line 6 (c .before .before .before .args .s .now) (c .before .before .before .args .i)) ≡ name-line → ⊥
-other c =
-    let p = c .before .before .before in
-    no-name (p .args .s .now) (p .args .names) (p .args .args) (p .args .types) (p .pre .0) (p .args .i) (p .pre .1 .0) (p .pre .1 .1)
-
-zeros-from-requires : tie.Need-zeros-from-requires
-zeros-from-requires c κs = let p = c .before .before .before .before in (p .pre .0 .no-bad, (p .pre .1 .1, other (c .before)))
-
-zeros-from-requires-2 : tie.Need-zeros-from-requires-2
-zeros-from-requires-2 c κs = let p = c .before .before .before .before in (p .pre .0 .no-bad, (p .pre .1 .1, other (c .before)))
-
-zeros-from-requires-3 : tie.Need-zeros-from-requires-3
-zeros-from-requires-3 c κs = let p = c .before .before .before .before .before .before in (p .pre .0 .no-bad, (p .pre .1 .1, other (c .before .before .before)))
-
-zeros-from-requires-4 : tie.Need-zeros-from-requires-4
-zeros-from-requires-4 c κs = let p = c .before .before .before .before in (p .pre .0 .no-bad, (p .pre .1 .1, other (c .before)))
+-- the line is one of those
+inside : (p : tie.Start) → p .args .i < length (lines-of (p .args .t .now))
+inside p = omega (arith, p .pre .1, length-lines-of (p .args .t .now))
 
 returns : tie.Need-returns
 unfolding good-numbers
@@ -37,8 +24,8 @@ returns c =
     let a = m .before .before .before .args in
     let p = m .before .before .before .pre in
     ⊎-elim
-    (λ (k : m .before .letter-of .result ≡ 68). rw (c .good-head .ensures, getD-lines 6 (a .s .now) (a .i), ← (m .before .letter-of .ensures), k, ← (p .0 .names-are), ← (p .0 .types-are)))
-    (λ (k : m .before .letter-of .result ≡ 73). rw (c .good-head .ensures, getD-lines 6 (a .s .now) (a .i), ← (m .before .letter-of .ensures), k, ← (p .0 .names-are), ← (p .0 .types-are)))
+    (λ (k : m .before .letter .result ≡ 68). rw (c .good-head .ensures, ← (m .before .letter .ensures), k, ← (p .0 .names-are), ← (p .0 .types-are)))
+    (λ (k : m .before .letter .result ≡ 73). rw (c .good-head .ensures, ← (m .before .letter .ensures), k, ← (p .0 .names-are), ← (p .0 .types-are)))
     (c .before .match .keys1)
 
 returns-2 : tie.Need-returns-2
@@ -46,21 +33,21 @@ unfolding good-numbers
 returns-2 c =
     let m = c .before .before .before in
     let a = m .before .before .before .args in
-    rw (c .both .ensures, c .before .zeros-from .ensures, getD-lines 6 (a .s .now) (a .i), ← (m .before .letter-of .ensures), c .before .before .match .keys2, ← (m .value .ensures), ← (m .before .before .before .pre .0 .names-are))
+    rw (c .both .ensures, c .before .zeros-from .ensures, ← (m .before .letter .ensures), c .before .before .match .keys2, ← (m .number .ensures), ← (m .before .before .before .pre .0 .names-are))
 
 returns-3 : tie.Need-returns-3
 unfolding good-numbers
 returns-3 c =
     let m = c .before .before .before in
     let a = m .before .before .before .args in
-    rw (c .both2 .ensures, c .before .zeros-from2 .ensures, getD-lines 6 (a .s .now) (a .i), ← (m .before .letter-of .ensures), c .before .before .match .keys3, ← (m .value .ensures), ← (m .before .before .before .pre .0 .names-are))
+    rw (c .both2 .ensures, c .before .zeros-from2 .ensures, ← (m .before .letter .ensures), c .before .before .match .keys3, ← (m .number .ensures), ← (m .before .before .before .pre .0 .names-are))
 
 returns-4 : tie.Need-returns-4
 unfolding good-numbers
 returns-4 c =
     let m = c .before .before .before .before .before in
     let a = m .before .before .before .args in
-    rw (c .both4 .ensures, c .before .zeros-from3 .ensures, c .before .before .both3 .ensures, c .before .before .before .value2 .ensures, getD-lines 6 (a .s .now) (a .i), ← (m .before .letter-of .ensures), c .before .before .before .before .match .keys4, ← (m .value .ensures), ← (m .before .before .before .pre .0 .names-are), ← (m .before .before .before .pre .0 .types-are))
+    rw (c .both4 .ensures, c .before .zeros-from3 .ensures, c .before .before .both3 .ensures, c .before .before .before .number2 .ensures, ← (m .before .letter .ensures), c .before .before .before .before .match .keys4, ← (m .number .ensures), ← (m .before .before .before .pre .0 .names-are), ← (m .before .before .before .pre .0 .types-are))
 
 returns-5 : tie.Need-returns-5
 unfolding good-numbers
@@ -68,21 +55,20 @@ returns-5 c =
     let m = c .before .before in
     let p = m .before .before .before in
     let a = p .args in
-    let x = m .before .letter-of .result in
-    let e = m .before .letter-of .ensures in
+    let x = m .before .letter .result in
+    let e = m .before .letter .ensures in
     let r = c .before .match .rest in
     rw (
       c .zeros-from4 .ensures,
-      getD-lines 6 (a .s .now) (a .i),
       ← e,
       ne-eqb x 70 (r .1),
       ne-eqb x 67 (r .0 .1),
       ne-eqb x 80 (r .0 .0 .1),
       ne-eqb x 68 (λ q. r .0 .0 .0 .1 (inl q)),
       ne-eqb x 73 (λ q. r .0 .0 .0 .1 (inr q)),
-      ne-eqb x 89 (λ q. no-type (a .s .now) (a .names) (a .args) (a .types) (p .pre .0) (a .i) (p .pre .1 .0) (p .pre .1 .1) (sym e ∙ q)),
-      ne-eqb x 65 (λ q. no-arg (a .s .now) (a .names) (a .args) (a .types) (p .pre .0) (a .i) (p .pre .1 .0) (p .pre .1 .1) (sym e ∙ q)),
-      ne-eqb x 78 (λ q. no-name (a .s .now) (a .names) (a .args) (a .types) (p .pre .0) (a .i) (p .pre .1 .0) (p .pre .1 .1) (sym e ∙ q)),
+      ne-eqb x 89 (λ q. no-type (lines-of (a .t .now)) (a .names) (a .args) (a .types) (p .pre .0) (a .i) (p .pre .1 .0) (inside p) (sym e ∙ q)),
+      ne-eqb x 65 (λ q. no-arg (lines-of (a .t .now)) (a .names) (a .args) (a .types) (p .pre .0) (a .i) (p .pre .1 .0) (inside p) (sym e ∙ q)),
+      ne-eqb x 78 (λ q. no-name (lines-of (a .t .now)) (a .names) (a .args) (a .types) (p .pre .0) (a .i) (p .pre .1 .0) (inside p) (sym e ∙ q)),
     )
 
 pub good-part-spec : {M : Type 1} → statement M
@@ -93,16 +79,16 @@ good-part-spec =
     (λ c κs. search needs)
     (λ c. search needs)
     (λ c κs. search needs)
-    zeros-from-requires
     (λ c κs. search needs)
-    zeros-from-requires-2
+    (λ c κs. search needs)
+    (λ c κs. search needs)
     (λ c κs. search needs)
     (λ c κs. search needs)
     (λ c. search needs)
     (λ c κs. search needs)
-    zeros-from-requires-3
     (λ c κs. search needs)
-    zeros-from-requires-4
+    (λ c κs. search needs)
+    (λ c κs. search needs)
     returns
     returns-2
     returns-3

@@ -6,7 +6,7 @@ use Rattle.verdicts.proofs.verdict_lines.no_verdict.Tie as tie
 returns : tie.Need-returns
 returns c =
     let m = c .before .before in
-    rw (c .both2 .ensures, c .before .both .ensures, m .value3 .ensures, m .before .value2 .ensures, m .before .before .value .ensures)
+    rw (c .both2 .ensures, c .before .both .ensures, m .number3 .ensures, m .before .number2 .ensures, m .before .before .number .ensures)
 
 pub no-verdict-spec : {M : Type 1} → statement M
 no-verdict-spec =
