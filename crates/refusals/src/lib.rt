@@ -77,7 +77,7 @@ fn lines_checked(s: &[u8], t: &[u32]) -> Checked
     }
 }
 
-// Tests rows 2 to 7; where they pass, the lines stand in the cells.
+// Tests rows 2 to 7, with cells for the lines.
 pub fn check_rows(s: &[u8], t: &mut [u32]) -> Checked
     requires { ⌜ (row1 base (now s) ≡ false) × (6 * count 6 (now s) ≤ length (now t)) ⌝ }
     ensures { λ r. ⌜ r ≡ checked-of (now (s .entry)) ⌝ }
