@@ -23,4 +23,4 @@ abbrev pub headed : Runs → Tally
 headed r = record { names = r .names; args = r .args - r .names; types = r .types - r .args; decls = 0; params = 0; ctors = 0; fields = 0 }
 
 abbrev pub declared : Tally → Counts
-declared t = record { names = t .names; args = t .args; types = t .types; decls = t .decls }
+declared t = record { names = t .names; args = t .args; types = t .types; decls = t .decls; ctors = t .ctors; fields = t .fields }

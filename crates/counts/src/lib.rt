@@ -75,6 +75,8 @@ fn declared(t: Tally) -> Counts
         args: t.args,
         types: t.types,
         decls: t.decls,
+        ctors: t.ctors,
+        fields: t.fields,
     }
 }
 

@@ -1,9 +1,9 @@
 -- Closing a declaration's types changes none of what erasure sees; and the fields of a body are the declaration's F lines.
 -- Assumes nothing.
 use mathlib.Core.Path.{_≡_, refl, ap, ap₂, sym, _∙_}
-use mathlib.Core.List.{List, [], _∷_, _++_, map, append-nil}
+use mathlib.Core.List.{List, [], _∷_, _++_, map}
 use mathlib.Core.Bool.{Bool, true, false, _&&_}
-use Prim.Native.Nat.{ℕ, zero, suc, _≤_, _<_}
+use Prim.Native.Nat.{ℕ, zero, suc, _<_}
 use native.Mathlib.Omega.{arith}
 use lib.ListN.{length, getD}
 use borrow.Author.Tests.{eqb-true}
@@ -14,7 +14,7 @@ use Rattle.model.specs.Decl.{Field, member, close, close-field}
 use Rattle.model.specs.Erasure.{is-pure, cty-erased, ctys-erased, fields-erased}
 use Rattle.meaning.specs.Program.{ctor-line, field-line, is, select, before, Group, groups, type-at, field-of}
 use Rattle.meaning.specs.Rows.{count-of}
-use Rattle.meaning.specs.Laws.Program.{select-append, select-no, flat, before-flat, Grouped, AllGrouped, grouped}
+use Rattle.meaning.specs.Laws.Program.{select-append, select-no, flat, before-flat, AllGrouped, grouped}
 
 -- ---- closing
 module _ (er : ℕ → Bool) (ps : List ℕ) where

@@ -2,77 +2,31 @@
 -- the sheet, and the declaration that they make. Assumes nothing.
 use mathlib.Core.Logic.{⊎-elim}
 use mathlib.Core.Path.{_≡_, refl, ap, sym, _∙_}
-use mathlib.Core.List.{List, [], _∷_, _++_, map, append-nil}
+use mathlib.Core.List.{List, [], _∷_, _++_, append-nil}
 use mathlib.Core.Bool.{Bool, true, false, _||_}
-use Prim.Native.Nat.{ℕ, zero, suc, _+_, _≤_, _<_}
+use Prim.Native.Nat.{ℕ, zero, suc, _+_, _-_, _≤_, _<_}
 use native.Mathlib.Omega.{arith}
 use lib.Dec.{eqb, ltb, leb}
 use lib.ListN.{length, getD, take, drop, length-append, length-drop, take-append-drop, List·getD-append}
 use lib.Seq.{take-at, take-add, take-all, take-length, getD-append-seam, getD-append-add, getD-drop}
 use borrow.Author.Tests.{ltb-true, ltb-false, eqb-true}
-use Rattle.columns.specs.Column.{pick, _⇒_∥_}
-use Rattle.sheet.specs.Line.{Line, bad, letter, number, isBad}
-use Rattle.sheet.specs.Sheet.{first, count, lines, line, row2}
-use Rattle.sheet.specs.SheetLaws.{length-lines}
+use Rattle.columns.specs.Column.{pick}
+use Rattle.sheet.specs.Line.{Line, bad, letter}
 use Rattle.sheet.specs.FirstLaws.{none-first}
 use Rattle.sheet.specs.ListLaws.{Every, every-at, false-true, neither}
 use Rattle.meaning.specs.declared.Due.{Due}
-use Rattle.meaning.specs.declared.Due.the-variants.{Header, Within, Broken}
-use Rattle.model.specs.Cty.{Cty}
-use Rattle.model.specs.Decl.{Dtype, Origin, here, imported, Decl, no-decl, dtype-at, origin-at, close-fields}
-use Rattle.meaning.specs.Program.{
-  name-line,
-  arg-line,
-  type-line,
-  import-line,
-  ctor-line,
-  field-line,
-  verdict-line,
-  is,
-  is-head,
-  select,
-  before,
-  Group,
-  groups,
-  trees,
-  dtype-of,
-  info-of,
-  verdict-of,
-  decl-of,
-  program,
-}
-use Rattle.meaning.specs.Rows.{line-at, count-of, count-before, heads-before, raws, due, due-header, due-after, is-broken, row3}
+use Rattle.meaning.specs.declared.Due.the-variants.{Header, Broken}
+use Rattle.model.specs.Decl.{here, imported, Decl, no-decl, dtype-at, origin-at, close-fields}
+use Rattle.meaning.specs.Program.{name-line, arg-line, type-line, import-line, verdict-line, is, is-head, select, before, Group, groups, trees, dtype-of, info-of, verdict-of, decl-of, program}
+use Rattle.meaning.specs.Rows.{line-at, count-of, count-before, heads-before, due, due-header, due-after, row3}
 use Rattle.model_laws.specs.Lists.{getD-map}
-use Rattle.meaning.specs.Laws.Program.{
-  None,
-  Starts,
-  select-append,
-  select-none,
-  select-yes,
-  select-no,
-  none-before,
-  flat,
-  before-flat,
-  Grouped,
-  AllGrouped,
-  grouped,
-  starts-flat,
-  heads,
-  heads-none,
-  head-cases,
-  head-not,
-  length-groups,
-  group-at,
-  program-groups,
-  Whole,
-  AllWhole,
-}
-use Rattle.meaning.specs.Laws.Rows.{Ends, is-header, is-header-line, row3-ends, row3-raws, ends-prefix, ends-whole}
+use Rattle.meaning.specs.Laws.Program.{None, Starts, select-append, select-none, select-yes, none-before, flat, before-flat, AllGrouped, grouped, starts-flat, heads, heads-none, head-cases, length-groups, group-at, program-groups, Whole, AllWhole}
+use Rattle.meaning.specs.Laws.Rows.{Ends, is-header, is-header-line, row3-ends, ends-prefix, ends-whole}
 use Rattle.order.specs.StepLaws.{count-before-step, heads-before-step}
 use Rattle.limits.specs.Limits.{start}
 use Rattle.limits.specs.LimitsLaws.{start-at, start-past, start-within, start-head, start-counts}
-use Rattle.refusals.specs.Rows.{Passed}
-use Rattle.tables.specs.Tables.{nth, no-group, group, head-line, decls-of, first-of}
+use Rattle.declared.specs.Passed.{Passed}
+use Rattle.declared.specs.Lines.{nth, no-group, group, head-line, decls-of, first-of}
 
 -- ---- the lines up to a declaration
 pub take-before : (p : Line → Bool) (ls : List Line) → take (length (before p ls)) ls ≡ before p ls
@@ -227,22 +181,15 @@ select-nil : (x : ℕ) → select x [] ≡ []
 unfolding select
 select-nil x = refl
 
-good-at : (b : List ℕ) → Passed b → (i : ℕ) → i < count 6 b → isBad (line 6 b i) ≡ false
-unfolding row2
-good-at b p i h = none-first (λ k. isBad (line 6 b k)) (count 6 b) (p .no-bad) i h
+module _ (ls : List Line) (p : Passed ls) where
+  pub ends-lines : Ends ls
+  ends-lines = row3-ends ls (λ i l. none-first (row3 ls) (suc (length ls)) (p .in-order) i (omega arith))
 
-module _ (b : List ℕ) (p : Passed b) where
-  pub ends-lines : Ends (lines 6 b)
-  ends-lines =
-      row3-ends (lines 6 b)
-      (λ i l. sym (row3-raws 6 b (λ k m. good-at b p k m) i) ∙ none-first (row3 (raws 6 b)) (suc (count 6 b)) (p .in-order) i (omega (arith, length-lines 6 b)))
+  pub wholes : AllWhole (groups is-head ls)
+  wholes = ends-whole ls ends-lines
 
-  pub wholes : AllWhole (groups is-head (lines 6 b))
-  wholes = ends-whole (lines 6 b) ends-lines
-
-  pub header-ends : Every (λ l. is-header-line l ≡ true) (before is-head (lines 6 b))
+  pub header-ends : Every (λ l. is-header-line l ≡ true) (before is-head ls)
   header-ends =
-      let ls : List Line = lines 6 b in
       header-lines 0 (before is-head ls) (none-before is-head ls)
       (ends-prefix (before is-head ls) (flat (groups is-head ls)) (starts-flat is-head (groups is-head ls) (grouped is-head ls)) (rw (before-flat is-head ls) ends-lines))
 
@@ -260,29 +207,50 @@ module _ (b : List ℕ) (p : Passed b) where
           go false c' true d' q = rw (eqb-true (letter l) 65 d') v
           go false c' false d' q = rw (eqb-true (letter l) 89 q) w
 
-  pub first-zero : (x : ℕ) → eqb 78 x ≡ false → eqb 65 x ≡ false → eqb 89 x ≡ false → first-of x (lines 6 b) 0 ≡ 0
+  pub first-zero : (x : ℕ) → eqb 78 x ≡ false → eqb 65 x ≡ false → eqb 89 x ≡ false → first-of x ls 0 ≡ 0
   unfolding select
   first-zero x u v w =
-      let ls : List Line = lines 6 b in
       let e : 0 + length (before is-head ls) ≡ length (before is-head ls) = omega arith in
       rw (start-after ls 0 0 (omega arith) refl, e, take-before is-head ls) (none-in-header x u v w (before is-head ls) header-ends)
 
   -- ---- V lines
-  pub whole-at : (d : ℕ) → d < decls-of (lines 6 b) → Whole (group (lines 6 b) d)
-  whole-at d h = every-at Whole no-group (groups is-head (lines 6 b)) wholes d (rw length-groups h)
+  pub whole-at : (d : ℕ) → d < decls-of ls → Whole (group ls d)
+  whole-at d h = every-at Whole no-group (groups is-head ls) wholes d (rw length-groups h)
+
+  only-verdict : (g : Group) (w : Whole g) → select verdict-line (g .rest) ≡ w .last ∷ []
+  only-verdict g w = rw (w .ends, select-append verdict-line (w .body) (w .last ∷ []), select-none verdict-line (w .body) (w .before-last), select-yes verdict-line (w .last) [] (w .is-last), select-nil verdict-line)
 
   one-verdict : (g : Group) → Whole g → select verdict-line (g .rest) ≡ (getD (select verdict-line (g .rest)) 0 bad ∷ [])
-  one-verdict g w = let e : select verdict-line (g .rest) ≡ w .last ∷ [] = rw (w .ends, select-append verdict-line (w .body) (w .last ∷ []), select-none verdict-line (w .body) (w .before-last), select-yes verdict-line (w .last) [] (w .is-last), select-nil verdict-line) in rw e
+  one-verdict g w = rw (only-verdict g w)
 
-  verdicts-first : (d : ℕ) → d ≤ decls-of (lines 6 b) → first-of verdict-line (lines 6 b) d ≡ d
+  pub verdicts-first : (d : ℕ) → d ≤ decls-of ls → first-of verdict-line ls d ≡ d
   verdicts-first zero h = first-zero verdict-line refl refl refl
   verdicts-first (suc d) h =
-      let l : d < decls-of (lines 6 b) = omega arith in
-      first-next (lines 6 b) d l verdict-line refl refl
-      ∙ rw (verdicts-first d (omega arith), one-verdict (group (lines 6 b) d) (whole-at d l)) (omega arith)
+      let l : d < decls-of ls = omega arith in
+      first-next ls d l verdict-line refl refl
+      ∙ rw (verdicts-first d (omega arith), one-verdict (group ls d) (whole-at d l)) (omega arith)
 
-  pub verdict-is : (d : ℕ) → d < decls-of (lines 6 b) → nth verdict-line (lines 6 b) d ≡ verdict-of (group (lines 6 b) d .rest)
+  pub verdict-is : (d : ℕ) → d < decls-of ls → nth verdict-line ls d ≡ verdict-of (group ls d .rest)
   verdict-is d h =
-      let e : first-of verdict-line (lines 6 b) d + 0 ≡ d = omega (arith, verdicts-first d (omega arith)) in
-      let n : 0 < count-of verdict-line (group (lines 6 b) d .rest) = rw (one-verdict (group (lines 6 b) d) (whole-at d h)) (omega arith) in
-      rw e at (nth-in (lines 6 b) d h verdict-line refl refl 0 n)
+      let e : first-of verdict-line ls d + 0 ≡ d = omega (arith, verdicts-first d (omega arith)) in
+      let n : 0 < count-of verdict-line (group ls d .rest) = rw (one-verdict (group ls d) (whole-at d h)) (omega arith) in
+      rw e at (nth-in ls d h verdict-line refl refl 0 n)
+
+  -- it is the last line of its declaration
+  pub verdict-place : (d : ℕ) → d < decls-of ls → (start ls d < start ls (suc d)) × (start ls (suc d) ≤ length ls) × (nth verdict-line ls d ≡ line-at ls (start ls (suc d) - 1))
+  verdict-place d h =
+      let i : suc (start ls d) ≤ length ls = line-inside ls d h in
+      let r : List Line = before is-head (drop (suc (start ls d)) ls) in
+      let w = whole-at d h in
+      let e : r ≡ w .body ++ (w .last ∷ []) = ap (λ g. g .rest) (sym (group-is ls d h)) ∙ w .ends in
+      let n : length r ≡ length (w .body) + 1 = ap length e ∙ length-append (w .body) (w .last ∷ []) in
+      let s : start ls (suc d) ≡ suc (start ls d) + length r = start-after ls (suc (start ls d)) (suc d) i (heads-past ls d h) in
+      let m : length r ≤ length (drop (suc (start ls d)) ls) = omega (arith, length-append r (flat (groups is-head (drop (suc (start ls d)) ls))), ap length (before-flat is-head (drop (suc (start ls d)) ls))) in
+      let k : start ls (suc d) - 1 ≡ suc (start ls d) + length (w .body) = omega arith in
+      let v : line-at ls (suc (start ls d) + length (w .body)) ≡ w .last =
+      sym (getD-drop (suc (start ls d)) ls (length (w .body)) bad)
+      ∙ ap (λ (v : List Line). getD v (length (w .body)) bad) (sym (before-flat is-head (drop (suc (start ls d)) ls)))
+      ∙ List·getD-append r (flat (groups is-head (drop (suc (start ls d)) ls))) bad (length (w .body)) (omega arith)
+      ∙ ap (λ (v : List Line). getD v (length (w .body)) bad) e
+      ∙ getD-append-seam (w .body) (w .last) [] bad in
+      (omega arith, omega (arith, length-drop (suc (start ls d)) ls), verdict-is d h ∙ ap (λ (v : List Line). getD v 0 bad) (only-verdict (group ls d) w) ∙ rw k (sym v))

@@ -1,20 +1,17 @@
 -- A line by its number among those of its letter, and by its place in the sheet. Assumes nothing.
-use mathlib.Core.Path.{_≡_, refl, ap, sym, _∙_}
+use mathlib.Core.Path.{_≡_, refl, ap}
 use mathlib.Core.List.{List, [], _∷_}
-use mathlib.Core.Bool.{Bool, true, false, not}
-use Prim.Native.Nat.{ℕ, zero, suc, _≤_, _<_}
+use mathlib.Core.Bool.{Bool, true, false}
+use Prim.Native.Nat.{ℕ, zero, suc, _<_}
 use native.Mathlib.Omega.{arith}
-use lib.ListN.{length, getD, take}
+use lib.ListN.{length}
 use borrow.Author.Tests.{not-false}
-use Rattle.columns.specs.Column.{pick}
-use Rattle.sheet.specs.Line.{Line, bad}
-use Rattle.sheet.specs.Sheet.{first, count, lines}
-use Rattle.sheet.specs.SheetLaws.{length-lines}
+use Rattle.sheet.specs.Line.{Line}
 use Rattle.sheet.specs.FirstLaws.{none-first}
 use Rattle.meaning.specs.Program.{is, select}
 use Rattle.meaning.specs.Rows.{line-at, count-of, count-before, good-numbers, row5}
-use Rattle.refusals.specs.Rows.{Passed}
-use Rattle.tables.specs.Tables.{nth}
+use Rattle.declared.specs.Passed.{Passed}
+use Rattle.declared.specs.Lines.{nth}
 
 -- where line j of a letter stands
 pub record Stands (x : ℕ) (ls : List Line) (j : ℕ) : Type 0 where
@@ -55,6 +52,6 @@ nth-at x (l ∷ ls) (suc i) h e = go (is x l) refl (nth-at x ls i (omega arith) 
     go false q r = rw q r
 
 -- row 5 passes at every line
-pub good-line : (b : List ℕ) → Passed b → (i : ℕ) → i < length (lines 6 b) → good-numbers (lines 6 b) i ≡ true
+pub good-line : (ls : List Line) → Passed ls → (i : ℕ) → i < length ls → good-numbers ls i ≡ true
 unfolding row5
-good-line b p i h = not-false (good-numbers (lines 6 b) i) (none-first (row5 (lines 6 b)) (count 6 b) (p .in-range) i (omega (arith, length-lines 6 b)))
+good-line ls p i h = not-false (good-numbers ls i) (none-first (row5 ls) (length ls) (p .in-range) i (omega arith))

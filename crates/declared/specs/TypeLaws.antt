@@ -1,26 +1,26 @@
 -- The types of a sheet that passed rows 1 to 7: a type is made of its children, which are of lower number. Assumes nothing.
 use mathlib.Core.Path.{_≡_, refl, ap, ap₂, sym, _∙_}
-use mathlib.Core.List.{List, [], _∷_, _++_, map}
+use mathlib.Core.List.{List, [], _∷_, _++_}
 use mathlib.Core.Bool.{Bool, true, false, _&&_, not}
 use Prim.Native.Nat.{ℕ, zero, suc, _+_, _≤_, _<_}
 use native.Mathlib.Omega.{arith}
 use lib.Dec.{eqb, leb, ltb}
-use lib.ListN.{length, getD, take, length-append, List·getD-append}
+use lib.ListN.{length, getD, take, length-append}
 use lib.Seq.{take-take, take-at, take-length, getD-take, getD-append-seam}
 use borrow.Author.Tests.{ltb-true, ltb-false, leb-true, leb-false, eqb-true, not-true, not-false}
-use Rattle.columns.specs.Column.{pick, _⇒_∥_}
+use Rattle.columns.specs.Column.{pick}
 use Rattle.sheet.specs.Line.{Line, bad, letter, number}
-use Rattle.sheet.specs.Sheet.{first, lines}
+use Rattle.sheet.specs.Sheet.{first}
 use Rattle.sheet.specs.FirstLaws.{first-before}
 use Rattle.sheet.specs.ListLaws.{both, contrary}
-use Rattle.model.specs.Cty.{Cty, Ctys, TUnit, TAny, TExn, TVar, TInt, TFloat, TConst, TArrow, TApp, TTuple, TBuf, TRef, TInline, nil, cons}
-use Rattle.meaning.specs.Program.{name-line, arg-line, type-line, is, select, list-of, tree, trees-after, trees}
+use Rattle.model.specs.Cty.{Cty, TUnit, TApp, TTuple, TBuf, TRef, TInline, cons}
+use Rattle.meaning.specs.Program.{name-line, type-line, select, list-of, tree, trees-after, trees}
 use Rattle.meaning.specs.Rows.{some-below, line-at, count-of, zeros-from, is-list, good-type, good-numbers}
 use Rattle.type_lines.specs.TypeLists.{types-of}
 use Rattle.type_lines.specs.TypeLinesLaws.{type-over}
-use Rattle.refusals.specs.Rows.{Passed}
-use Rattle.tables.specs.Tables.{nth}
-use Rattle.declared.specs.LineLaws.{Stands, stands, good-line}
+use Rattle.declared.specs.Passed.{Passed}
+use Rattle.declared.specs.Lines.{nth}
+use Rattle.declared.specs.LineLaws.{stands, good-line}
 
 -- ---- the types one after the other
 module _ (xs : List ℕ) where
@@ -81,10 +81,6 @@ module _ (names : ℕ) (xs : List ℕ) (y : ℕ) (l : Line) (good : good-type na
       go : (c : Bool) → leb 13 (number l 0) ≡ c → number l 0 ≤ 12
       go true e = contrary (good-type names xs y l) good (type-over names xs y l (leb-true 13 (number l 0) e))
       go false e = omega (arith, leb-false 13 (number l 0) e)
-
-  pub good-var : number l 0 ≡ 3 → number l 1 < names
-  unfolding good-type
-  good-var e = let g = both (ltb (number l 1) names) (zeros-from 2 l) (rw e at good) in ltb-true (number l 1) names (g .0)
 
   pub good-arrow : number l 0 ≡ 7 → (number l 1 < y) × (number l 2 ≤ 2) × (number l 3 < y)
   unfolding good-type
@@ -175,18 +171,17 @@ module _ (names : ℕ) (xs : List ℕ) (y : ℕ) (l : Line) (good : good-type na
         arm false e f g = g
 
 -- row 5 at a Y line
-pub good-type-at : (b : List ℕ) → Passed b → (y : ℕ) → y < count-of type-line (lines 6 b)
-    → good-type (count-of name-line (lines 6 b)) (types-of (lines 6 b)) y (nth type-line (lines 6 b) y) ≡ true
+pub good-type-at : (ls : List Line) → Passed ls → (y : ℕ) → y < count-of type-line ls
+    → good-type (count-of name-line ls) (types-of ls) y (nth type-line ls y) ≡ true
 unfolding good-numbers
-good-type-at b p y h =
-    let r = stands type-line (lines 6 b) y h in
-    let e : letter (line-at (lines 6 b) (r .place)) ≡ 89 = eqb-true (letter (line-at (lines 6 b) (r .place))) 89 (r .lettered) in
-    let g : good-numbers (lines 6 b) (r .place) ≡ true = good-line b p (r .place) (r .inside) in
+good-type-at ls p y h =
+    let r = stands type-line ls y h in
+    let e : letter (line-at ls (r .place)) ≡ 89 = eqb-true (letter (line-at ls (r .place))) 89 (r .lettered) in
+    let g : good-numbers ls (r .place) ≡ true = good-line ls p (r .place) (r .inside) in
     rw (r .same) (rw (r .passed) at (rw e at g))
 
 -- Type y by its line: its children are the types of their numbers.
-pub type-tree : (b : List ℕ) → Passed b → (y : ℕ) → y < count-of type-line (lines 6 b)
-    → getD (trees (lines 6 b)) y TUnit ≡ tree (trees (lines 6 b)) (types-of (lines 6 b)) (number (nth type-line (lines 6 b) y) 0) (number (nth type-line (lines 6 b) y) 1) (number (nth type-line (lines 6 b) y) 2) (number (nth type-line (lines 6 b) y) 3)
-type-tree b p y h =
-    let ls : List Line = lines 6 b in
-    trees-at ls y h ∙ kept-below (count-of name-line ls) (types-of ls) y (nth type-line ls y) (good-type-at b p y h) (trees ls)
+pub type-tree : (ls : List Line) → Passed ls → (y : ℕ) → y < count-of type-line ls
+    → getD (trees ls) y TUnit ≡ tree (trees ls) (types-of ls) (number (nth type-line ls y) 0) (number (nth type-line ls y) 1) (number (nth type-line ls y) 2) (number (nth type-line ls y) 3)
+type-tree ls p y h =
+    trees-at ls y h ∙ kept-below (count-of name-line ls) (types-of ls) y (nth type-line ls y) (good-type-at ls p y h) (trees ls)

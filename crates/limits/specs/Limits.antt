@@ -88,6 +88,8 @@ counts-of ls =
       args = count-of arg-line ls;
       types = count-of type-line ls;
       decls = count-of local-line ls + count-of import-line ls;
+      ctors = count-of ctor-line ls;
+      fields = count-of field-line ls;
     }
 
 -- the bytes passed rows 1, 2 and 4
@@ -102,3 +104,5 @@ pub record Kept (f : Format) (c : Counts) : Type 0 where
   pub args : c .args ≤ f .args
   pub types : c .types ≤ f .types
   pub decls : c .decls ≤ f .decls
+  pub ctors : c .ctors ≤ f .ctors
+  pub fields : c .fields ≤ f .fields

@@ -198,6 +198,8 @@ module _ (f : Format) (ls : List Line) (none-past : first (row4 f ls) (length ls
         args = rw w at (args-kept (length ls) r);
         types = rw w at (types-kept (length ls) r);
         decls = rw w at (decls-kept (length ls) r);
+        ctors = rw w at (ctors-kept (length ls) r);
+        fields = rw w at (fields-kept (length ls) r);
       }
 
 -- ---- where declarations begin
@@ -290,6 +292,6 @@ module _ (ls : List Line) (t : Tally) (x i : ℕ) (e : x ≡ letter (line-at ls 
 
 -- what the tally after the last line says
 pub counts-whole : (ls : List Line) → (let t : Tally = tally-before ls (length ls) in
-    record { names = t .names; args = t .args; types = t .types; decls = t .decls }) ≡ counts-of ls
+    record { names = t .names; args = t .args; types = t .types; decls = t .decls; ctors = t .ctors; fields = t .fields }) ≡ counts-of ls
 unfolding tally-before counts-of
 counts-whole ls = rw (take-length ls)

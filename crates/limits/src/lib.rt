@@ -35,6 +35,8 @@ pub struct Counts {
     pub args: usize,
     pub types: usize,
     pub decls: usize,
+    pub ctors: usize,
+    pub fields: usize,
 }
 
 // After a line of this letter.

@@ -5,7 +5,7 @@ use Prim.Native.Nat.{ℕ, suc}
 use lib.ListN.{length}
 use Rattle.sheet.specs.Format.{base}
 use Rattle.sheet.specs.Sheet.{first, count, lines, row2}
-use Rattle.meaning.specs.Program.{name-line, arg-line, type-line, local-line, import-line}
+use Rattle.meaning.specs.Program.{name-line, arg-line, type-line, local-line, import-line, ctor-line, field-line}
 use Rattle.meaning.specs.Rows.{raws, row3, row4, row5, row7}
 use Rattle.limits.specs.Limits.{counts-of}
 use Rattle.cells.specs.Cells.{lines-of, bare}
@@ -31,4 +31,4 @@ module _ (b t : List ℕ) (e : lines-of t ≡ map bare (lines 6 b)) where
   pub counts-cells : counts-of (lines-of t) ≡ counts-of (lines 6 b)
   unfolding counts-of
   counts-cells =
-      rw (e, rows.count-bare name-line (lines 6 b), rows.count-bare arg-line (lines 6 b), rows.count-bare type-line (lines 6 b), rows.count-bare local-line (lines 6 b), rows.count-bare import-line (lines 6 b))
+      rw (e, rows.count-bare name-line (lines 6 b), rows.count-bare arg-line (lines 6 b), rows.count-bare type-line (lines 6 b), rows.count-bare local-line (lines 6 b), rows.count-bare import-line (lines 6 b), rows.count-bare ctor-line (lines 6 b), rows.count-bare field-line (lines 6 b))

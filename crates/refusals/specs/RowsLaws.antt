@@ -10,17 +10,17 @@ use borrow.Author.Tests.{lt-ltb, le-ltb, ltb-false}
 use Rattle.sheet.specs.Format.{base}
 use Rattle.sheet.specs.Line.{isBad}
 use Rattle.sheet.specs.Sheet.{first, count, line, lines, row1, row2}
-use Rattle.sheet.specs.SheetLaws.{length-lines}
 use Rattle.sheet.specs.FirstLaws.{first-le}
+use Rattle.answer.specs.declared.Refusal.{Refusal}
 use Rattle.answer.specs.declared.Refusal.the-variants.{Accepted, Refused}
 use Rattle.meaning.specs.Rows.{raws, row3, row4, row5, row6, row7}
 use Rattle.answer.specs.Answer.{Row, line-row, whole-row, refusal, sheet-rows}
-use Rattle.limits.specs.Limits.{counts-of, Kept}
-use Rattle.limits.specs.LimitsLaws.{counts-kept}
-use Rattle.refusals.specs.Rows.{refused-as, checked-of, Passed}
+use Rattle.limits.specs.Limits.{counts-of}
+use Rattle.refusals.specs.declared.Checked.{Checked}
+use Rattle.refusals.specs.Rows.{refused-as, with-counts, checked-of, Passes-rows}
 
 -- ---- one row
-never : {A : Type 0} {code place : ℕ} → Refused code place ≡ Accepted → A
+pub never : {A : Type 0} {code place : ℕ} → Refused code place ≡ Accepted → A
 never e = let z : _≡_ {A = ℕ} 0 1 = cc in absurd (omega arith)
 
 module _ (code n : ℕ) (test : ℕ → Bool) (rs : List Row) where
@@ -148,19 +148,19 @@ module _ (b : List ℕ) where
               at7 h = refused-at 7 (first (row7 (lines 6 b)) (count 6 b)) (past6 ∙ row-applies 7 (count 6 b) (row7 (lines 6 b)) [] h)
 
   -- ---- where none applies
-  pub passed-accepted : Passed b → refusal (sheet-rows base b) ≡ Accepted
+  rows-accepted : Passes-rows b → refusal (sheet-rows base b) ≡ Accepted
   unfolding refusal from7
-  passed-accepted p =
+  rows-accepted p =
       past6 (p .short) (p .no-bad) (p .in-order) (p .in-limits) (p .in-range) (p .distinct)
       ∙ row-passes 7 (count 6 b) (row7 (lines 6 b)) [] (p .in-verdict)
 
-  pub passed-checked : Passed b → checked-of b ≡ record { refusal = Accepted; counts = counts-of (lines 6 b) }
+  pub rows-checked : Passes-rows b → checked-of b ≡ record { refusal = Accepted; counts = counts-of (lines 6 b) }
   unfolding checked-of
-  passed-checked p = rw (passed-accepted p)
+  rows-checked p = rw (rows-accepted p)
 
-  pub accepted-passed : refusal (sheet-rows base b) ≡ Accepted → Passed b
+  pub accepted-rows : refusal (sheet-rows base b) ≡ Accepted → Passes-rows b
   unfolding row2 from2 from3 from4 from5 from6 from7
-  accepted-passed e =
+  accepted-rows e =
       let r1 = whole-accepted 1 0 from2 (row1 base b) (ap refusal (sym first-is) ∙ e) in
       let r2 = row-accepted 2 (count 6 b) (λ i. isBad (line 6 b i)) from3 (r1 .1) in
       let r3 = row-accepted 3 (suc (count 6 b)) (row3 (raws 6 b)) from4 (r2 .1) in
@@ -170,6 +170,11 @@ module _ (b : List ℕ) where
       let r7 = row-accepted 7 (count 6 b) (row7 (lines 6 b)) [] (r6 .1) in
       record { short = r1 .0; no-bad = r2 .0; in-order = r3 .0; in-limits = r4 .0; in-range = r5 .0; distinct = r6 .0; in-verdict = r7 .0 }
 
-  -- what the sheet declares is within the limits
-  pub passed-kept : Passed b → Kept base (counts-of (lines 6 b))
-  passed-kept p = counts-kept base (lines 6 b) (rw (length-lines 6 b) (p .in-limits))
+  -- where the test says so
+  pub checked-accepted : (r : Checked) → r ≡ checked-of b → r .refusal ≡ Accepted → refusal (sheet-rows base b) ≡ Accepted
+  unfolding checked-of
+  checked-accepted r e a = go (refusal (sheet-rows base b)) (ap (λ (c : Checked). c .refusal) (sym e) ∙ a)
+    where
+      go : (q : Refusal) → with-counts q (counts-of (lines 6 b)) .refusal ≡ Accepted → q ≡ Accepted
+      go Accepted k = refl
+      go (Refused code place) k = never k

@@ -7,12 +7,12 @@ use parts::LINE;
 ghost use mathlib.Core.List.{map};
 ghost use mathlib.Core.Path.{_≡_};
 ghost use mathlib.Core.Bool.{false};
-ghost use Prim.Native.Nat.{_*_, _≤_};
+ghost use Prim.Native.Nat.{_*_};
 ghost use lib.ListN.{length};
 ghost use Rattle.sheet.specs.Format.{base};
 ghost use Rattle.sheet.specs.Sheet.{count, lines, row1, row2};
 ghost use Rattle.cells.specs.Cells.{lines-of, bare};
-ghost use Rattle.refusals.specs.Rows.{refused-as, checked-of};
+ghost use Rattle.refusals.specs.Rows.{refused-as, checked-of, Checks};
 
 // The columns of a number.
 const COLUMNS: usize = 6;
@@ -31,6 +31,8 @@ fn refused(code: u32, place: usize) -> Checked
         args: 0,
         types: 0,
         decls: 0,
+        ctors: 0,
+        fields: 0,
     };
     Checked {
         refusal: Refusal::Refused { code, place },
@@ -77,16 +79,15 @@ fn lines_checked(s: &[u8], t: &[u32]) -> Checked
     }
 }
 
-// Tests rows 2 to 7, with cells for the lines.
+// Tests rows 2 to 7, and leaves in the cells the lines of a sheet that passes them.
 pub fn check_rows(s: &[u8], t: &mut [u32]) -> Checked
-    requires { ⌜ (row1 base (now s) ≡ false) × (6 * count 6 (now s) ≤ length (now t)) ⌝ }
-    ensures { λ r. ⌜ r ≡ checked-of (now (s .entry)) ⌝ }
+    requires { ⌜ (row1 base (now s) ≡ false) × (length (now t) ≡ 6 * count 6 (now s)) ⌝ }
+    ensures { λ r. ⌜ Checks (now (s .entry)) (now (t .exit)) r ⌝ }
 {
     let n = s.len() / LINE;
     let bad = decode::decode_lines(s, COLUMNS, t);
     if bad < n {
         return refused(2, bad);
     }
-    let end = n * CELLS;
-    lines_checked(s, &t[0..end])
+    lines_checked(s, t)
 }

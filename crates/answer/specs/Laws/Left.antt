@@ -312,6 +312,20 @@ lines-limit f b e =
         absurd (omega (arith, within-count w b (f .lines) k, mul-suc (lineBytes w) (f .lines)))
     go w h false q = omega (arith, length-lines w b, ltb-false (f .lines) (count w b) q)
 
+-- ---- lines to which no row of declarations applies
+pub lines-no-return : (ls : List Line) → Clear (length ls) (row8 (program ls) ls) → NoReturn (program ls)
+unfolding row8
+lines-no-return ls c = clear-heads ls (returns (program ls) (layouts-of (program ls))) c
+
+-- every type that is resolved resolves without fault, and is small
+pub lines-resolved : (f : Format) (ls : List Line) → Clear (length ls) (row9-10 f (program ls) ls)
+    → (i : ℕ) → i < length (program ls) → Every (Resolved (f .nodes) (lay (program ls)) (f .fuel)) (resolves (layout-of-decl (program ls) i))
+unfolding row9-10
+lines-resolved f ls c i h =
+    let fault : ℕ → ℕ = decl-fault (f .nodes) (f .fuel) (program ls) (layouts-of (program ls)) in
+    let n = clear-heads ls (λ k. not (eqb (fault k) 0)) c i h in
+    decl-resolved (f .nodes) (f .fuel) (program ls) (layouts-of (program ls)) i (eqb-true (fault i) 0 (not-false (eqb (fault i) 0) n))
+
 -- ---- the left sheet of an accepted sheet
 module _ (f : Format) (b : List ℕ) (v l : ℕ) (ample : Ample f) (pass : Passes f b v l) where
   abbrev pub sheet-lines : List Line
@@ -330,16 +344,11 @@ module _ (f : Format) (b : List ℕ) (v l : ℕ) (ample : Ample f) (pass : Passe
   few-decls = omega (arith, length-program sheet-lines, decls-limit f sheet-lines (clear (row4 f sheet-lines) (pass .pass4)), ample .depth)
 
   pub pass-no-return : NoReturn sheet-program
-  unfolding row8
-  pass-no-return = clear-heads sheet-lines (returns sheet-program (layouts-of sheet-program)) (clear (row8 sheet-program sheet-lines) (pass .pass8))
+  pass-no-return = lines-no-return sheet-lines (clear (row8 sheet-program sheet-lines) (pass .pass8))
 
   -- every type that is resolved resolves without fault, and is small
   pub pass-resolved : (i : ℕ) → i < length sheet-program → Every (Resolved (f .nodes) (lay sheet-program) (f .fuel)) (resolves (layout-of-decl sheet-program i))
-  unfolding row9-10
-  pass-resolved i h =
-      let n = clear-heads sheet-lines (λ k. not (eqb (decl-fault (f .nodes) (f .fuel) sheet-program (layouts-of sheet-program) k) 0)) (clear (row9-10 f sheet-program sheet-lines) (pass .pass9-10)) i h in
-      decl-resolved (f .nodes) (f .fuel) sheet-program (layouts-of sheet-program) i
-      (eqb-true (decl-fault (f .nodes) (f .fuel) sheet-program (layouts-of sheet-program) i) 0 (not-false (eqb (decl-fault (f .nodes) (f .fuel) sheet-program (layouts-of sheet-program) i) 0) n))
+  pass-resolved = lines-resolved f sheet-lines (clear (row9-10 f sheet-program sheet-lines) (pass .pass9-10))
 
   left-all : (P : Cty → Type 0) → ((c : Cty) → Resolved (f .nodes) (lay sheet-program) (f .fuel) c → P (resolve (lay sheet-program) (f .fuel) c)) → (i : ℕ) → i < length sheet-program → LeftTypes P (left-at (f .fuel) sheet-program i)
   unfolding left-at

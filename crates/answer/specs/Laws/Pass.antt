@@ -69,8 +69,10 @@ earlier ls c i j h k a b e =
     let z : _≡_ {A = ℕ} 0 1 = cc in
     omega arith
 
-pub distinct-program : (ls : List Line) → Clear (length ls) (row6 ls) → Distinct (program ls)
-distinct-program ls c i j h k e =
+-- where no two lines at which declarations begin have one name
+pub distinct-heads : (ls : List Line) → ((i j : ℕ) → i < length ls → j < i → is-head (line-at ls i) ≡ true → is-head (line-at ls j) ≡ true → number (line-at ls i) 0 ≡ number (line-at ls j) 0 → ⊥)
+    → Distinct (program ls)
+distinct-heads ls c i j h k e =
     let a : HeadAt ls i = head-at ls i (omega (arith, length-program ls)) in
     let b : HeadAt ls j = head-at ls j (omega (arith, length-program ls)) in
     let p : number (line-at ls (a .place)) 0 ≡ number (line-at ls (b .place)) 0 =
@@ -81,11 +83,14 @@ distinct-program ls c i j h k e =
   where
     go : (a : HeadAt ls i) (b : HeadAt ls j) → number (line-at ls (a .place)) 0 ≡ number (line-at ls (b .place)) 0
         → (s t : Bool) → ltb (a .place) (b .place) ≡ s → ltb (b .place) (a .place) ≡ t → i ≡ j
-    go a b p true t q r = absurd (earlier ls c (b .place) (a .place) (b .inside) (ltb-true (a .place) (b .place) q) (b .heads-it) (a .heads-it) (sym p))
-    go a b p false true q r = absurd (earlier ls c (a .place) (b .place) (a .inside) (ltb-true (b .place) (a .place) r) (a .heads-it) (b .heads-it) p)
+    go a b p true t q r = absurd (c (b .place) (a .place) (b .inside) (ltb-true (a .place) (b .place) q) (b .heads-it) (a .heads-it) (sym p))
+    go a b p false true q r = absurd (c (a .place) (b .place) (a .inside) (ltb-true (b .place) (a .place) r) (a .heads-it) (b .heads-it) p)
     go a b p false false q r =
         let z : a .place ≡ b .place = omega (arith, ltb-false (a .place) (b .place) q, ltb-false (b .place) (a .place) r) in
         sym (a .passed) ∙ (ap (heads-before ls) z ∙ b .passed)
+
+pub distinct-program : (ls : List Line) → Clear (length ls) (row6 ls) → Distinct (program ls)
+distinct-program ls c = distinct-heads ls (earlier ls c)
 
 -- ---- imports
 -- an import's layout is made of its own declaration's types

@@ -17,7 +17,7 @@ use Rattle.header.specs.OrderLaws.{header-le}
 use Rattle.spellings.specs.Spellings.{Ranged}
 use Rattle.refusals.specs.Rows.{refused-as}
 use Rattle.refusals.specs.CellLaws.{count-cells, order-cells, limits-cells, ranges-cells, verdicts-cells, counts-cells}
-use Rattle.refusals.specs.RowsLaws.{none-at, at3, at4, at5, at6, at7, passed-checked}
+use Rattle.refusals.specs.RowsLaws.{none-at, at3, at4, at5, at6, at7, rows-checked}
 use Rattle.refusals.proofs.lines_checked.Statement.{statement}
 use Rattle.refusals.proofs.lines_checked.Tie as tie
 
@@ -189,7 +189,7 @@ returns-6 c =
     let l = g .before .before .before in
     rw (told l)
     (sym
-    (passed-checked (p .args .s .now)
+    (rows-checked (p .args .s .now)
     (record {
       short = p .pre .0;
       no-bad = p .pre .1;
