@@ -2,7 +2,7 @@
 use mathlib.Core.Path.{_≡_, refl, ap, sym, _∙_}
 use mathlib.Core.List.{List, [], _∷_, _++_}
 use mathlib.Core.Bool.{Bool, true, false}
-use Prim.Native.Nat.{ℕ, zero, suc, _+_, _*_, _≤_, _<_}
+use Prim.Native.Nat.{ℕ, zero, suc, _+_, _*_, _-_, _≤_, _<_}
 use native.Mathlib.Omega.{arith}
 use native.Mathlib.Nat.{zero-mul, suc-mul, mul-le-mul-right}
 use lib.Dec.{ltb}
@@ -10,41 +10,18 @@ use lib.ListN.{length, getD, length-append, List·getD-append}
 use lib.Seq.{getD-append-add}
 use borrow.Author.Tests.{ltb-true, ltb-false}
 use Rattle.sheet.specs.Line.{Line, letter, number}
-use Rattle.sheet.specs.Sheet.{lines}
-use Rattle.model.specs.Decl.{table, position}
+use Rattle.cells.specs.CellsLaws.{lines-cells, length-cells, letter-cell, number-cell, number-bare}
+use Rattle.cells.specs.Cells.{cells}
+use Rattle.bares.specs.RowLaws.{at-bare}
+use Rattle.model.specs.Decl.{position}
 use Rattle.meaning.specs.Program.{name-line, arg-line, type-line, param-line, ctor-line, field-line, verdict-line, program}
-use Rattle.meaning.specs.Rows.{count-of}
+use Rattle.meaning.specs.Rows.{line-at, count-of}
 use Rattle.model_laws.specs.Lists.{length-table, getD-table}
 use Rattle.limits.specs.Limits.{start}
-use Rattle.tables.specs.declared.Sizes.{Sizes}
-use Rattle.tables.specs.Tables.{
-  nth,
-  head-line,
-  decls-of,
-  first-of,
-  sizes-of,
-  at-args,
-  at-decls,
-  at-begins,
-  at-verdicts,
-  at-params,
-  at-ctors,
-  at-fields,
-  at-names,
-  cells,
-  rows,
-  numbers,
-  line-rows,
-  decl-row,
-  begin-row,
-  header,
-  sections,
-  joined,
-  cells-of,
-  cell-at,
-  Within,
-  Tabled,
-}
+use Rattle.header.specs.OrderLaws.{header-le}
+use Rattle.declared.specs.DeclLaws.{line-inside, verdict-place}
+use Rattle.declared.specs.PassedLaws.{nth-place, head-place, arg-place, type-place}
+use Rattle.tables.specs.Tables.{nth, place-of, head-line, decls-of, sizes-of, at-begins, at-params, at-ctors, at-fields, at-names, cell-count, rows, begin-row, places, header, sections, joined, cells-of, cell-at, Within, TableOf}
 
 -- ---- rows of any width
 module _ (f : ℕ → List ℕ) (w : ℕ) (each : (i : ℕ) → length (f i) ≡ w) where
@@ -91,62 +68,17 @@ joined-within (suc k) (s ∷ ss) j h = rw length-append (omega (arith, joined-wi
 
 -- ---- the sections of a sheet
 module _ (ls : List Line) where
-  numbers-length : (w : ℕ) (l : Line) → length (numbers w l) ≡ w
-  numbers-length w l = length-table (number l) w
-
-  decl-length : (d : ℕ) → length (decl-row ls d) ≡ 6
-  decl-length d = rw (length-append, numbers-length)
-
-  line-length : (x w n : ℕ) → length (line-rows x w ls n) ≡ n * w
-  line-length x w n = rows-length (λ j. numbers w (nth x ls j)) w (λ j. numbers-length w (nth x ls j)) n
-
-  decls-length : length (rows (decl-row ls) (decls-of ls)) ≡ decls-of ls * 6
-  decls-length = rows-length (decl-row ls) 6 decl-length (decls-of ls)
-
   begins-length : length (rows (begin-row ls) (decls-of ls + 1)) ≡ (decls-of ls + 1) * 4
   begins-length = rows-length (begin-row ls) 4 (λ d. refl) (decls-of ls + 1)
 
-  -- ---- where sections begin
-  offset-args : at-args (sizes-of ls) ≡ offset 2 (sections ls)
-  unfolding sizes-of sections offset header
-  offset-args = omega (arith, line-length type-line 4 (count-of type-line ls))
+  places-length : (x : ℕ) → length (places x ls) ≡ count-of x ls
+  places-length x = length-table _ (count-of x ls)
 
-  offset-decls : at-decls (sizes-of ls) ≡ offset 3 (sections ls)
-  unfolding sizes-of sections offset header
-  offset-decls = omega (arith, line-length type-line 4 (count-of type-line ls), line-length arg-line 1 (count-of arg-line ls))
-
-  offset-begins : at-begins (sizes-of ls) ≡ offset 4 (sections ls)
-  unfolding sizes-of sections offset header
-  offset-begins = omega (arith, line-length type-line 4 (count-of type-line ls), line-length arg-line 1 (count-of arg-line ls), decls-length)
-
-  offset-verdicts : at-verdicts (sizes-of ls) ≡ offset 5 (sections ls)
-  unfolding sizes-of sections offset header
-  offset-verdicts = omega (arith, line-length type-line 4 (count-of type-line ls), line-length arg-line 1 (count-of arg-line ls), decls-length, begins-length)
-
-  offset-params : at-params (sizes-of ls) ≡ offset 6 (sections ls)
-  unfolding sizes-of sections offset header
-  offset-params = omega (arith, line-length type-line 4 (count-of type-line ls), line-length arg-line 1 (count-of arg-line ls), decls-length, begins-length, line-length verdict-line 2 (decls-of ls))
-
-  offset-ctors : at-ctors (sizes-of ls) ≡ offset 7 (sections ls)
-  unfolding sizes-of sections offset header
-  offset-ctors =
-      omega (arith, line-length type-line 4 (count-of type-line ls), line-length arg-line 1 (count-of arg-line ls), decls-length, begins-length, line-length verdict-line 2 (decls-of ls), line-length param-line 1 (count-of param-line ls))
-
-  offset-fields : at-fields (sizes-of ls) ≡ offset 8 (sections ls)
-  unfolding sizes-of sections offset header
-  offset-fields =
-      omega (arith, line-length type-line 4 (count-of type-line ls), line-length arg-line 1 (count-of arg-line ls), decls-length, begins-length, line-length verdict-line 2 (decls-of ls), line-length param-line 1 (count-of param-line ls), line-length ctor-line 2 (count-of ctor-line ls))
-
-  offset-names : at-names (sizes-of ls) ≡ offset 9 (sections ls)
-  unfolding sizes-of sections offset header
-  offset-names =
-      omega (arith, line-length type-line 4 (count-of type-line ls), line-length arg-line 1 (count-of arg-line ls), decls-length, begins-length, line-length verdict-line 2 (decls-of ls), line-length param-line 1 (count-of param-line ls), line-length ctor-line 2 (count-of ctor-line ls), line-length field-line 3 (count-of field-line ls))
-
-  pub cells-length : length (cells-of ls) ≡ cells (sizes-of ls)
+  pub cells-length : length (cells-of ls) ≡ cell-count (sizes-of ls)
   unfolding cells-of joined sizes-of sections header
   cells-length =
       simp length-append
-      (omega (arith, line-length type-line 4 (count-of type-line ls), line-length arg-line 1 (count-of arg-line ls), decls-length, begins-length, line-length verdict-line 2 (decls-of ls), line-length param-line 1 (count-of param-line ls), line-length ctor-line 2 (count-of ctor-line ls), line-length field-line 3 (count-of field-line ls), length-table (position (program ls)) (count-of name-line ls)))
+      (omega (arith, length-cells ls, begins-length, places-length param-line, places-length ctor-line, places-length field-line, length-table (position (program ls)) (count-of name-line ls)))
 
   -- ---- the cells of a section
   -- cell j of the section that begins at cell `at` has the value v
@@ -157,55 +89,55 @@ module _ (ls : List Line) where
   unfolding cells-of
   holds k at j v e h q = rw e (joined-within k (sections ls) j h, joined-get k (sections ls) j h ∙ q)
 
-  row-holds : (k at w : ℕ) (f : ℕ → List ℕ) (n : ℕ) → at ≡ offset k (sections ls) → getD (sections ls) k [] ≡ rows f n → ((i : ℕ) → length (f i) ≡ w) → (i j : ℕ) → i < n → j < w → Holds at (i * w + j) (getD (f i) j 0)
-  row-holds k at w f n e s each i j h q =
-      let m : suc i * w ≤ n * w = mul-le-mul-right w h in
-      holds k at (i * w + j) (getD (f i) j 0) e (rw s (omega (arith, rows-length f w each n, suc-mul i w))) (rw s (rows-get f w each n i j h q))
-
-  line-holds : (k at x w n : ℕ) → at ≡ offset k (sections ls) → getD (sections ls) k [] ≡ line-rows x w ls n → (i j : ℕ) → i < n → j < w → Holds at (i * w + j) (number (nth x ls i) j)
-  line-holds k at x w n e s i j h q =
-      let r = row-holds k at w (λ j. numbers w (nth x ls j)) n e s (λ j. numbers-length w (nth x ls j)) i j h q in
-      (r .0, r .1 ∙ getD-table (number (nth x ls i)) w j 0 q)
-
-  pub header-cell : (k : ℕ) → k < 12 → (k < length (cells-of ls)) × (getD (cells-of ls) k 0 ≡ getD (header (sizes-of ls)) k 0)
+  pub header-cell : (k : ℕ) → k < 11 → (k < length (cells-of ls)) × (getD (cells-of ls) k 0 ≡ getD (header (sizes-of ls)) k 0)
   unfolding sections offset header
   header-cell k h = let e : 0 + k ≡ k = omega arith in rw e at (holds 0 0 k (getD (header (sizes-of ls)) k 0) refl h refl)
 
-  pub type-cell : (y k : ℕ) → y < count-of type-line ls → k < 4 → Holds 12 (y * 4 + k) (number (nth type-line ls y) k)
+  pub line-letter : (i : ℕ) → i < length ls → Holds 11 (i * 6) (letter (line-at ls i))
   unfolding sections offset header
-  type-cell y k h q = line-holds 1 12 type-line 4 (count-of type-line ls) refl refl y k h q
+  line-letter i h =
+      let n = length-cells ls in
+      let e : 6 * i ≡ i * 6 = omega arith in
+      holds 1 11 (i * 6) (letter (line-at ls i)) refl (omega arith)
+      (rw e at (sym (letter-cell (cells ls) i (omega arith))) ∙ ap (λ (ms : List Line). letter (line-at ms i)) (lines-cells ls) ∙ at-bare letter (λ l. refl) ls i)
 
-  pub arg-cell : (i : ℕ) → i < count-of arg-line ls → Holds (at-args (sizes-of ls)) i (number (nth arg-line ls i) 0)
-  unfolding sections
-  arg-cell i h = let e : i * 1 + 0 ≡ i = omega arith in rw e at (line-holds 2 (at-args (sizes-of ls)) arg-line 1 (count-of arg-line ls) offset-args refl i 0 h (omega arith))
-
-  pub decl-cell : (d k : ℕ) → d < decls-of ls → k < 6 → Holds (at-decls (sizes-of ls)) (d * 6 + k) (getD (decl-row ls d) k 0)
-  unfolding sections
-  decl-cell d k h q = row-holds 3 (at-decls (sizes-of ls)) 6 (decl-row ls) (decls-of ls) offset-decls refl decl-length d k h q
+  pub line-number : (i k : ℕ) → i < length ls → k < 5 → Holds 12 (i * 6 + k) (number (line-at ls i) k)
+  unfolding sections offset header
+  line-number i k h q =
+      let n = length-cells ls in
+      let e : 6 * i + 1 + k ≡ i * 6 + (1 + k) = omega arith in
+      let f : 11 + (i * 6 + (1 + k)) ≡ 12 + (i * 6 + k) = omega arith in
+      rw f at
+      (holds 1 11 (i * 6 + (1 + k)) (number (line-at ls i) k) refl (omega arith)
+      (rw e at (sym (number-cell (cells ls) i k (omega arith) q)) ∙ ap (λ (ms : List Line). number (line-at ms i) k) (lines-cells ls) ∙ at-bare (λ l. number l k) (λ l. number-bare l k q) ls i))
 
   pub begin-cell : (d k : ℕ) → d ≤ decls-of ls → k < 4 → Holds (at-begins (sizes-of ls)) (d * 4 + k) (getD (begin-row ls d) k 0)
-  unfolding sections
-  begin-cell d k h q = row-holds 4 (at-begins (sizes-of ls)) 4 (begin-row ls) (decls-of ls + 1) offset-begins refl (λ i. refl) d k (omega arith) q
+  unfolding sizes-of sections offset header
+  begin-cell d k h q =
+      holds 2 (at-begins (sizes-of ls)) (d * 4 + k) _ (omega (arith, length-cells ls)) (omega (arith, begins-length)) (rows-get (begin-row ls) 4 (λ i. refl) (decls-of ls + 1) d k (omega arith) q)
 
-  pub verdict-cell : (d k : ℕ) → d < decls-of ls → k < 2 → Holds (at-verdicts (sizes-of ls)) (d * 2 + k) (number (nth verdict-line ls d) k)
-  unfolding sections
-  verdict-cell d k h q = line-holds 5 (at-verdicts (sizes-of ls)) verdict-line 2 (decls-of ls) offset-verdicts refl d k h q
+  place-cell : (h at x j : ℕ) → at ≡ offset h (sections ls) → getD (sections ls) h [] ≡ places x ls → j < count-of x ls → Holds at j (12 + 6 * place-of x ls j)
+  place-cell h at x j e s l = holds h at j _ e (rw (s, places-length x) l) (rw s (getD-table _ (count-of x ls) j 0 l))
 
-  pub param-cell : (p : ℕ) → p < count-of param-line ls → Holds (at-params (sizes-of ls)) p (number (nth param-line ls p) 0)
-  unfolding sections
-  param-cell p h = let e : p * 1 + 0 ≡ p = omega arith in rw e at (line-holds 6 (at-params (sizes-of ls)) param-line 1 (count-of param-line ls) offset-params refl p 0 h (omega arith))
+  pub param-cell : (p : ℕ) → p < count-of param-line ls → Holds (at-params (sizes-of ls)) p (12 + 6 * place-of param-line ls p)
+  unfolding sizes-of sections offset header
+  param-cell p h = place-cell 3 (at-params (sizes-of ls)) param-line p (omega (arith, length-cells ls, begins-length)) refl h
 
-  pub ctor-cell : (c k : ℕ) → c < count-of ctor-line ls → k < 2 → Holds (at-ctors (sizes-of ls)) (c * 2 + k) (number (nth ctor-line ls c) k)
-  unfolding sections
-  ctor-cell c k h q = line-holds 7 (at-ctors (sizes-of ls)) ctor-line 2 (count-of ctor-line ls) offset-ctors refl c k h q
+  pub ctor-cell : (c : ℕ) → c < count-of ctor-line ls → Holds (at-ctors (sizes-of ls)) c (12 + 6 * place-of ctor-line ls c)
+  unfolding sizes-of sections offset header
+  ctor-cell c h = place-cell 4 (at-ctors (sizes-of ls)) ctor-line c (omega (arith, length-cells ls, begins-length, places-length param-line)) refl h
 
-  pub field-cell : (f k : ℕ) → f < count-of field-line ls → k < 3 → Holds (at-fields (sizes-of ls)) (f * 3 + k) (number (nth field-line ls f) k)
-  unfolding sections
-  field-cell f k h q = line-holds 8 (at-fields (sizes-of ls)) field-line 3 (count-of field-line ls) offset-fields refl f k h q
+  pub field-cell : (f : ℕ) → f < count-of field-line ls → Holds (at-fields (sizes-of ls)) f (12 + 6 * place-of field-line ls f)
+  unfolding sizes-of sections offset header
+  field-cell f h = place-cell 5 (at-fields (sizes-of ls)) field-line f (omega (arith, length-cells ls, begins-length, places-length param-line, places-length ctor-line)) refl h
 
   pub name-cell : (n : ℕ) → n < count-of name-line ls → Holds (at-names (sizes-of ls)) n (position (program ls) n)
-  unfolding sections
-  name-cell n h = holds 9 (at-names (sizes-of ls)) n (position (program ls) n) offset-names (rw length-table h) (getD-table (position (program ls)) (count-of name-line ls) n 0 h)
+  unfolding sizes-of sections offset header
+  name-cell n h =
+      holds 6 (at-names (sizes-of ls)) n (position (program ls) n)
+      (omega (arith, length-cells ls, begins-length, places-length param-line, places-length ctor-line, places-length field-line))
+      (rw length-table h)
+      (getD-table (position (program ls)) (count-of name-line ls) n 0 h)
 
 -- ---- for the accessors
 -- header cell h has the place of a section, and that section's cell j the value v
@@ -213,65 +145,96 @@ pub record Read (t : List ℕ) (h j v : ℕ) : Type 0 where
   pub within : Within t h j
   pub value : cell-at t h j ≡ v
 
-module _ (b t : List ℕ) (m : Tabled b t) where
-  read : (h at j v : ℕ) → h < 12 → getD (header (sizes-of (lines 6 b))) h 0 ≡ at → Holds (lines 6 b) at j v → Read t h j v
+-- and cell v + k has the value w
+pub record Placed (t : List ℕ) (h j k w : ℕ) : Type 0 where
+  pub within : Within t h j × (cell-at t h j + k < length t)
+  pub value : getD t (cell-at t h j + k) 0 ≡ w
+
+module _ (ls : List Line) (t : List ℕ) (m : TableOf ls t) where
+  read : (h at j v : ℕ) → h < 11 → getD (header (sizes-of ls)) h 0 ≡ at → Holds ls at j v → Read t h j v
   read h at j v l e r =
-      let c = header-cell (lines 6 b) h l in
-      let q : getD (cells-of (lines 6 b)) h 0 ≡ at = c .1 ∙ e in
+      let c = header-cell ls h l in
+      let q : getD (cells-of ls) h 0 ≡ at = c .1 ∙ e in
       rw (m .holds) (record { within = record { in-header = c .0; in-section = rw q (r .0) }; value = rw q (r .1) })
 
-  pub read-types : (0 < length t) × (getD t 0 0 ≡ count-of type-line (lines 6 b))
+  pub read-types : (0 < length t) × (getD t 0 0 ≡ count-of type-line ls)
   unfolding header sizes-of
-  read-types = rw (m .holds) (header-cell (lines 6 b) 0 (omega arith))
+  read-types = rw (m .holds) (header-cell ls 0 (omega arith))
 
-  pub read-decls : (1 < length t) × (getD t 1 0 ≡ decls-of (lines 6 b))
+  pub read-decls : (1 < length t) × (getD t 1 0 ≡ decls-of ls)
   unfolding header sizes-of
-  read-decls = rw (m .holds) (header-cell (lines 6 b) 1 (omega arith))
+  read-decls = rw (m .holds) (header-cell ls 1 (omega arith))
 
-  pub read-type : (y k : ℕ) → y < count-of type-line (lines 6 b) → k < 4 → (12 + y * 4 + k < length t) × (getD t (12 + y * 4 + k) 0 ≡ number (nth type-line (lines 6 b) y) k)
-  read-type y k h q = let e : 12 + y * 4 + k ≡ 12 + (y * 4 + k) = omega arith in rw (e, m .holds) (type-cell (lines 6 b) y k h q)
+  pub read-names : (2 < length t) × (getD t 2 0 ≡ count-of name-line ls)
+  unfolding header sizes-of
+  read-names = rw (m .holds) (header-cell ls 2 (omega arith))
 
-  pub read-arg : (i : ℕ) → i < count-of arg-line (lines 6 b) → Read t 4 i (number (nth arg-line (lines 6 b) i) 0)
+  -- line i
+  pub read-letter : (i : ℕ) → i < length ls → (11 + i * 6 < length t) × (getD t (11 + i * 6) 0 ≡ letter (line-at ls i))
+  read-letter i h = rw (m .holds) (line-letter ls i h)
+
+  pub read-number : (i k : ℕ) → i < length ls → k < 5 → (12 + i * 6 + k < length t) × (getD t (12 + i * 6 + k) 0 ≡ number (line-at ls i) k)
+  read-number i k h q = let e : 12 + i * 6 + k ≡ 12 + (i * 6 + k) = omega arith in rw (e, m .holds) (line-number ls i k h q)
+
+  -- Y and A lines, which stand together
+  header-read : (h first i j k : ℕ) (l : Line) → h < 11 → getD (header (sizes-of ls)) h 0 ≡ 12 + 6 * first → first + i < length ls → l ≡ line-at ls (first + i) → j ≡ i * 6 + k → k < 5 → Read t h j (number l k)
+  header-read h first i j k l b e w s q r =
+      let x = line-number ls (first + i) k w r in
+      let f : 12 + ((first + i) * 6 + k) ≡ 12 + 6 * first + j = omega arith in
+      read h (12 + 6 * first) j (number l k) b e (rw f at (x .0), rw f at (x .1) ∙ ap (λ (v : Line). number v k) (sym s))
+
+  pub read-type : (y k : ℕ) → y < count-of type-line ls → k < 4 → Read t 5 (y * 6 + k) (number (nth type-line ls y) k)
+  unfolding header sizes-of
+  read-type y k h q = header-read 5 (count-of name-line ls + count-of arg-line ls) y (y * 6 + k) k (nth type-line ls y) (omega arith) refl (omega (arith, header-le ls)) (type-place ls (m .passed) y h) refl (omega arith)
+
+  pub read-arg : (i : ℕ) → i < count-of arg-line ls → Read t 4 (i * 6) (number (nth arg-line ls i) 0)
+  unfolding header sizes-of
+  read-arg i h = header-read 4 (count-of name-line ls) i (i * 6) 0 (nth arg-line ls i) (omega arith) refl (omega (arith, header-le ls)) (arg-place ls (m .passed) i h) (omega arith) (omega arith)
+
+  pub read-begin : (d k : ℕ) → d ≤ decls-of ls → k < 4 → Read t 6 (d * 4 + k) (getD (begin-row ls d) k 0)
   unfolding header
-  read-arg i h = read 4 (at-args (sizes-of (lines 6 b))) i _ (omega arith) refl (arg-cell (lines 6 b) i h)
+  read-begin d k h q = read 6 (at-begins (sizes-of ls)) (d * 4 + k) _ (omega arith) refl (begin-cell ls d k h q)
 
-  pub read-decl : (d k : ℕ) → d < decls-of (lines 6 b) → k < 6 → Read t 5 (d * 6 + k) (getD (decl-row (lines 6 b) d) k 0)
-  unfolding header
-  read-decl d k h q = read 5 (at-decls (sizes-of (lines 6 b))) (d * 6 + k) _ (omega arith) refl (decl-cell (lines 6 b) d k h q)
-
-  pub read-number : (d k : ℕ) → d < decls-of (lines 6 b) → k < 5 → Read t 5 (d * 6 + k) (number (head-line (lines 6 b) d) k)
-  read-number d k h q =
-      let l : Line = head-line (lines 6 b) d in
-      let r = read-decl d k h (omega arith) in
-      record { within = r .within; value = r .value ∙ List·getD-append (numbers 5 l) (letter l ∷ []) 0 k (rw (length-table (number l) 5) q) ∙ getD-table (number l) 5 k 0 q }
-
-  pub read-letter : (d : ℕ) → d < decls-of (lines 6 b) → Read t 5 (d * 6 + 5) (letter (head-line (lines 6 b) d))
-  unfolding table
-  read-letter d h = read-decl d 5 h (omega arith)
-
-  pub read-begin : (d k : ℕ) → d ≤ decls-of (lines 6 b) → k < 4 → Read t 6 (d * 4 + k) (getD (begin-row (lines 6 b) d) k 0)
-  unfolding header
-  read-begin d k h q = read 6 (at-begins (sizes-of (lines 6 b))) (d * 4 + k) _ (omega arith) refl (begin-cell (lines 6 b) d k h q)
-
-  pub read-line : (d : ℕ) → d ≤ decls-of (lines 6 b) → Read t 6 (d * 4) (start (lines 6 b) d)
+  pub read-line : (d : ℕ) → d ≤ decls-of ls → Read t 6 (d * 4) (start ls d)
   read-line d h = let e : d * 4 + 0 ≡ d * 4 = omega arith in rw e at (read-begin d 0 h (omega arith))
 
-  pub read-verdict : (d k : ℕ) → d < decls-of (lines 6 b) → k < 2 → Read t 7 (d * 2 + k) (number (nth verdict-line (lines 6 b) d) k)
-  unfolding header
-  read-verdict d k h q = read 7 (at-verdicts (sizes-of (lines 6 b))) (d * 2 + k) _ (omega arith) refl (verdict-cell (lines 6 b) d k h q)
+  -- lines by the index
+  placed : (h at x j k : ℕ) → h < 11 → getD (header (sizes-of ls)) h 0 ≡ at → Holds ls at j (12 + 6 * place-of x ls j) → j < count-of x ls → k < 5 → Placed t h j k (number (nth x ls j) k)
+  placed h at x j k l e r i q =
+      let c = read h at j (12 + 6 * place-of x ls j) l e r in
+      let n = nth-place x ls j i in
+      let w = line-number ls (place-of x ls j) k (n .0) q in
+      let f : 12 + (place-of x ls j * 6 + k) ≡ 12 + 6 * place-of x ls j + k = omega arith in
+      record {
+        within = (c .within, rw (c .value, m .holds) (rw f at (w .0)));
+        value = rw (c .value, m .holds) (rw f at (w .1) ∙ ap (λ (v : Line). number v k) (sym (n .1)));
+      }
 
-  pub read-param : (p : ℕ) → p < count-of param-line (lines 6 b) → Read t 8 p (number (nth param-line (lines 6 b) p) 0)
+  pub read-param : (p : ℕ) → p < count-of param-line ls → Placed t 7 p 0 (number (nth param-line ls p) 0)
   unfolding header
-  read-param p h = read 8 (at-params (sizes-of (lines 6 b))) p _ (omega arith) refl (param-cell (lines 6 b) p h)
+  read-param p h = placed 7 (at-params (sizes-of ls)) param-line p 0 (omega arith) refl (param-cell ls p h) h (omega arith)
 
-  pub read-ctor : (c k : ℕ) → c < count-of ctor-line (lines 6 b) → k < 2 → Read t 9 (c * 2 + k) (number (nth ctor-line (lines 6 b) c) k)
+  pub read-ctor : (c k : ℕ) → c < count-of ctor-line ls → k < 2 → Placed t 8 c k (number (nth ctor-line ls c) k)
   unfolding header
-  read-ctor c k h q = read 9 (at-ctors (sizes-of (lines 6 b))) (c * 2 + k) _ (omega arith) refl (ctor-cell (lines 6 b) c k h q)
+  read-ctor c k h q = placed 8 (at-ctors (sizes-of ls)) ctor-line c k (omega arith) refl (ctor-cell ls c h) h (omega arith)
 
-  pub read-field : (f k : ℕ) → f < count-of field-line (lines 6 b) → k < 3 → Read t 10 (f * 3 + k) (number (nth field-line (lines 6 b) f) k)
+  pub read-field : (f k : ℕ) → f < count-of field-line ls → k < 3 → Placed t 9 f k (number (nth field-line ls f) k)
   unfolding header
-  read-field f k h q = read 10 (at-fields (sizes-of (lines 6 b))) (f * 3 + k) _ (omega arith) refl (field-cell (lines 6 b) f k h q)
+  read-field f k h q = placed 9 (at-fields (sizes-of ls)) field-line f k (omega arith) refl (field-cell ls f h) h (omega arith)
 
-  pub read-name : (n : ℕ) → n < count-of name-line (lines 6 b) → Read t 11 n (position (program (lines 6 b)) n)
+  pub read-name : (n : ℕ) → n < count-of name-line ls → Read t 10 n (position (program ls) n)
   unfolding header
-  read-name n h = read 11 (at-names (sizes-of (lines 6 b))) n _ (omega arith) refl (name-cell (lines 6 b) n h)
+  read-name n h = read 10 (at-names (sizes-of ls)) n _ (omega arith) refl (name-cell ls n h)
+
+  -- heads and verdicts
+  pub head-inside : (d : ℕ) → d < decls-of ls → start ls d < length ls
+  head-inside d h = line-inside ls d h
+
+  pub read-head : (d k : ℕ) → d < decls-of ls → number (line-at ls (start ls d)) k ≡ number (head-line ls d) k
+  read-head d k h = ap (λ (v : Line). number v k) (sym (head-place ls d h))
+
+  pub read-head-letter : (d : ℕ) → d < decls-of ls → letter (line-at ls (start ls d)) ≡ letter (head-line ls d)
+  read-head-letter d h = ap letter (sym (head-place ls d h))
+
+  pub read-verdict : (d : ℕ) → d < decls-of ls → (0 < start ls (suc d)) × (start ls (suc d) - 1 < length ls) × (nth verdict-line ls d ≡ line-at ls (start ls (suc d) - 1))
+  read-verdict d h = let v = verdict-place ls (m .passed) d h in (omega (arith, v .0), omega (arith, v .0, v .1), v .2)

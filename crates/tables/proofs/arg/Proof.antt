@@ -1,15 +1,20 @@
 -- `tables::arg` meets its contract: the cell is the A line's. Assumes nothing.
 use mathlib.Core.Path.{_∙_}
+use native.Mathlib.Omega.{arith}
 use borrow.Author.Needs.{needs}
+use Rattle.tables.specs.Tables.{lines-in}
 use Rattle.tables.specs.CellsLaws.{read-arg}
 use Rattle.tables.proofs.arg.Statement.{statement}
 use Rattle.tables.proofs.arg.Tie as tie
 
+mul-cell : tie.Need-mul-cell
+mul-cell c = let a = c .before in omega (arith, read-arg (lines-in (a .args .t .now)) (a .args .t .now) (a .pre .0) (a .args .i) (a .pre .1) .within .in-section)
+
 cell-requires : tie.Need-cell-requires
-cell-requires c κs = let a = c .before .before in read-arg (a .args .s .now) (a .args .t .now) (a .pre .0) (a .args .i) (a .pre .1) .within
+cell-requires c κs = let a = c .before in read-arg (lines-in (a .args .t .now)) (a .args .t .now) (a .pre .0) (a .args .i) (a .pre .1) .within
 
 returns : tie.Need-returns
-returns c = let a = c .before .before .before in c .cell .ensures ∙ read-arg (a .args .s .now) (a .args .t .now) (a .pre .0) (a .args .i) (a .pre .1) .value
+returns c = let a = c .before .before in c .cell .ensures ∙ read-arg (lines-in (a .args .t .now)) (a .args .t .now) (a .pre .0) (a .args .i) (a .pre .1) .value
 
 pub arg-spec : {M : Type 1} → statement M
-arg-spec = tie.close (tie.spec cell-requires (λ c. search needs) returns)
+arg-spec = tie.close (tie.spec mul-cell cell-requires (λ c. search needs) returns)

@@ -1,21 +1,15 @@
--- `tables::field_number` meets its contract: the cell is the F line's. Assumes nothing.
+-- `tables::field_number` meets its contract: the index has the line's place. Assumes nothing.
 use mathlib.Core.Path.{_∙_}
-use native.Mathlib.Omega.{arith}
+use Rattle.tables.specs.Tables.{lines-in}
 use Rattle.tables.specs.CellsLaws.{read-field}
 use Rattle.tables.proofs.field_number.Statement.{statement}
 use Rattle.tables.proofs.field_number.Tie as tie
 
-mul-cell : tie.Need-mul-cell
-mul-cell c = let a = c .before .before in omega (arith, read-field (a .args .s .now) (a .args .t .now) (a .pre .0) (a .args .f) (a .args .k) (a .pre .1 .0) (a .pre .1 .1) .within .in-section)
-
-add-cell : tie.Need-add-cell
-add-cell c = let a = c .before .before in omega (arith, read-field (a .args .s .now) (a .args .t .now) (a .pre .0) (a .args .f) (a .args .k) (a .pre .1 .0) (a .pre .1 .1) .within .in-section)
-
-cell-requires : tie.Need-cell-requires
-cell-requires c κs = let a = c .before .before in read-field (a .args .s .now) (a .args .t .now) (a .pre .0) (a .args .f) (a .args .k) (a .pre .1 .0) (a .pre .1 .1) .within
+placed-requires : tie.Need-placed-requires
+placed-requires c κs = let a = c .before in read-field (lines-in (a .args .t .now)) (a .args .t .now) (a .pre .0) (a .args .f) (a .args .k) (a .pre .1 .0) (a .pre .1 .1) .within
 
 returns : tie.Need-returns
-returns c = let a = c .before .before .before in c .cell .ensures ∙ read-field (a .args .s .now) (a .args .t .now) (a .pre .0) (a .args .f) (a .args .k) (a .pre .1 .0) (a .pre .1 .1) .value
+returns c = let a = c .before .before in c .placed .ensures ∙ read-field (lines-in (a .args .t .now)) (a .args .t .now) (a .pre .0) (a .args .f) (a .args .k) (a .pre .1 .0) (a .pre .1 .1) .value
 
 pub field-number-spec : {M : Type 1} → statement M
-field-number-spec = tie.close (tie.spec mul-cell add-cell cell-requires returns)
+field-number-spec = tie.close (tie.spec placed-requires returns)

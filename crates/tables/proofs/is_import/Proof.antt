@@ -1,23 +1,51 @@
--- `tables::is_import` meets its contract: the cell is the D or I line's letter. Assumes nothing.
-use mathlib.Core.Path.{_∙_, ap}
+-- `tables::is_import` meets its contract: the cell is the letter of the declaration's first line. Assumes nothing.
+use mathlib.Core.Path.{ap, _∙_}
+use Prim.Native.Nat.{ℕ, _<_}
 use native.Mathlib.Omega.{arith}
-use Prim.Native.Nat.{ℕ}
 use lib.Dec.{eqb}
-use Rattle.tables.specs.CellsLaws.{read-letter}
+use lib.ListN.{length}
+use Rattle.sheet.specs.Line.{letter}
+use Rattle.meaning.specs.Rows.{line-at}
+use Rattle.tables.specs.Tables.{lines-in}
+use Rattle.tables.specs.CellsLaws.{head-inside, read-letter, read-head-letter}
 use Rattle.tables.proofs.is_import.Statement.{statement}
 use Rattle.tables.proofs.is_import.Tie as tie
 
-mul-cell : tie.Need-mul-cell
-mul-cell c = let a = c .before .before in omega (arith, read-letter (a .args .s .now) (a .args .t .now) (a .pre .0) (a .args .d) (a .pre .1) .within .in-section)
+line-of-requires : tie.Need-line-of-requires
+line-of-requires c κs = let a = c .before in (a .pre .0, omega (arith, a .pre .1))
 
-add-cell : tie.Need-add-cell
-add-cell c = let a = c .before .before in omega (arith, read-letter (a .args .s .now) (a .args .t .now) (a .pre .0) (a .args .d) (a .pre .1) .within .in-section)
+mul-result : tie.Need-mul-result
+mul-result c =
+    let a = c .before .before in
+    let i : c .line-of .result < length (lines-in (a .args .t .now)) = omega (arith, c .line-of .ensures, head-inside (lines-in (a .args .t .now)) (a .args .t .now) (a .pre .0) (a .args .d) (a .pre .1)) in
+    omega (arith, read-letter (lines-in (a .args .t .now)) (a .args .t .now) (a .pre .0) (c .line-of .result) i .0)
 
-cell-requires : tie.Need-cell-requires
-cell-requires c κs = let a = c .before .before in read-letter (a .args .s .now) (a .args .t .now) (a .pre .0) (a .args .d) (a .pre .1) .within
+add-result : tie.Need-add-result
+add-result c =
+    let a = c .before .before in
+    let i : c .line-of .result < length (lines-in (a .args .t .now)) = omega (arith, c .line-of .ensures, head-inside (lines-in (a .args .t .now)) (a .args .t .now) (a .pre .0) (a .args .d) (a .pre .1)) in
+    omega (arith, read-letter (lines-in (a .args .t .now)) (a .args .t .now) (a .pre .0) (c .line-of .result) i .0)
+
+mul-result-2 : tie.Need-mul-result-2
+mul-result-2 c =
+    let a = c .before .before in
+    let i : c .line-of .result < length (lines-in (a .args .t .now)) = omega (arith, c .line-of .ensures, head-inside (lines-in (a .args .t .now)) (a .args .t .now) (a .pre .0) (a .args .d) (a .pre .1)) in
+    omega (arith, read-letter (lines-in (a .args .t .now)) (a .args .t .now) (a .pre .0) (c .line-of .result) i .0)
+
+shared-slice-read-result : tie.Need-shared-slice-read-result
+shared-slice-read-result c =
+    let a = c .before .before .before in
+    let i : c .before .line-of .result < length (lines-in (a .args .t .now)) = omega (arith, c .before .line-of .ensures, head-inside (lines-in (a .args .t .now)) (a .args .t .now) (a .pre .0) (a .args .d) (a .pre .1)) in
+    read-letter (lines-in (a .args .t .now)) (a .args .t .now) (a .pre .0) (c .before .line-of .result) i .0
 
 returns : tie.Need-returns
-returns c = let a = c .before .before .before in ap (λ (x : ℕ). eqb x 73) (c .cell .ensures ∙ read-letter (a .args .s .now) (a .args .t .now) (a .pre .0) (a .args .d) (a .pre .1) .value)
+returns c =
+    let a = c .before .before .before in
+    let i : c .before .line-of .result < length (lines-in (a .args .t .now)) = omega (arith, c .before .line-of .ensures, head-inside (lines-in (a .args .t .now)) (a .args .t .now) (a .pre .0) (a .args .d) (a .pre .1)) in
+    ap (λ (x : ℕ). eqb x 73)
+    (read-letter (lines-in (a .args .t .now)) (a .args .t .now) (a .pre .0) (c .before .line-of .result) i .1
+    ∙ ap (λ (j : ℕ). letter (line-at (lines-in (a .args .t .now)) j)) (c .before .line-of .ensures)
+    ∙ read-head-letter (lines-in (a .args .t .now)) (a .args .t .now) (a .pre .0) (a .args .d) (a .pre .1))
 
 pub is-import-spec : {M : Type 1} → statement M
-is-import-spec = tie.close (tie.spec mul-cell add-cell cell-requires returns)
+is-import-spec = tie.close (tie.spec line-of-requires mul-result add-result mul-result-2 shared-slice-read-result returns)

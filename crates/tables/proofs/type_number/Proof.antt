@@ -1,32 +1,22 @@
 -- `tables::type_number` meets its contract: the cell is the Y line's. Assumes nothing.
+use mathlib.Core.Path.{_∙_}
 use native.Mathlib.Omega.{arith}
+use Rattle.tables.specs.Tables.{lines-in}
 use Rattle.tables.specs.CellsLaws.{read-type}
 use Rattle.tables.proofs.type_number.Statement.{statement}
 use Rattle.tables.proofs.type_number.Tie as tie
 
-mul-result : tie.Need-mul-result
-mul-result c = omega (arith, read-type (c .args .s .now) (c .args .t .now) (c .pre .0) (c .args .y) (c .args .k) (c .pre .1 .0) (c .pre .1 .1) .0)
+mul-cell : tie.Need-mul-cell
+mul-cell c = let a = c .before in omega (arith, read-type (lines-in (a .args .t .now)) (a .args .t .now) (a .pre .0) (a .args .y) (a .args .k) (a .pre .1 .0) (a .pre .1 .1) .within .in-section)
 
-add-result : tie.Need-add-result
-add-result c = omega (arith, read-type (c .args .s .now) (c .args .t .now) (c .pre .0) (c .args .y) (c .args .k) (c .pre .1 .0) (c .pre .1 .1) .0)
+add-cell : tie.Need-add-cell
+add-cell c = let a = c .before in omega (arith, read-type (lines-in (a .args .t .now)) (a .args .t .now) (a .pre .0) (a .args .y) (a .args .k) (a .pre .1 .0) (a .pre .1 .1) .within .in-section)
 
-add-result-2 : tie.Need-add-result-2
-add-result-2 c = omega (arith, read-type (c .args .s .now) (c .args .t .now) (c .pre .0) (c .args .y) (c .args .k) (c .pre .1 .0) (c .pre .1 .1) .0)
-
-mul-result-2 : tie.Need-mul-result-2
-mul-result-2 c = omega (arith, read-type (c .args .s .now) (c .args .t .now) (c .pre .0) (c .args .y) (c .args .k) (c .pre .1 .0) (c .pre .1 .1) .0)
-
-shared-slice-read-result : tie.Need-shared-slice-read-result
-shared-slice-read-result c =
-    let a = c .before in
-    read-type (a .args .s .now) (a .args .t .now) (a .pre .0) (a .args .y) (a .args .k) (a .pre .1 .0) (a .pre .1 .1) .0
+cell-requires : tie.Need-cell-requires
+cell-requires c κs = let a = c .before in read-type (lines-in (a .args .t .now)) (a .args .t .now) (a .pre .0) (a .args .y) (a .args .k) (a .pre .1 .0) (a .pre .1 .1) .within
 
 returns : tie.Need-returns
-returns c =
-    let a = c .before in
-    read-type (a .args .s .now) (a .args .t .now) (a .pre .0) (a .args .y) (a .args .k) (a .pre .1 .0) (a .pre .1 .1) .1
+returns c = let a = c .before .before in c .cell .ensures ∙ read-type (lines-in (a .args .t .now)) (a .args .t .now) (a .pre .0) (a .args .y) (a .args .k) (a .pre .1 .0) (a .pre .1 .1) .value
 
 pub type-number-spec : {M : Type 1} → statement M
-type-number-spec =
-    tie.close
-    (tie.spec mul-result add-result add-result-2 mul-result-2 shared-slice-read-result returns)
+type-number-spec = tie.close (tie.spec mul-cell add-cell cell-requires returns)

@@ -1,0 +1,220 @@
+// The header and the index of a table, behind lines whose cells already stand in it: one walk over the declarations' lines.
+use tables::AT_ARGS;
+use tables::AT_BEGINS;
+use tables::AT_CTORS;
+use tables::AT_FIELDS;
+use tables::AT_NAMES;
+use tables::AT_PARAMS;
+use tables::AT_TYPES;
+use tables::DECLS;
+use tables::HEADER;
+use tables::LINES;
+use tables::NAMES;
+use tables::Sizes;
+use tables::TYPES;
+ghost use mathlib.Core.Path.{_≡_};
+ghost use mathlib.Core.List.{_++_};
+ghost use mathlib.Core.Bool.{true};
+ghost use Prim.Native.Nat.{suc, _+_, _*_, _≤_, _<_};
+ghost use lib.ListN.{length, getD, set, take, drop};
+ghost use Rattle.cells.specs.Cells as cells;
+ghost use Rattle.meaning.specs.Program as program;
+ghost use Rattle.meaning.specs.Rows as rows;
+ghost use Rattle.header.specs.Header as header;
+ghost use Rattle.tables.specs.Tables as tables;
+ghost use Rattle.table_index.specs.Sizing as sizing;
+ghost use Rattle.table_index.specs.Filling as filling;
+ghost use Rattle.table_index.specs.Index as index;
+
+// How many declarations and how many P, C and F lines stand before a line.
+struct Seen {
+    decls: usize,
+    params: usize,
+    ctors: usize,
+    fields: usize,
+}
+
+// How many lines there are of each kind, given what is counted for the limits: the others are V lines, one for each declaration, and P lines.
+pub fn sizes(
+    t: &[u32],
+    lines: usize,
+    names: usize,
+    args: usize,
+    types: usize,
+    decls: usize,
+    ctors: usize,
+    fields: usize,
+) -> Sizes
+    requires { ⌜ sizing.Counted (cells.lines-of (take (6 * lines) (drop 11 (now t)))) lines names args types decls ctors fields ⌝ }
+    ensures { λ r. ⌜ r ≡ tables.sizes-of (cells.lines-of (take (6 * lines) (drop 11 (now (t .entry))))) ⌝ }
+{
+    let params = lines - (names + args + types + decls * 2 + ctors + fields);
+    Sizes {
+        lines,
+        names,
+        args,
+        types,
+        decls,
+        params,
+        ctors,
+        fields,
+    }
+}
+
+// How many cells the table has.
+pub fn cells(z: Sizes) -> usize
+    requires { ⌜ tables.cell-count z < 65536 ⌝ }
+    ensures { λ r. ⌜ r ≡ tables.cell-count z ⌝ }
+{
+    HEADER + 6 * z.lines + (z.decls + 1) * 4 + z.params + z.ctors + z.fields + z.names
+}
+
+fn put_header(z: Sizes, t: &mut [u32])
+    requires { ⌜ (tables.cell-count z < 65536) × (z .names + z .args + z .types ≤ z .lines) ⌝ }
+    requires { ⌜ length (now t) ≡ tables.cell-count z ⌝ }
+    ensures { λ _. ⌜ now (t .exit) ≡ tables.header z ++ drop 11 (now (t .entry)) ⌝ }
+{
+    let begins = HEADER + 6 * z.lines;
+    let params = begins + (z.decls + 1) * 4;
+    let ctors = params + z.params;
+    let fields = ctors + z.ctors;
+    let names = fields + z.fields;
+    t[TYPES] = z.types as u32;
+    t[DECLS] = z.decls as u32;
+    t[NAMES] = z.names as u32;
+    t[LINES] = z.lines as u32;
+    t[AT_ARGS] = (HEADER + 1 + 6 * z.names) as u32;
+    t[AT_TYPES] = (HEADER + 1 + 6 * (z.names + z.args)) as u32;
+    t[AT_BEGINS] = begins as u32;
+    t[AT_PARAMS] = params as u32;
+    t[AT_CTORS] = ctors as u32;
+    t[AT_FIELDS] = fields as u32;
+    t[AT_NAMES] = names as u32;
+}
+
+// The n cells from `at` on are all v.
+fn put_all(at: usize, n: usize, v: u32, t: &mut [u32])
+    requires { ⌜ at + n ≤ length (now t) ⌝ }
+    ensures { λ _. ⌜ filling.Put (now (t .entry)) (now (t .exit)) at n (filling.all v) ⌝ }
+{
+    let mut k = 0;
+    while k < n {
+        t[at + k] = v;
+        k += 1;
+    }
+}
+
+// Where declaration c.decls begins, at line i.
+fn put_begin(i: usize, c: Seen, t: &mut [u32])
+    requires { ⌜ index.Fits i c × (6 < length (now t)) × (getD (now t) 6 0 + c .decls * 4 + 4 ≤ length (now t)) ⌝ }
+    ensures { λ _. ⌜ filling.Put (now (t .entry)) (now (t .exit)) (getD (now (t .entry)) 6 0 + c .decls * 4) 4 (index.begin-of i c) ⌝ }
+{
+    let at = t[AT_BEGINS] as usize + c.decls * 4;
+    t[at] = i as u32;
+    t[at + 1] = c.params as u32;
+    t[at + 2] = c.ctors as u32;
+    t[at + 3] = c.fields as u32;
+}
+
+// The numbers of line i are found at place j of the section whose place header cell h has.
+fn put_place(h: usize, j: usize, i: usize, t: &mut [u32])
+    requires { ⌜ tables.Within (now t) h j × (i < 65536) ⌝ }
+    ensures { λ _. ⌜ now (t .exit) ≡ set (now (t .entry)) (getD (now (t .entry)) h 0 + j) (tables.number-cell i) ⌝ }
+{
+    let at = t[h] as usize;
+    t[at + j] = (HEADER + 1 + 6 * i) as u32;
+}
+
+// Declaration c.decls, which begins at line i: where, and that the name is its.
+fn put_decl(i: usize, c: Seen, t: &mut [u32])
+    requires { ⌜ index.Reached (tables.lines-in (now t)) (now t) i c ⌝ }
+    requires { ⌜ (i < length (tables.lines-in (now t))) × (program.is-head (rows.line-at (tables.lines-in (now t)) i) ≡ true) ⌝ }
+    ensures { λ _. ⌜ index.Filled (tables.lines-in (now (t .entry))) (now (t .exit)) (suc i) ⌝ }
+{
+    put_begin(i, c, t);
+    let name = t[HEADER + 1 + i * 6] as usize;
+    let at = t[AT_NAMES] as usize;
+    t[at + name] = c.decls as u32;
+}
+
+// Line i of a declaration.
+fn put_line(i: usize, c: Seen, t: &mut [u32]) -> Seen
+    requires { ⌜ index.Reached (tables.lines-in (now t)) (now t) i c ⌝ }
+    requires { ⌜ i < length (tables.lines-in (now t)) ⌝ }
+    ensures { λ r. ⌜ index.Reached (tables.lines-in (now (t .entry))) (now (t .exit)) (suc i) r ⌝ }
+{
+    let letter = t[HEADER + i * 6];
+    match letter {
+        68 | 73 => {
+            put_decl(i, c, t);
+            Seen {
+                decls: c.decls + 1,
+                params: c.params,
+                ctors: c.ctors,
+                fields: c.fields,
+            }
+        }
+        80 => {
+            put_place(AT_PARAMS, c.params, i, t);
+            Seen {
+                decls: c.decls,
+                params: c.params + 1,
+                ctors: c.ctors,
+                fields: c.fields,
+            }
+        }
+        67 => {
+            put_place(AT_CTORS, c.ctors, i, t);
+            Seen {
+                decls: c.decls,
+                params: c.params,
+                ctors: c.ctors + 1,
+                fields: c.fields,
+            }
+        }
+        70 => {
+            put_place(AT_FIELDS, c.fields, i, t);
+            Seen {
+                decls: c.decls,
+                params: c.params,
+                ctors: c.ctors,
+                fields: c.fields + 1,
+            }
+        }
+        _ => c,
+    }
+}
+
+// The lines of the declarations, which begin at line `from`, up to line n.
+fn put_lines(from: usize, n: usize, t: &mut [u32])
+    requires { ⌜ index.Begun (tables.lines-in (now t)) (now t) ⌝ }
+    requires { ⌜ (from ≡ header.header (tables.lines-in (now t))) × (n ≡ length (tables.lines-in (now t))) ⌝ }
+    ensures { λ _. ⌜ now (t .exit) ≡ tables.cells-of (tables.lines-in (now (t .entry))) ⌝ }
+{
+    let mut c = Seen {
+        decls: 0,
+        params: 0,
+        ctors: 0,
+        fields: 0,
+    };
+    let mut i = from;
+    while i < n {
+        c = put_line(i, c, t);
+        i += 1;
+    }
+    put_begin(n, c, t);
+}
+
+// Fills the header and the index, behind lines whose cells already stand in the table.
+pub fn fill(z: Sizes, t: &mut [u32])
+    requires { ⌜ index.Ready z (now t) ⌝ }
+    ensures { λ _. ⌜ tables.Tabled (now (t .exit)) × (tables.lines-in (now (t .exit)) ≡ index.lines-behind z (now (t .entry))) ⌝ }
+{
+    let names = z.names;
+    let from = names + z.args + z.types;
+    let lines = z.lines;
+    put_header(z, t);
+    let at = t[AT_NAMES] as usize;
+    put_all(at, names, z.decls as u32, t);
+    put_lines(from, lines, t);
+}
