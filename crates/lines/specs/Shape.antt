@@ -1,6 +1,5 @@
 -- The shape of a line: what is read of it in one pass.
 -- Assumes nothing.
-use mathlib.Core.Bool.{Bool, true, false}
 use Prim.Native.Nat.{ℕ}
 use lib.Dec.{leb}
 use lib.ListN.{length}
@@ -20,12 +19,6 @@ shapeOf bad = NoLine
 abbrev pub namedShape : Number → ℕ → Shape
 namedShape (Value n) k = pick (leb 1 k) (Named n k) NoLine
 namedShape Bad k = NoLine
-
--- no line
-abbrev pub isNone : Shape → Bool
-isNone (Named n k) = false
-isNone Row = false
-isNone NoLine = true
 
 -- the length of the text of a line of that shape
 abbrev pub textIn : Shape → ℕ

@@ -12,12 +12,11 @@ use Rattle.columns.specs.declared.Number.{Number}
 use Rattle.columns.specs.declared.Number.the-variants.{Value, Bad}
 use Rattle.columns.specs.Column.{pick}
 use Rattle.sheet.specs.Format.{textBytes}
-use Rattle.sheet.specs.Line.{Line, named, row, bad, spelling, spaces, proper, lettered, cell, isValue, value, decode, decodeNamed, decodeRow, text, isBad}
+use Rattle.sheet.specs.Line.{Line, named, row, bad, spelling, spaces, proper, lettered, cell, isValue, value, decode, decodeNamed, decodeRow, text}
 use Rattle.sheet.specs.LineLaws.{lettered-other}
-use Rattle.sheet.specs.Sheet.{lineAt, line}
 use Rattle.texts.specs.Text.{textLength}
 use Rattle.lines.specs.declared.Shape.the-variants.{Named, Row, Bad as NoLine}
-use Rattle.lines.specs.Shape.{shapeOf, namedShape, isNone, textIn}
+use Rattle.lines.specs.Shape.{shapeOf, namedShape, textIn}
 
 -- ---- shapes
 -- a line of name n by its text t
@@ -56,19 +55,10 @@ decodeRow-bad w b (suc (suc (suc zero))) l h = simp (h, and-false)
 decodeRow-bad w b (suc (suc (suc (suc zero)))) l h = simp (h, and-false)
 decodeRow-bad w b (suc (suc (suc (suc (suc k))))) l h = absurd (omega arith)
 
-pub isBad-shape : (l : Line) → isBad l ≡ isNone (shapeOf l)
-isBad-shape (named n t) = refl
-isBad-shape (row x ns) = refl
-isBad-shape bad = refl
-
 pub textIn-shape : (l : Line) → textIn (shapeOf l) ≡ length (text l)
 textIn-shape (named n t) = refl
 textIn-shape (row x ns) = refl
 textIn-shape bad = refl
-
-pub bad-at : (w : ℕ) (b : List ℕ) (i : ℕ) → isBad (line w b i) ≡ isNone (shapeOf (decode w (lineAt w b i)))
-unfolding line
-bad-at w b i = isBad-shape (decode w (lineAt w b i))
 
 -- ---- by the last byte and the letter
 module _ (w : ℕ) (b : List ℕ) where

@@ -413,27 +413,3 @@ number-decode w b k = go (decoded w b)
     go (as-named n z e p) h q o = rw (o z) e
     go (as-row ns z l g e) h q o = e k q
     go as-bad h q o = false-true (sym h)
-
--- and any other is 0
-pub number-named : (w : ℕ) (b : List ℕ) (k : ℕ) → getD b 0 0 ≡ 78 → 0 < k → number (decode w b) k ≡ 0
-number-named w b k = go (decoded w b)
-  where
-    go : {l : Line} → Decoded w b l → getD b 0 0 ≡ 78 → 0 < k → number l k ≡ 0
-    go (as-named n z e p) h q = List·getD-eq-default (n ∷ []) 0 {n = k} (omega arith)
-    go (as-row ns z l g e) h q = absurd (z h)
-    go as-bad h q = refl
-
-pub number-over : (w : ℕ) (b : List ℕ) (k : ℕ) → 5 ≤ k → number (decode w b) k ≡ 0
-number-over w b k = go (decoded w b)
-  where
-    go : {l : Line} → Decoded w b l → 5 ≤ k → number l k ≡ 0
-    go (as-named n z e p) q = List·getD-eq-default (n ∷ []) 0 {n = k} (omega arith)
-    go (as-row ns z l g e) q = List·getD-eq-default ns 0 {n = k} (omega arith)
-    go as-bad q = refl
-
--- every number fits its columns
-cell-below : (w : ℕ) (b : List ℕ) (k n : ℕ) → cell w b k ≡ Value n → n < 10 ^ w
-unfolding cell
-cell-below w b k n e =
-    let d = drop (1 + k * w) b in
-    lt-of-lt-of-le (write-read (take w d) n e .1) (pow-le-pow-right (omega arith) (omega (arith, length-take w d)))

@@ -3,6 +3,8 @@ use access::Cell;
 use access::Letter;
 use libc::STDOUT_FILENO;
 use parts::LINE;
+ghost use Prim.Native.Nat.{_≤_};
+ghost use lib.ListN.{length};
 
 // A number past every line: 32 times it does not fit.
 const FAR: usize = 18446744073709551615;
@@ -75,12 +77,15 @@ fn put_lines(s: &[u8]) {
     put_line(s, FAR);
 }
 
-fn put_sheet(s: &[u8]) {
+fn put_sheet(s: &[u8])
+    requires { ⌜ length (now s) ≤ 1024 ⌝ }
+{
     if format::row1(s) {
         put(b"row 1\n");
     }
     put(b"row 2 at");
-    put_place(format::row2(s));
+    let mut cells = [0u32; 192];
+    put_place(decode::decode_lines(s, 6, &mut cells));
     put(b"\n");
     put_lines(s);
 }
