@@ -1,105 +1,129 @@
 -- What the owner of the build's memory needs to know of a sheet that passed rows 1 to 7. Assumes nothing.
-use mathlib.Core.Path.{_≡_, refl, sym, _∙_}
-use mathlib.Core.List.{List, [], _∷_}
-use mathlib.Core.Bool.{Bool, true, false}
-use Prim.Native.Nat.{ℕ, _+_, _*_, _-_, _≤_}
+use mathlib.Core.Path.{_≡_, refl, ap, sym, _∙_}
+use mathlib.Core.List.{List, _++_}
+use Prim.Native.Nat.{ℕ, _+_, _-_, _*_, _≤_, _<_}
 use native.Mathlib.Omega.{arith}
-use lib.Dec.{eqb}
-use lib.ListN.{length, take, replicate, length-replicate}
-use lib.Seq.{length-take-le, take-length}
-use borrow.Author.Tests.{eqb-true}
-use Rattle.columns.specs.Column.{pick}
+use lib.ListN.{length, take, drop, replicate, length-replicate}
+use lib.Seq.{take-at, drop-at, take-length, take-take, take-add, length-take-le}
+use borrow.Rule.Slice.PartMut.{putMid}
 use Rattle.sheet.specs.Format.{base}
-use Rattle.sheet.specs.Line.{Line, letter}
-use Rattle.sheet.specs.Sheet.{lines, count}
-use Rattle.sheet.specs.SheetLaws.{length-lines}
-use Rattle.model.specs.Decl.{bit}
-use Rattle.meaning.specs.Program.{name-line, arg-line, type-line, local-line, import-line, param-line, ctor-line, field-line, select, verdict-line}
+use Rattle.sheet.specs.Line.{Line}
+use mathlib.Core.Bool.{false}
+use Rattle.sheet.specs.Sheet.{count, lines, row1}
+use Rattle.cells.specs.Cells.{lines-of}
+use Rattle.bares.specs.PlaceLaws.{count-bare}
+use Rattle.meaning.specs.Program.{name-line, field-line}
 use Rattle.meaning.specs.Rows.{count-of}
-use Rattle.answer.specs.Answer.{refusal, sheet-rows}
-use Rattle.answer.specs.Cut.{Call}
 use Rattle.answer.specs.declared.Refusal.{Refusal}
 use Rattle.answer.specs.declared.Refusal.the-variants.{Accepted, Refused}
+use Rattle.answer.specs.Answer.{sheet-rows, refusal}
+use Rattle.answer.specs.Cut.{Call}
 use Rattle.limits.specs.declared.Counts.{Counts}
 use Rattle.limits.specs.Limits.{counts-of}
 use Rattle.limits.specs.LimitsLaws.{fields-kept}
-use Rattle.refusals.specs.declared.Checked.{Checked}
-use Rattle.refusals.specs.Rows.{with-counts, checked-of, Passed}
-use Rattle.refusals.specs.RowsLaws.{accepted-passed, passed-checked, passed-kept}
-use Rattle.tables.specs.Tables.{decls-of, sizes-of, cells}
-use Rattle.sizing.specs.Sizing.{Counted}
+use Rattle.declared.specs.Passed.{Passed}
+use Rattle.declared.specs.PassedLaws.{passed-kept}
+use Rattle.refusals.specs.declared.Checked as rows
+use Rattle.refusals.specs.Rows.{with-counts, checked-of, Checks}
+use Rattle.refusals.specs.RowsLaws.{checked-accepted}
+use Rattle.tables.specs.declared.Sizes.{Sizes}
+use Rattle.tables.specs.Tables.{decls-of, sizes-of, cell-count, lines-in, Tabled}
+use Rattle.table_index.specs.Index.{lines-behind}
+use Rattle.table_index.specs.Sizing.{Counted}
+use Rattle.table_index.specs.SizingLaws.{count-all, cells-few}
 use Rattle.built.specs.declared.Built.{Built}
-use Rattle.built.specs.Built.{refused-as, given, Gives}
+use Rattle.built.specs.Built.{refused-as, Gives, given}
 use Rattle.built.specs.BuiltLaws.{rows-sheet, gives-refused}
-use Rattle.decoder.specs.DecodingLaws.{verdicts-all}
+use Rattle.deciding.specs.Deciding.{Read}
+use Rattle.build.specs.Build.{behind, Checked, Lined}
 
--- ---- the cells of the table
-count-step : (x : ℕ) (l : Line) (ls : List Line) → count-of x (l ∷ ls) ≡ bit (eqb (letter l) x) + count-of x ls
-unfolding select
-count-step x l ls = go (eqb (letter l) x)
-  where
-    go : (c : Bool) → length (pick c (l ∷ select x ls) (select x ls)) ≡ bit c + length (select x ls)
-    go true = omega arith
-    go false = omega arith
+-- ---- the cells of lines in the table
+-- what was lent behind the header comes back
+pub behind-put : (t q : List ℕ) (n e : ℕ) → 11 + 6 * n ≤ length t → length q ≡ 6 * n → behind n (putMid 11 (e - 11) t q) ≡ lines-of q
+behind-put t q n e h k =
+    let a : length (take 11 t) ≡ 11 = length-take-le 11 t (omega arith) in
+    let r : List ℕ = drop (e - 11) (drop 11 t) in
+    ap (λ (x : List ℕ). lines-of (take (6 * n) x)) (drop-at (take 11 t) (q ++ r) 11 a) ∙ ap lines-of (take-at q r (6 * n) k)
 
--- a line has one letter
-bit-le : (b : Bool) → bit b ≤ 1
-bit-le true = omega arith
-bit-le false = omega arith
+-- as many cells as the table needs have them all
+pub behind-part : (t : List ℕ) (n m : ℕ) → 11 + 6 * n ≤ m → m ≤ length t → behind n (take (m - 0) t) ≡ behind n t
+behind-part t n m h l =
+    let e : m - 0 ≡ 11 + (m - 11) = omega arith in
+    let a : length (take 11 t) ≡ 11 = length-take-le 11 t (omega arith) in
+    ap lines-of
+    (ap (λ (k : ℕ). take (6 * n) (drop 11 (take k t))) e
+    ∙ ap (λ (x : List ℕ). take (6 * n) (drop 11 x)) (take-add 11 (m - 11) t)
+    ∙ ap (take (6 * n)) (drop-at (take 11 t) (take (m - 11) (drop 11 t)) 11 a)
+    ∙ take-take (6 * n) (m - 11) (drop 11 t) (omega arith))
 
--- what a line takes of the table, by its letter: six cells at the most
-taken : ℕ → ℕ
-taken x = bit (eqb x 78) + bit (eqb x 65) + 4 * bit (eqb x 89) + 6 * bit (eqb x 68) + 6 * bit (eqb x 73) + 6 * bit (eqb x 86) + bit (eqb x 80) + 2 * bit (eqb x 67) + 3 * bit (eqb x 70)
-
-six : (x : ℕ) → taken x ≤ 6
-unfolding taken
-six x =
-    go (eqb x 78) refl (eqb x 65) refl (eqb x 89) refl (eqb x 68) refl (eqb x 73) refl (eqb x 86) refl (eqb x 80) refl (eqb x 67) refl (eqb x 70) refl
-  where
-    one : (n m : ℕ) (b : Bool) → eqb x n ≡ true → eqb x m ≡ b → (n ≡ m → ⊥) → bit b ≡ 0
-    one n m true e f d = absurd (d (sym (eqb-true x n e) ∙ eqb-true x m f))
-    one n m false e f d = refl
-
-    go : (a : Bool) → eqb x 78 ≡ a → (b : Bool) → eqb x 65 ≡ b → (c : Bool) → eqb x 89 ≡ c → (d : Bool) → eqb x 68 ≡ d → (e : Bool) → eqb x 73 ≡ e → (f : Bool) → eqb x 86 ≡ f → (g : Bool) → eqb x 80 ≡ g → (h : Bool) → eqb x 67 ≡ h → (i : Bool) → eqb x 70 ≡ i
-        → bit a + bit b + 4 * bit c + 6 * bit d + 6 * bit e + 6 * bit f + bit g + 2 * bit h + 3 * bit i ≤ 6
-    go a pa b pb c pc true pd e pe f pf g pg h ph i pi =
-        omega (arith, one 68 78 a pd pa (λ z. omega arith), one 68 65 b pd pb (λ z. omega arith), one 68 89 c pd pc (λ z. omega arith), one 68 73 e pd pe (λ z. omega arith), one 68 86 f pd pf (λ z. omega arith), one 68 80 g pd pg (λ z. omega arith), one 68 67 h pd ph (λ z. omega arith), one 68 70 i pd pi (λ z. omega arith))
-    go a pa b pb c pc false pd true pe f pf g pg h ph i pi =
-        omega (arith, one 73 78 a pe pa (λ z. omega arith), one 73 65 b pe pb (λ z. omega arith), one 73 89 c pe pc (λ z. omega arith), one 73 86 f pe pf (λ z. omega arith), one 73 80 g pe pg (λ z. omega arith), one 73 67 h pe ph (λ z. omega arith), one 73 70 i pe pi (λ z. omega arith))
-    go a pa b pb c pc false pd false pe true pf g pg h ph i pi =
-        omega (arith, one 86 78 a pf pa (λ z. omega arith), one 86 65 b pf pb (λ z. omega arith), one 86 89 c pf pc (λ z. omega arith), one 86 80 g pf pg (λ z. omega arith), one 86 67 h pf ph (λ z. omega arith), one 86 70 i pf pi (λ z. omega arith))
-    go a pa b pb true pc false pd false pe false pf g pg h ph i pi =
-        omega (arith, one 89 78 a pc pa (λ z. omega arith), one 89 65 b pc pb (λ z. omega arith), one 89 80 g pc pg (λ z. omega arith), one 89 67 h pc ph (λ z. omega arith), one 89 70 i pc pi (λ z. omega arith))
-    go a pa b pb false pc false pd false pe false pf g pg h ph true pi =
-        omega (arith, one 70 78 a pi pa (λ z. omega arith), one 70 65 b pi pb (λ z. omega arith), one 70 80 g pi pg (λ z. omega arith), one 70 67 h pi ph (λ z. omega arith))
-    go a pa b pb false pc false pd false pe false pf g pg h ph false pi = omega (arith, bit-le a, bit-le b, bit-le g, bit-le h)
-
-all-taken : (ls : List Line) → count-of name-line ls + count-of arg-line ls + 4 * count-of type-line ls + 6 * count-of local-line ls + 6 * count-of import-line ls + 6 * count-of verdict-line ls + count-of param-line ls + 2 * count-of ctor-line ls + 3 * count-of field-line ls ≤ 6 * length ls
-unfolding select taken
-all-taken [] = omega arith
-all-taken (l ∷ ls) =
-    omega (arith, count-step name-line l ls, count-step arg-line l ls, count-step type-line l ls, count-step local-line l ls, count-step import-line l ls, count-step verdict-line l ls, count-step param-line l ls, count-step ctor-line l ls, count-step field-line l ls, six (letter l), all-taken ls)
-
--- six cells for each line, and the header's and the end's
-pub cells-room : (b : List ℕ) → Passed b → cells (sizes-of (lines 6 b)) ≤ 6 * count 6 b + 16
+-- eight cells for each line, and the header's and the end's
+pub cells-room : (ls : List Line) → Passed ls → cell-count (sizes-of ls) ≤ 8 * length ls + 16
 unfolding sizes-of
-cells-room b p = omega (arith, all-taken (lines 6 b), length-lines 6 b, verdicts-all b p)
+cells-room ls p = omega (arith, count-all ls p)
 
--- ---- rows 1 to 7
-passed-of : (b : List ℕ) (q : Refusal) (k : Counts) → refusal (sheet-rows base b) ≡ q → with-counts q k .refusal ≡ Accepted → refusal (sheet-rows base b) ≡ Accepted
-passed-of b Accepted k e h = e
-passed-of b (Refused code place) k e h = let z : _≡_ {A = ℕ} 0 1 = cc in absurd (omega arith)
+pub cells-lines : (ls : List Line) → 11 + 6 * length ls ≤ cell-count (sizes-of ls)
+unfolding sizes-of
+cells-lines ls = omega arith
 
-pub checked-passed : (b : List ℕ) → checked-of b .refusal ≡ Accepted → Passed b
-unfolding checked-of
-checked-passed b e = accepted-passed b (passed-of b (refusal (sheet-rows base b)) (counts-of (lines 6 b)) refl e)
+-- ---- from the rows to the table
+module _ (b t : List ℕ) (r : rows.Checked) (short : row1 base b ≡ false) (e : ℕ) (x : List ℕ) (c : Checks b x r) (a : r .refusal ≡ Accepted) where
+  pub checked-lines : 8 * count 6 b + 16 ≤ length (putMid 11 (e - 11) t x) → 11 + 6 * count 6 b ≤ length t → Checked b (putMid 11 (e - 11) t x) (r .counts)
+  checked-lines room h =
+      let y = c .accepts a in
+      let q = behind-put t x (count 6 b) e h (y .sized) in
+      record {
+        accepts = record { short = short; no-bad = y .no-bad; sheet = checked-accepted b r (c .answer) a };
+        lines-are = q ∙ y .lines-are;
+        passed = rw q (y .passed);
+        counts = y .counts-are ∙ ap counts-of (sym q);
+        room = room;
+      }
 
-pub checked-counted : (b : List ℕ) (r : Checked) → r ≡ checked-of b → Passed b → Counted (lines 6 b) (r .counts .names) (r .counts .args) (r .counts .types) (r .counts .decls)
-unfolding counts-of
-checked-counted b r e p =
-    let q : r ≡ record { refusal = Accepted; counts = counts-of (lines 6 b) } = e ∙ passed-checked b p in
-    rw q (record { names-are = refl; args-are = refl; types-are = refl; decls-are = refl })
+module _ (b t : List ℕ) (k : Counts) (c : Checked b t k) where
+  abbrev ls : List Line
+  ls = behind (count 6 b) t
 
+  many : length ls ≡ count 6 b
+  many = ap length (c .lines-are) ∙ count-bare 6 b
+
+  pub counted-of : (n : ℕ) → n ≡ count 6 b → Counted (behind n t) n (k .names) (k .args) (k .types) (k .decls) (k .ctors) (k .fields)
+  unfolding counts-of
+  counted-of n e =
+      rw (e, c .counts)
+      (record { passed = c .passed; lines-are = sym many; names-are = refl; args-are = refl; types-are = refl; decls-are = refl; ctors-are = refl; fields-are = refl })
+
+  module _ (z : Sizes) (s : z ≡ sizes-of ls) (m : ℕ) (w : m ≡ cell-count z) where
+    pub part-room : m ≤ length t
+    part-room = omega (arith, w, ap cell-count s, cells-room ls (c .passed), many, c .room)
+
+    lines-of-z : z .lines ≡ count 6 b
+    unfolding sizes-of
+    lines-of-z = ap (λ (y : Sizes). y .lines) s ∙ many
+
+    pub lined-of : Lined b (take (m - 0) t) z
+    lined-of =
+        let h : 11 + 6 * count 6 b ≤ m = omega (arith, w, ap cell-count s, cells-lines ls, many) in
+        let q : lines-behind z (take (m - 0) t) ≡ ls = ap (λ (n : ℕ). behind n (take (m - 0) t)) lines-of-z ∙ behind-part t (count 6 b) m h part-room in
+        let v : m - 0 ≡ m = omega arith in
+        record {
+          accepts = c .accepts;
+          lines-are = q ∙ c .lines-are;
+          ready = record { passed = rw q (c .passed); sizes = s ∙ ap sizes-of (sym q); room = length-take-le (m - 0) t (omega (arith, part-room)) ∙ v ∙ w };
+        }
+
+pub cells-small : (b t : List ℕ) (k : Counts) → Checked b t k → (z : Sizes) → z ≡ sizes-of (behind (count 6 b) t) → cell-count z < 65536
+cells-small b t k c z s = rw s (cells-few (behind (count 6 b) t) (c .passed))
+
+-- the table, beside the bytes
+pub read-of : (b t : List ℕ) (z : Sizes) (t′ : List ℕ) → Lined b t z → Tabled t′ → lines-in t′ ≡ lines-behind z t → Read b t′
+read-of b t z t′ c m e =
+    record { of = record { tabled = m; short = c .accepts .short; no-bad = c .accepts .no-bad; lines-are = e ∙ c .lines-are }; sheet = c .accepts .sheet }
+
+pub names-of : (b t : List ℕ) (z : Sizes) (t′ : List ℕ) → Lined b t z → lines-in t′ ≡ lines-behind z t → z .names ≡ count-of name-line (lines-in t′)
+unfolding sizes-of
+names-of b t z t′ c e = ap (λ (y : Sizes). y .names) (c .ready .sizes) ∙ ap (count-of name-line) (sym e)
+
+-- ---- a refusal of rows 1 to 7
 refused-of : (b : List ℕ) (q : Refusal) (k : Counts) (code place : ℕ) → refusal (sheet-rows base b) ≡ q → with-counts q k .refusal ≡ Refused code place → refusal (sheet-rows base b) ≡ Refused code place
 refused-of b Accepted k code place e h = let z : _≡_ {A = ℕ} 0 1 = cc in absurd (omega arith)
 refused-of b (Refused c p) k code place e h = e ∙ h
@@ -114,14 +138,12 @@ gives-sheet b v l code place e =
 pub part-length : (m n : ℕ) → n ≤ m → length {A = ℕ} (take (n - 0) (replicate m 0)) ≡ n
 part-length m n h = let e : n - 0 ≡ n = omega arith in rw e (length-take-le n (replicate m 0) (rw length-replicate h))
 
-pub decls-few : (b : List ℕ) → Passed b → decls-of (lines 6 b) ≤ 96
+pub decls-few : (ls : List Line) → Passed ls → decls-of ls ≤ 96
 unfolding counts-of
-decls-few b p = passed-kept b p .decls
+decls-few ls p = passed-kept ls p .decls
 
-pub fields-few : (b : List ℕ) → Passed b → count-of field-line (lines 6 b) ≤ 512
-fields-few b p =
-    let ls = lines 6 b in
-    rw (take-length ls) at (fields-kept base ls (rw (length-lines 6 b) (p .in-limits)) (length ls) (omega arith))
+pub fields-few : (ls : List Line) → Passed ls → count-of field-line ls ≤ 512
+fields-few ls p = rw (take-length ls) at (fields-kept base ls (p .in-limits) (length ls) (omega arith))
 
 -- ---- calls
 -- A call of the build is a call that the claims speak of (`cut-calls`).

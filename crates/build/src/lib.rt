@@ -1,33 +1,42 @@
 // The layout build: a sheet and two outputs go in; code, place and rounds come out, and on acceptance both sheets stand in the outputs.
 use answer::Refusal;
 use built::Built;
+use cells::CELLS;
+use limits::Counts;
+use parts::LINE;
+use tables::HEADER;
 use tables::Sizes;
 ghost use mathlib.Core.Path.{_≡_};
 ghost use mathlib.Core.Bool.{false};
 ghost use Prim.Native.Nat.{_+_, _*_, _≤_};
 ghost use lib.ListN.{length};
 ghost use Rattle.sheet.specs.Format.{base};
-ghost use Rattle.sheet.specs.Sheet.{count, lines, row1};
+ghost use Rattle.sheet.specs.Sheet.{count, row1};
 ghost use Rattle.meaning.specs.Program.{name-line};
 ghost use Rattle.meaning.specs.Rows.{count-of};
-ghost use Rattle.refusals.specs.Rows.{Passed};
-ghost use Rattle.tables.specs.Tables.{Tabled, sizes-of, cells};
-ghost use Rattle.sizing.specs.Sizing.{Counted};
+ghost use Rattle.tables.specs.Tables.{lines-in};
 ghost use Rattle.built.specs.Built.{Gives};
+ghost use Rattle.deciding.specs.Deciding.{Read};
+ghost use Rattle.build.specs.Build.{Checked, Lined};
 
-// Bytes of 77, 338 and 1,024 lines, whose cells fit 480, 2,048 and 6,160: six for each line, and 16 for the table's header and end.
-const SMALL: usize = 2464;
+// Bytes of 58, 126, 254, 386 and 1,024 lines, whose tables fit 480, 1,024, 2,048, 3,104 and 8,208 cells: eight for each line, and 16 for
+// the header and the end. Cells that a sheet does not need are not cleared.
+const TINY: usize = 1856;
 
-const MIDDLE: usize = 10816;
+const SMALL: usize = 4032;
 
-const LARGE: usize = 32768;
+const MIDDLE: usize = 8128;
+
+const LARGE: usize = 12352;
+
+const HALF: usize = 32768;
 
 // Memory for the passes, of as many declarations as a sheet may have.
 fn tabled(s: &[u8], t: &[u32], names: usize, v: &mut [u8], l: &mut [u8]) -> Built
-    requires { ⌜ Tabled (now s) (now t) × (names ≡ count-of name-line (lines 6 (now s))) ⌝ }
+    requires { ⌜ Read (now s) (now t) × (names ≡ count-of name-line (lines-in (now t))) ⌝ }
     ensures { λ r. ⌜ Gives (now (s .entry)) (now (v .entry)) (now (l .entry)) r (now (v .exit)) (now (l .exit)) ⌝ }
 {
-    let n = tables::decls(s, t);
+    let n = tables::decls(t);
     let mut keep = [0u8; 512];
     let mut u = [0u16; 192];
     let mut rank = [0u16; 96];
@@ -43,55 +52,39 @@ fn tabled(s: &[u8], t: &[u32], names: usize, v: &mut [u8], l: &mut [u8]) -> Buil
     )
 }
 
-// With memory for the table.
-fn filled(s: &[u8], z: Sizes, t: &mut [u32], v: &mut [u8], l: &mut [u8]) -> Built
-    requires { ⌜ Passed (now s) × (z ≡ sizes-of (lines 6 (now s))) × (length (now t) ≡ cells z) ⌝ }
+// Lines whose cells stand in the table, and memory for its index.
+fn lined(s: &[u8], z: Sizes, t: &mut [u32], v: &mut [u8], l: &mut [u8]) -> Built
+    requires { ⌜ Lined (now s) (now t) z ⌝ }
     ensures { λ r. ⌜ Gives (now (s .entry)) (now (v .entry)) (now (l .entry)) r (now (v .exit)) (now (l .exit)) ⌝ }
 {
     let names = z.names;
-    tabler::fill(s, z, t);
+    table_index::fill(z, t);
     tabled(s, t, names, v, l)
 }
 
-// A sheet that passed rows 1 to 7, with as many lines of each kind. Its table has room where its lines had.
-fn passed(
-    s: &[u8],
-    t: &mut [u32],
-    names: usize,
-    args: usize,
-    types: usize,
-    decls: usize,
-    v: &mut [u8],
-    l: &mut [u8],
-) -> Built
-    requires { ⌜ Passed (now s) × Counted (lines 6 (now s)) names args types decls ⌝ }
-    requires { ⌜ 6 * count 6 (now s) + 16 ≤ length (now t) ⌝ }
+// A sheet that passed rows 1 to 7, whose lines are counted.
+fn passed(s: &[u8], t: &mut [u32], c: Counts, v: &mut [u8], l: &mut [u8]) -> Built
+    requires { ⌜ Checked (now s) (now t) c ⌝ }
     ensures { λ r. ⌜ Gives (now (s .entry)) (now (v .entry)) (now (l .entry)) r (now (v .exit)) (now (l .exit)) ⌝ }
 {
-    let z = sizing::sizes_of(s, names, args, types, decls);
-    let m = sizing::cells(z);
-    filled(s, z, &mut t[0..m], v, l)
+    let n = s.len() / LINE;
+    let z = table_index::sizes(t, n, c.names, c.args, c.types, c.decls, c.ctors, c.fields);
+    let m = table_index::cells(z);
+    lined(s, z, &mut t[0..m], v, l)
 }
 
-// Rows 2 to 7, with memory for the cells of the lines and then for the table; and the build of a sheet that passes them.
+// Rows 2 to 7, with memory for the table; and the build of a sheet that passes them.
 fn checked(s: &[u8], t: &mut [u32], v: &mut [u8], l: &mut [u8]) -> Built
-    requires { ⌜ (row1 base (now s) ≡ false) × (6 * count 6 (now s) + 16 ≤ length (now t)) ⌝ }
+    requires { ⌜ (row1 base (now s) ≡ false) × (8 * count 6 (now s) + 16 ≤ length (now t)) ⌝ }
     ensures { λ r. ⌜ Gives (now (s .entry)) (now (v .entry)) (now (l .entry)) r (now (v .exit)) (now (l .exit)) ⌝ }
 {
-    let checked = refusals::check_rows(s, t);
+    let n = s.len() / LINE;
+    let end = HEADER + n * CELLS;
+    let checked = refusals::check_rows(s, &mut t[HEADER..end]);
     let refusal = checked.refusal;
     let counts = checked.counts;
     match refusal {
-        Refusal::Accepted => passed(
-            s,
-            t,
-            counts.names,
-            counts.args,
-            counts.types,
-            counts.decls,
-            v,
-            l,
-        ),
+        Refusal::Accepted => passed(s, t, counts, v, l),
         Refusal::Refused { code, place } => built::refused(code, place),
     }
 }
@@ -103,8 +96,12 @@ pub fn build(s: &[u8], v: &mut [u8], l: &mut [u8]) -> Built
     if format::row1(s) {
         return built::refused(1, 0);
     }
-    if s.len() <= SMALL {
+    if s.len() <= TINY {
         let mut t = [0u32; 480];
+        return checked(s, &mut t, v, l);
+    }
+    if s.len() <= SMALL {
+        let mut t = [0u32; 1024];
         return checked(s, &mut t, v, l);
     }
     if s.len() <= MIDDLE {
@@ -112,9 +109,13 @@ pub fn build(s: &[u8], v: &mut [u8], l: &mut [u8]) -> Built
         return checked(s, &mut t, v, l);
     }
     if s.len() <= LARGE {
-        let mut t = [0u32; 6160];
+        let mut t = [0u32; 3104];
         return checked(s, &mut t, v, l);
     }
-    let mut t = [0u32; 12304];
+    if s.len() <= HALF {
+        let mut t = [0u32; 8208];
+        return checked(s, &mut t, v, l);
+    }
+    let mut t = [0u32; 16400];
     checked(s, &mut t, v, l)
 }

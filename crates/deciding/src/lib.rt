@@ -4,13 +4,12 @@ use built::Built;
 ghost use mathlib.Core.Path.{_≡_};
 ghost use Prim.Native.Nat.{_*_, _≤_};
 ghost use lib.ListN.{length};
-ghost use Rattle.sheet.specs.Sheet.{lines};
 ghost use Rattle.model.specs.Run.{run};
 ghost use Rattle.meaning.specs.Program.{name-line, field-line, program};
 ghost use Rattle.meaning.specs.Rows.{count-of};
-ghost use Rattle.tables.specs.Tables.{Tabled, decls-of};
+ghost use Rattle.tables.specs.Tables.{decls-of, lines-in};
 ghost use Rattle.built.specs.Built.{Gives};
-ghost use Rattle.deciding.specs.Deciding.{Found, Clear};
+ghost use Rattle.deciding.specs.Deciding.{Read, Found, Clear};
 
 // Row 11, then row 12 and the sheets.
 fn written(
@@ -25,7 +24,7 @@ fn written(
     l: &mut [u8],
 ) -> Built
     requires { ⌜ Clear (now s) (now t) (now u) (now rank) (now keep) ⌝ }
-    requires { ⌜ (names ≡ count-of name-line (lines 6 (now s))) × (rounds ≡ run 100 (program (lines 6 (now s))) .rounds) ⌝ }
+    requires { ⌜ (names ≡ count-of name-line (lines-in (now t))) × (rounds ≡ run 100 (program (lines-in (now t))) .rounds) ⌝ }
     ensures { λ r. ⌜ Gives (now (s .entry)) (now (v .entry)) (now (l .entry)) r (now (v .exit)) (now (l .exit)) ⌝ }
 {
     if v.len() < s.len() {
@@ -47,10 +46,10 @@ fn resolved(
     l: &mut [u8],
 ) -> Built
     requires { ⌜ Found (now s) (now t) (now u) (now rank) (now keep) ⌝ }
-    requires { ⌜ (names ≡ count-of name-line (lines 6 (now s))) × (rounds ≡ run 100 (program (lines 6 (now s))) .rounds) ⌝ }
+    requires { ⌜ (names ≡ count-of name-line (lines-in (now t))) × (rounds ≡ run 100 (program (lines-in (now t))) .rounds) ⌝ }
     ensures { λ r. ⌜ Gives (now (s .entry)) (now (v .entry)) (now (l .entry)) r (now (v .exit)) (now (l .exit)) ⌝ }
 {
-    let r = rows9::rows9_10(s, t, u, keep);
+    let r = rows9::rows9_10(t, u, keep);
     match r {
         Refusal::Accepted => written(s, t, names, rounds, u, rank, keep, v, l),
         Refusal::Refused { code, place } => built::refused(code, place),
@@ -68,15 +67,15 @@ pub fn decided(
     v: &mut [u8],
     l: &mut [u8],
 ) -> Built
-    requires { ⌜ Tabled (now s) (now t) × (count-of field-line (lines 6 (now s)) ≤ length (now keep)) ⌝ }
-    requires { ⌜ (length (now u) ≡ 2 * decls-of (lines 6 (now s))) × (length (now rank) ≡ decls-of (lines 6 (now s))) ⌝ }
-    requires { ⌜ names ≡ count-of name-line (lines 6 (now s)) ⌝ }
+    requires { ⌜ Read (now s) (now t) × (count-of field-line (lines-in (now t)) ≤ length (now keep)) ⌝ }
+    requires { ⌜ (length (now u) ≡ 2 * decls-of (lines-in (now t))) × (length (now rank) ≡ decls-of (lines-in (now t))) ⌝ }
+    requires { ⌜ names ≡ count-of name-line (lines-in (now t)) ⌝ }
     ensures { λ r. ⌜ Gives (now (s .entry)) (now (v .entry)) (now (l .entry)) r (now (v .exit)) (now (l .exit)) ⌝ }
 {
-    let p = passes::passes(s, t, keep, u, rank);
+    let p = passes::passes(t, keep, u, rank);
     let returning = p.returning;
-    if returning < tables::decls(s, t) {
-        return built::refused(8, tables::line_of(s, t, returning));
+    if returning < tables::decls(t) {
+        return built::refused(8, tables::line_of(t, returning));
     }
     resolved(s, t, names, p.rounds, u, rank, keep, v, l)
 }

@@ -1,40 +1,30 @@
 -- The left sheet of an accepted sheet has few Y lines. Assumes nothing.
-use mathlib.Core.Path.{_≡_}
 use mathlib.Core.List.{List}
-use mathlib.Core.Bool.{Bool, false}
-use Prim.Native.Nat.{ℕ, _+_, _*_, _≤_, _<_}
+use Prim.Native.Nat.{ℕ, _≤_, _<_}
 use native.Mathlib.Omega.{arith}
 use native.Mathlib.Nat.{mul-le-mul-left}
 use lib.ListN.{length}
 use Rattle.sheet.specs.Format.{base}
-use Rattle.sheet.specs.FormatLaws.{base-ample}
 use Rattle.sheet.specs.FirstLaws.{none-first}
 use Rattle.sheet.specs.Line.{Line}
-use Rattle.sheet.specs.ListLaws.{Every, every-map, mem-every}
-use Rattle.sheet.specs.Sheet.{lines, count}
-use Rattle.sheet.specs.SheetLaws.{length-lines}
-use Rattle.model.specs.Cty.{Cty, size}
+use Rattle.sheet.specs.ListLaws.{every-map, mem-every}
+use Rattle.model.specs.Cty.{size}
 use Rattle.model.specs.Decl.{Dtype, dtype-at}
 use Rattle.model.specs.Resolve.{resolve}
 use Rattle.model.specs.Run.{lay, layout-of-decl, left-at, left-program, run, resolves}
 use Rattle.model_laws.specs.Resolve.{Resolved, LeftTypes, left-types}
 use Rattle.meaning.specs.Program.{program}
 use Rattle.meaning.specs.Rows.{row7}
-use Rattle.meaning.specs.Laws.Output.{nothing, types-of, total, total-bound, program-adds}
+use Rattle.meaning.specs.Laws.Output.{nothing, types-of, total-bound, program-adds}
 use Rattle.meaning.specs.Laws.Numbers.{Numbered, weights, run-count, run-types, program-full, weights-program}
-use Rattle.answer.specs.Answer.{input-refusal}
-use Rattle.answer.specs.declared.Refusal.the-variants.{Accepted}
-use Rattle.answer.specs.Laws.Left.{program-matches, pass-resolved}
+use Rattle.answer.specs.Laws.Left.{program-matches}
 use Rattle.arguments.specs.ParamsLaws.{decls-few}
 use Rattle.bodies.specs.BodiesLaws.{fields-few}
-use Rattle.refusals.specs.Rows.{Passed}
+use Rattle.declared.specs.Passed.{Passed}
 use Rattle.lefts.specs.Lefts.{left-written}
-use Rattle.lefts.specs.ReadyLaws.{room-verdict, room-left, accepted-all}
+use Rattle.head_rows.specs.HeadRows.{Resolvable}
 
-module _ (b : List ℕ) (passed : Passed b) (accepted : input-refusal base b ≡ Accepted) where
-  abbrev ls : List Line
-  ls = lines 6 b
-
+module _ (ls : List Line) (passed : Passed ls) (resolvable : Resolvable base ls) where
   abbrev ds : List Dtype
   ds = left-program (run 100 (program ls))
 
@@ -43,16 +33,16 @@ module _ (b : List ℕ) (passed : Passed b) (accepted : input-refusal base b ≡
   types-count =
       let U : ℕ → Type 0 = λ n. Unit {0} in
       let c : length (types-of ds) ≤ weights (program ls) = run-count U (λ n k. tt) (λ m n h q. tt) 100 (program ls) (program-full U (λ n k. tt) (λ m n h q. tt) ls (mem-every (Numbered U) ls (λ l m k. tt)) tt) in
-      omega (arith, c, weights-program ls, decls-few b passed, fields-few b passed)
+      omega (arith, c, weights-program ls, decls-few ls passed, fields-few ls passed)
 
   -- of at most 1024 nodes each
   left-small : (i : ℕ) → i < length (program ls) → LeftTypes (λ c. size c ≤ 1024) (left-at 100 (program ls) i)
   unfolding left-at
   left-small i h =
       left-types (λ c. size c ≤ 1024) (resolve (lay (program ls)) 100) (dtype-at (program ls) i) (layout-of-decl (program ls) i)
-      (program-matches ls (λ j k. none-first (row7 ls) (count 6 b) (passed .in-verdict) j (omega (arith, length-lines 6 b))) i h)
+      (program-matches ls (λ j k. none-first (row7 ls) (length ls) (passed .in-verdict) j (omega arith)) i h)
       (every-map (Resolved 1024 (lay (program ls)) 100) (λ c. size (resolve (lay (program ls)) 100 c) ≤ 1024) (λ c r. r .small) (resolves (layout-of-decl (program ls) i))
-      (pass-resolved base b (room-verdict b accepted) (room-left b accepted) base-ample (accepted-all b accepted) i h))
+      (resolvable .resolved i h))
 
   -- and so fewer than a cell can count
   pub types-few : length (left-written ls .written .types) < 4294967296

@@ -1,38 +1,38 @@
 -- The lines of what is left, declaration by declaration. Assumes nothing.
-use mathlib.Core.Path.{_≡_, refl, ap, ap₂, sym, _∙_, subst}
-use mathlib.Core.List.{List, [], _∷_, _++_, append-nil, List·Memᴰ}
+use mathlib.Core.Path.{_≡_, refl, ap, ap₂, sym, _∙_}
+use mathlib.Core.List.{List, [], _∷_, _++_, append-nil}
 use mathlib.Core.Bool.{Bool, true, false}
 use mathlib.Core.Option.{Option, none, some}
-use Prim.Native.Nat.{ℕ, zero, suc, _+_, _-_, _*_, _≤_, _<_}
+use Prim.Native.Nat.{ℕ, zero, suc, _+_, _-_, _<_}
 use native.Mathlib.Omega.{arith}
-use lib.ListN.{length, getD}
+use lib.ListN.{getD}
 use Rattle.columns.specs.Column.{pick}
 use Rattle.sheet.specs.Line.{Line}
 use Rattle.sheet.specs.Sheet.{lines}
 use Rattle.sheet.specs.ListLaws.{false-true}
-use Rattle.model.specs.Decl.{Body, Dtype, Decl, dtype-at, Layout, L-erased, L-newtype, L-struct, L-abbrev, L-opaque, close-fields, table, bit}
+use Rattle.model.specs.Decl.{Body, Dtype, dtype-at, Layout, L-erased, L-newtype, L-struct, L-abbrev, L-opaque, close-fields, table, bit}
 use Rattle.model.specs.Run.{with-body, rw-decl, somes, run, left-program, lay, layout-of-decl, left-at}
-use Rattle.model.specs.Resolve.{resolve}
+use Rattle.model.specs.Resolve.{resolve, stays}
 use Rattle.model_laws.specs.Run.{run-lefts}
 use Rattle.model_laws.specs.Lists.{table-cong}
 use Rattle.meaning.specs.Program.{program, dtype-of}
-use Rattle.meaning.specs.Output.{Written, Lines, decl-lines, program-lines}
+use Rattle.meaning.specs.Output.{Written, decl-lines, program-lines}
 use Rattle.meaning.specs.Laws.Output.{grows-args, grows-types, program-adds, program-append-written, program-append-lines}
 use Rattle.meaning.specs.Laws.Program.{length-program}
 use Rattle.tables.specs.Tables.{decls-of}
 use Rattle.declared.specs.DeclLaws.{dtype-is}
 use Rattle.kept.specs.KeptLaws.{params-lines}
-use Rattle.states.specs.States.{state, Shape, resolves-of}
-use Rattle.lefts.specs.Lefts.{is-left, Ready}
+use Rattle.states.specs.States.{state, Shape}
+use Rattle.lefts.specs.Lefts.{is-left}
 use Rattle.lefts.specs.BodyLaws.{left-body, left-is}
 use Rattle.lefts.specs.ReadyLaws.{ready-nodes, ready-asked}
 use Rattle.places.specs.declared.Place.{Place}
-use Rattle.places.specs.Places as places
-use Rattle.places.specs.Places.{Writing, seq, Growing, Room, Writes}
+use Rattle.places.specs.Places.{seq, Growing, Room, Writes}
 use Rattle.places.specs.PlacesLaws.{writes-none, writes-as, room-as, room-first, room-rest, writes-seq}
 use Rattle.left_heads.specs.Heads.{decl-with}
 use Rattle.left_decls.specs.Decls.{left-decl, left-writing, Given}
 use Rattle.left_sheet.specs.Program.{lefts-to, lefts-at, Lefts}
+use Rattle.places.specs.Places as places
 
 -- ---- lists
 table-more : {A : Type 0} (f : ℕ → A) (m k : ℕ) → table f (m + k) ≡ table f m ++ table (λ i. f (m + i)) k
@@ -104,10 +104,7 @@ pub lefts-all : (ls : List Line) → left-program (run 100 (program ls)) ≡ lef
 lefts-all ls = ap somes (run-lefts 100 (program ls) ∙ ap (table (left-at 100 (program ls))) (length-program ls))
 
 -- ---- one declaration
-module _ (b t u f keep left : List ℕ) (n : ℕ) (g : Lefts b t u f keep left n) (d : ℕ) (h : d < decls-of (lines 6 b)) where
-  abbrev ls : List Line
-  ls = lines 6 b
-
+module _ (ls : List Line) (t u f keep left : List ℕ) (n : ℕ) (g : Lefts ls t u f keep left n) (d : ℕ) (h : d < decls-of ls) where
   abbrev what : Option Dtype
   what = left-at 100 (program ls) d
 
@@ -135,7 +132,7 @@ module _ (b t u f keep left : List ℕ) (n : ℕ) (g : Lefts b t u f keep left n
 
     what-is : what ≡ some (left-decl ls u keep d)
     what-is =
-        let e = left-is b u keep (g .ready .tabled .passed) (g .ready .slotted) (g .ready .settled) d h in
+        let e = left-is ls u keep (g .ready .tabled .passed) (g .ready .slotted) (g .ready .settled) d h in
         e ∙ (ap (λ (c : Bool). pick c (some (with-body (dtype-at (program ls) d) (left-body ls u keep d))) none) l ∙ ap some (head-is (left-body ls u keep d)))
 
     one-left : lefts-at ls d ≡ left-decl ls u keep d ∷ []
@@ -156,7 +153,7 @@ module _ (b t u f keep left : List ℕ) (n : ℕ) (g : Lefts b t u f keep left n
         go (L-abbrev c) s q = omega (arith, s .0)
         go L-opaque s q = omega (arith, s .0)
 
-    pub given-of : Given b t u f keep d n
+    pub given-of : Given ls t u f keep d n
     given-of =
         record {
           tabled = g .ready .tabled;
@@ -164,7 +161,7 @@ module _ (b t u f keep left : List ℕ) (n : ℕ) (g : Lefts b t u f keep left n
           states = g .ready .settled .long;
           long = g .long;
           stays = not-gone;
-          types = λ y m. record { asked = ready-asked b t u f keep (g .ready) d y h m; nodes = ready-nodes b t u f keep (g .ready) d y h m; small = g .fit d y h l m };
+          types = λ y m. record { asked = ready-asked ls t u f keep (g .ready) d y h m; nodes = ready-nodes ls t u f keep (g .ready) d y h m; small = g .fit d y h l m };
         }
 
     pub at-room : (p : Place) (out : List ℕ) → Room (program-lines (lefts-at ls d)) p out → Room (left-writing ls u keep d) p out
@@ -177,5 +174,5 @@ module _ (b t u f keep left : List ℕ) (n : ℕ) (g : Lefts b t u f keep left n
   unfolding program-lines
   at-nothing e p out = rw (at-none e) (writes-none p out)
 
-pub lefts-again : (b t u f keep left : List ℕ) (n m : ℕ) → m ≡ n → Lefts b t u f keep left n → Lefts b t u f keep left m
-lefts-again b t u f keep left n m e g = rw e g
+pub lefts-again : (ls : List Line) (t u f keep left : List ℕ) (n m : ℕ) → m ≡ n → Lefts ls t u f keep left n → Lefts ls t u f keep left m
+lefts-again ls t u f keep left n m e g = rw e g

@@ -6,7 +6,7 @@ use Prim.Native.Nat.{ℕ, zero, suc, _+_, _*_, _-_, _≤_, _<_}
 use native.Mathlib.Omega.{arith}
 use native.Mathlib.Numerals.{add-one}
 use borrow.Author.Tests.{eq-eqb}
-use lib.ListN.{length, getD, take, drop, length-append, length-map, length-take, length-drop}
+use lib.ListN.{length, getD, take, drop, length-append, length-map}
 use lib.Seq.{take-suc, take-all, take-add, take-at, drop-append-add, drop-drop, length-take-le}
 use Rattle.sheet.specs.Format.{base, lineBytes}
 use Rattle.sheet.specs.Line.{Line, row, bad, letter, isBad, encode}
@@ -20,13 +20,12 @@ use Rattle.sheet.specs.OutputLaws.{Whole, puts-all}
 use Rattle.model.specs.Decl.{Dtype}
 use Rattle.model.specs.Run.{run, left-program}
 use Rattle.meaning.specs.Program.{name-line, type-line, is, select, program}
-use Rattle.meaning.specs.Rows.{count-of}
-use Rattle.meaning.specs.Output.{Written, Lines, program-lines, left-lines}
+use Rattle.meaning.specs.Output.{Lines, program-lines, left-lines}
 use Rattle.meaning.specs.Laws.Output.{nothing, program-adds, Sized, fits-sized, encode-sized, every-select, left-sized, left-bytes}
 use Rattle.answer.specs.Answer.{left-sheet, after}
-use Rattle.header.specs.OrderLaws.{ordered-lines, name-letter, name-before, count-of-le}
-use Rattle.refusals.specs.Rows.{Passed}
-use Rattle.tables.specs.Tables.{nth, sizes-of, header, joined, sections, cells-of, Tabled}
+use Rattle.header.specs.OrderLaws.{name-letter, name-before, count-of-le}
+use Rattle.tables.specs.OfSheet.{OfSheet, program-same, sheet-ordered}
+use Rattle.tables.specs.Tables.{lines-in}
 use Rattle.declared.specs.LineLaws.{nth-at}
 use Rattle.emitter.specs.Lines.{arg-row}
 use Rattle.emitter.specs.LinesLaws.{puts-last, length-puts, args-whole}
@@ -39,16 +38,11 @@ use Rattle.places.specs.Places.{more, At, Inside, Room, Writes}
 abbrev no-lines : Lines
 no-lines = record { written = nothing; lines = [] }
 
--- ---- the number of N lines
-pub names-cell : (b t : List ℕ) → Tabled b t → (3 < length t) × (getD t 3 0 ≡ count-of name-line (lines 6 b))
-unfolding cells-of joined sections header sizes-of
-names-cell b t m = rw (m .holds) (omega arith, refl)
-
 -- ---- N lines
-module _ (b : List ℕ) (passed : Passed b) where
+module _ (b t : List ℕ) (of : OfSheet b t) where
   good : (i : ℕ) → i < count 6 b → isBad (line 6 b i) ≡ false
   unfolding row2
-  good = none-first (λ i. isBad (line 6 b i)) (count 6 b) (passed .no-bad)
+  good = none-first (λ i. isBad (line 6 b i)) (count 6 b) (of .no-bad)
 
   abbrev names : List Line
   names = select name-line (lines 6 b)
@@ -59,7 +53,7 @@ module _ (b : List ℕ) (passed : Passed b) where
   -- N line i is line i of the sheet
   name-line-at : (i : ℕ) → i < length names → getD names i bad ≡ line 6 b i
   name-line-at i h =
-      let o = ordered-lines 6 b (passed .no-bad) (passed .in-order) in
+      let o = sheet-ordered b t of in
       let k : i < length (lines 6 b) = omega (arith, count-of-le name-line (lines 6 b)) in
       let l : is name-line (getD (lines 6 b) i bad) ≡ true = eq-eqb (letter (getD (lines 6 b) i bad)) name-line (name-letter (lines 6 b) o i h) in
       let e = name-before (lines 6 b) o i k l in
@@ -129,7 +123,7 @@ module _ (b : List ℕ) (passed : Passed b) where
 
   -- ---- the runs
   abbrev ds : List Dtype
-  ds = left-program (run 100 (program (lines 6 b)))
+  ds = left-program (run 100 (program (lines-in t)))
 
   abbrev z : Lines
   z = program-lines ds nothing
@@ -157,11 +151,17 @@ module _ (b : List ℕ) (passed : Passed b) where
   count-all =
       omega (arith, length-append (names ++ xs ++ ys) (z .lines), length-append (names ++ xs) ys, length-append names xs, count-args, count-types)
 
-  sheet-length : length (left-sheet base (lines 6 b)) ≡ 32 * length all
+  sheet-is : left-sheet base (lines 6 b) ≡ encodes 6 all
   unfolding left-sheet
-  sheet-length = left-bytes 6 (lines 6 b) ds all-sized
+  sheet-is = rw (program-same b t of)
 
-  module _ (n args types : ℕ) (en : n ≡ length names) (ea : args ≡ length (left-written (lines 6 b) .written .args)) (et : types ≡ length (left-written (lines 6 b) .written .types)) where
+  all-length : length (encodes 6 all) ≡ 32 * length all
+  all-length = left-bytes 6 (lines 6 b) ds all-sized
+
+  sheet-length : length (left-sheet base (lines 6 b)) ≡ 32 * length all
+  sheet-length = ap length sheet-is ∙ all-length
+
+  module _ (n args types : ℕ) (en : n ≡ length names) (ea : args ≡ length (left-written (lines-in t) .written .args)) (et : types ≡ length (left-written (lines-in t) .written .types)) where
     -- where writing begins
     abbrev pub first-place : Place
     first-place = record { lists = n; nodes = n + args; args = 0; types = 0; line = n + args + types }
@@ -199,7 +199,7 @@ module _ (b : List ℕ) (passed : Passed b) where
           first-room = record { base = out; start = n + args + types; lines = no-lines; at = begun; inside = inside }
 
           pub sheet-done : (r : Place) (out′ : List ℕ) → Writes (program-lines ds) first-place r out out′ → out′ ≡ after (left-sheet base (lines 6 b)) old
-          unfolding laid left-sheet left-lines
+          unfolding laid left-lines
           sheet-done r out′ w =
               let k : ℕ = n + args + types in
               let a : At out k (more no-lines (program-lines ds)) r out′ = w .adds out k no-lines begun inside in
@@ -220,7 +220,7 @@ module _ (b : List ℕ) (passed : Passed b) where
               ∙ (ap (λ (o : List ℕ). puts 6 o (n + args) ys) c₁
               ∙ (c₂
               ∙ (sym j₃
-              ∙ (puts-all 6 all old all-whole ∙ ap (λ (m : ℕ). encodes 6 all ++ drop m old) (sym sheet-length)))))
+              ∙ (puts-all 6 all old all-whole ∙ (ap (λ (m : ℕ). encodes 6 all ++ drop m old) (sym all-length) ∙ ap (λ (x : List ℕ). after x old) (sym sheet-is))))))
             where
               fives-whole : (ts : List (List ℕ)) → Every (λ ns. length ns ≡ 5) ts → Whole 6 (map (row type-line) ts)
               fives-whole [] h = tt

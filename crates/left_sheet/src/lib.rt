@@ -10,24 +10,17 @@ ghost use Rattle.sheet.specs.Output.{puts};
 ghost use Rattle.meaning.specs.Program.{name-line, field-line, select};
 ghost use Rattle.meaning.specs.Rows.{count-of};
 ghost use Rattle.answer.specs.Answer.{left-sheet, after};
-ghost use Rattle.tables.specs.Tables.{Tabled};
+ghost use Rattle.tables.specs.Tables.{lines-in};
+ghost use Rattle.tables.specs.OfSheet.{OfSheet};
 ghost use Rattle.lefts.specs.Lefts.{Ready, Flagged, Fit, left-written};
 use copier::copy_lines;
 use left_program::put_decls;
 use parts::LINE;
 use places::Place;
 
-// How many N lines there are.
-fn names(s: &[u8], t: &[u32]) -> usize
-    requires { ⌜ Tabled (now s) (now t) ⌝ }
-    ensures { λ r. ⌜ r ≡ count-of name-line (lines 6 (now (s .entry))) ⌝ }
-{
-    t[tables::NAMES] as usize
-}
-
 // Copies the n N lines of the sheet, which are its first, to the front of the output.
 fn put_names(s: &[u8], t: &[u32], out: &mut [u8], n: usize)
-    requires { ⌜ Tabled (now s) (now t) × (n ≡ count-of name-line (lines 6 (now s))) × (32 * n ≤ length (now out)) ⌝ }
+    requires { ⌜ OfSheet (now s) (now t) × (n ≡ count-of name-line (lines-in (now t))) × (32 * n ≤ length (now out)) ⌝ }
     ensures { λ _. ⌜ now (out .exit) ≡ puts 6 (now (out .entry)) 0 (select name-line (lines 6 (now (s .entry)))) ⌝ }
 {
     let end = n * LINE;
@@ -48,13 +41,14 @@ pub fn put_left(
     args: usize,
     types: usize,
 )
-    requires { ⌜ Ready (now s) (now t) (now u) (now f) (now keep) × Flagged (now s) (now left) × Fit (now s) (now u) (now keep) (length (now scratch)) ⌝ }
-    requires { ⌜ (count-of field-line (lines 6 (now s)) ≤ length (now keep)) × (length (now scratch) ≤ length (now stack)) ⌝ }
-    requires { ⌜ (args ≡ length (left-written (lines 6 (now s)) .written .args)) × (types ≡ length (left-written (lines 6 (now s)) .written .types)) ⌝ }
+    requires { ⌜ OfSheet (now s) (now t) × Ready (lines-in (now t)) (now t) (now u) (now f) (now keep) ⌝ }
+    requires { ⌜ Flagged (lines-in (now t)) (now left) × Fit (lines-in (now t)) (now u) (now keep) (length (now scratch)) ⌝ }
+    requires { ⌜ (count-of field-line (lines-in (now t)) ≤ length (now keep)) × (length (now scratch) ≤ length (now stack)) ⌝ }
+    requires { ⌜ (args ≡ length (left-written (lines-in (now t)) .written .args)) × (types ≡ length (left-written (lines-in (now t)) .written .types)) ⌝ }
     requires { ⌜ length (left-sheet base (lines 6 (now s))) ≤ length (now out) ⌝ }
     ensures { λ _. ⌜ now (out .exit) ≡ after (left-sheet base (lines 6 (now (s .entry)))) (now (out .entry)) ⌝ }
 {
-    let n = names(s, t);
+    let n = tables::names(t);
     put_names(s, t, out, n);
     let p = Place {
         lists: n,
@@ -63,5 +57,5 @@ pub fn put_left(
         types: 0,
         line: n + args + types,
     };
-    let q = put_decls(s, t, u, f, keep, left, scratch, stack, out, p);
+    let q = put_decls(t, u, f, keep, left, scratch, stack, out, p);
 }

@@ -3,11 +3,9 @@ use mathlib.Core.Logic.{⊎-elim}
 use mathlib.Core.Path.{_≡_, refl, sym, subst}
 use mathlib.Core.List.{List}
 use mathlib.Core.Bool.{Bool, true, false}
-use Prim.Native.Nat.{ℕ, _*_, _≤_}
+use Prim.Native.Nat.{ℕ, _≤_}
 use native.Mathlib.Omega.{arith}
-use lib.ListN.{length}
-use Rattle.sheet.specs.Sheet.{lines}
-use Rattle.tables.specs.Tables.{decls-of}
+use Rattle.tables.specs.Tables.{lines-in}
 use Rattle.keeps.specs.KeepsLaws.{decls-few}
 use Rattle.built.specs.declared.Tried.{Tried}
 use Rattle.built.specs.declared.Built.{Built}
@@ -20,13 +18,15 @@ pub lent-less : (b t u rank keep v : List ℕ) (forms scratch stack : ℕ) → 1
     → Lent b t u rank keep v 98496 1024 1024 → Lent b t u rank keep v forms scratch stack
 lent-less b t u rank keep v forms scratch stack p q r h =
     record {
+      of = h .of;
+      accepted = h .accepted;
       ranked = h .ranked;
       settled = h .settled;
       slotted = h .slotted;
-      accepted = h .accepted;
+      resolvable = h .resolvable;
       keeps = h .keeps;
       verdict-room = h .verdict-room;
-      cells = omega (arith, decls-few b (h .ranked .tabled .passed));
+      cells = omega (arith, decls-few (lines-in t) (h .ranked .tabled .passed));
       small = q;
       stacked = r;
     }

@@ -4,12 +4,12 @@ use built::Tried;
 ghost use mathlib.Core.Logic.{_⊎_};
 ghost use mathlib.Core.Path.{_≡_};
 ghost use Prim.Native.Nat.{_<_};
-ghost use Rattle.sheet.specs.Sheet.{lines};
 ghost use Rattle.model.specs.Run.{run};
 ghost use Rattle.meaning.specs.Program.{name-line, program};
 ghost use Rattle.meaning.specs.Rows.{count-of};
 ghost use Rattle.built.specs.Built.{Gives, Tries};
 ghost use Rattle.sheets.specs.Sheets.{Lent};
+ghost use Rattle.tables.specs.Tables.{lines-in};
 ghost use Rattle.outputs.specs.Outputs.{Short};
 
 fn small(
@@ -24,7 +24,7 @@ fn small(
     l: &mut [u8],
 ) -> Tried
     requires { ⌜ Lent (now s) (now t) (now u) (now rank) (now keep) (now v) 98496 1024 1024 ⌝ }
-    requires { ⌜ (names ≡ count-of name-line (lines 6 (now s))) × (rounds ≡ run 100 (program (lines 6 (now s))) .rounds) ⌝ }
+    requires { ⌜ (names ≡ count-of name-line (lines-in (now t))) × (rounds ≡ run 100 (program (lines-in (now t))) .rounds) ⌝ }
     ensures { λ r. ⌜ Tries (Short 224 64) (now (s .entry)) (now (v .entry)) (now (l .entry)) r (now (v .exit)) (now (l .exit)) ⌝ }
 {
     let mut forms = [0u64; 224];
@@ -58,7 +58,7 @@ fn wide(
     l: &mut [u8],
 ) -> Tried
     requires { ⌜ Lent (now s) (now t) (now u) (now rank) (now keep) (now v) 98496 1024 1024 ⌝ }
-    requires { ⌜ (names ≡ count-of name-line (lines 6 (now s))) × (rounds ≡ run 100 (program (lines 6 (now s))) .rounds) ⌝ }
+    requires { ⌜ (names ≡ count-of name-line (lines-in (now t))) × (rounds ≡ run 100 (program (lines-in (now t))) .rounds) ⌝ }
     ensures { λ r. ⌜ Tries (Short 512 64) (now (s .entry)) (now (v .entry)) (now (l .entry)) r (now (v .exit)) (now (l .exit)) ⌝ }
 {
     let mut forms = [0u64; 512];
@@ -93,7 +93,7 @@ fn first(
     l: &mut [u8],
 ) -> Tried
     requires { ⌜ Lent (now s) (now t) (now u) (now rank) (now keep) (now v) 98496 1024 1024 ⌝ }
-    requires { ⌜ (names ≡ count-of name-line (lines 6 (now s))) × (rounds ≡ run 100 (program (lines 6 (now s))) .rounds) ⌝ }
+    requires { ⌜ (names ≡ count-of name-line (lines-in (now t))) × (rounds ≡ run 100 (program (lines-in (now t))) .rounds) ⌝ }
     ensures { λ r. ⌜ Tries (Short 512 64) (now (s .entry)) (now (v .entry)) (now (l .entry)) r (now (v .exit)) (now (l .exit)) ⌝ }
 {
     if rank.len() <= 64 {
@@ -114,7 +114,7 @@ fn middle(
     l: &mut [u8],
 ) -> Tried
     requires { ⌜ Lent (now s) (now t) (now u) (now rank) (now keep) (now v) 98496 1024 1024 ⌝ }
-    requires { ⌜ (names ≡ count-of name-line (lines 6 (now s))) × (rounds ≡ run 100 (program (lines 6 (now s))) .rounds) ⌝ }
+    requires { ⌜ (names ≡ count-of name-line (lines-in (now t))) × (rounds ≡ run 100 (program (lines-in (now t))) .rounds) ⌝ }
     ensures { λ r. ⌜ Tries (Short 2048 1024) (now (s .entry)) (now (v .entry)) (now (l .entry)) r (now (v .exit)) (now (l .exit)) ⌝ }
 {
     let mut forms = [0u64; 2048];
@@ -148,7 +148,7 @@ fn large(
     l: &mut [u8],
 ) -> Tried
     requires { ⌜ Lent (now s) (now t) (now u) (now rank) (now keep) (now v) 98496 1024 1024 ⌝ }
-    requires { ⌜ (names ≡ count-of name-line (lines 6 (now s))) × (rounds ≡ run 100 (program (lines 6 (now s))) .rounds) ⌝ }
+    requires { ⌜ (names ≡ count-of name-line (lines-in (now t))) × (rounds ≡ run 100 (program (lines-in (now t))) .rounds) ⌝ }
     ensures { λ r. ⌜ Tries (Short 98496 1024) (now (s .entry)) (now (v .entry)) (now (l .entry)) r (now (v .exit)) (now (l .exit)) ⌝ }
 {
     let mut forms = [0u64; 98496];
@@ -183,7 +183,7 @@ pub fn outputs(
     l: &mut [u8],
 ) -> Built
     requires { ⌜ Lent (now s) (now t) (now u) (now rank) (now keep) (now v) 98496 1024 1024 ⌝ }
-    requires { ⌜ (names ≡ count-of name-line (lines 6 (now s))) × (rounds ≡ run 100 (program (lines 6 (now s))) .rounds) ⌝ }
+    requires { ⌜ (names ≡ count-of name-line (lines-in (now t))) × (rounds ≡ run 100 (program (lines-in (now t))) .rounds) ⌝ }
     ensures { λ r. ⌜ Gives (now (s .entry)) (now (v .entry)) (now (l .entry)) r (now (v .exit)) (now (l .exit)) ⌝ }
 {
     let once = first(s, t, names, rounds, u, rank, keep, v, l);

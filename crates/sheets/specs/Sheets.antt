@@ -10,7 +10,9 @@ use Rattle.meaning.specs.Program.{field-line}
 use Rattle.meaning.specs.Rows.{count-of}
 use Rattle.answer.specs.Answer.{verdict-sheet, left-sheet, after, input-refusal}
 use Rattle.answer.specs.declared.Refusal.the-variants.{Accepted}
-use Rattle.tables.specs.Tables.{decls-of}
+use Rattle.tables.specs.Tables.{decls-of, lines-in}
+use Rattle.tables.specs.OfSheet.{OfSheet}
+use Rattle.head_rows.specs.HeadRows.{Resolvable}
 use Rattle.keeps.specs.Keeps.{Slotted}
 use Rattle.states.specs.States.{Settled}
 use Rattle.normal_forms.specs.Ranks.{Ranked}
@@ -24,17 +26,19 @@ no-room = record { room = false; built = refused-as 0 0 }
 
 -- The normal forms are there, row 11 does not apply, and so much room there is for one type.
 pub record Known (b t u f keep v : List ℕ) (scratch stack : ℕ) : Type 0 where
-  pub ready : Ready b t u f keep
-  pub keeps : count-of field-line (lines 6 b) ≤ length keep
+  pub of : OfSheet b t
+  pub accepted : input-refusal base b ≡ Accepted
+  pub ready : Ready (lines-in t) t u f keep
+  pub keeps : count-of field-line (lines-in t) ≤ length keep
   pub verdict-room : length b ≤ length v
   pub small : scratch ≤ 1024
   pub stacked : scratch ≤ stack
 
 -- Every type that is left has room, and so has the left sheet.
-pub record Owed (b u keep l : List ℕ) (scratch args types : ℕ) : Type 0 where
-  pub fit : Fit b u keep scratch
-  pub args-are : args ≡ length (left-written (lines 6 b) .written .args)
-  pub types-are : types ≡ length (left-written (lines 6 b) .written .types)
+pub record Owed (b t u keep l : List ℕ) (scratch args types : ℕ) : Type 0 where
+  pub fit : Fit (lines-in t) u keep scratch
+  pub args-are : args ≡ length (left-written (lines-in t) .written .args)
+  pub types-are : types ≡ length (left-written (lines-in t) .written .types)
   pub left-room : length (left-sheet base (lines 6 b)) ≤ length l
 
 -- both sheets are written
@@ -44,12 +48,14 @@ pub record Written (b v l v′ l′ : List ℕ) : Type 0 where
 
 -- No row that looks at no output applies, nor row 11; and so much memory is lent.
 pub record Lent (b t u rank keep v : List ℕ) (forms scratch stack : ℕ) : Type 0 where
-  pub ranked : Ranked b t u rank
-  pub settled : Settled b u
-  pub slotted : Slotted (lines 6 b) keep
+  pub of : OfSheet b t
   pub accepted : input-refusal base b ≡ Accepted
-  pub keeps : count-of field-line (lines 6 b) ≤ length keep
+  pub ranked : Ranked (lines-in t) t u rank
+  pub settled : Settled (lines-in t) u
+  pub slotted : Slotted (lines-in t) keep
+  pub resolvable : Resolvable base (lines-in t)
+  pub keeps : count-of field-line (lines-in t) ≤ length keep
   pub verdict-room : length b ≤ length v
-  pub cells : 2 * decls-of (lines 6 b) ≤ forms
+  pub cells : 2 * decls-of (lines-in t) ≤ forms
   pub small : scratch ≤ 1024
   pub stacked : scratch ≤ stack

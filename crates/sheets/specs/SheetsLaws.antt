@@ -1,8 +1,8 @@
 -- Laws of the writing of both sheets. Assumes nothing.
-use mathlib.Core.Logic.{_⊎_, inl, inr, ⊎-elim}
+use mathlib.Core.Logic.{_⊎_, inl, inr}
 use mathlib.Core.Path.{_≡_, refl, sym, _∙_, ap, subst}
 use mathlib.Core.List.{List, []}
-use mathlib.Core.Bool.{Bool, true, false}
+use mathlib.Core.Bool.{true, false}
 use Prim.Native.Nat.{ℕ, _+_, _*_, _≤_, _<_}
 use native.Mathlib.Omega.{arith}
 use native.Mathlib.Decide.{decLt}
@@ -18,44 +18,63 @@ use Rattle.model.specs.Run.{run, left-program}
 use Rattle.meaning.specs.Program.{name-line, program}
 use Rattle.meaning.specs.Rows.{count-of}
 use Rattle.meaning.specs.Laws.Output.{Sized, fits-sized, left-bytes, left-length, program-adds}
-use Rattle.answer.specs.Answer.{left-sheet, verdict-sheet, after, input-refusal, refusal, rows, Passes}
+use Rattle.answer.specs.Answer.{left-sheet, verdict-sheet, input-rows, input-refusal, output-rows, refusal, answered, answer, Passes}
 use Rattle.answer.specs.declared.Refusal.the-variants.{Accepted}
 use Rattle.answer.specs.Laws.Build.{verdict-sheet-length}
 use Rattle.answer.specs.Laws.Left.{pass-fit}
 use Rattle.limits.specs.Limits.{counts-of}
-use Rattle.refusals.specs.Rows.{Passed}
-use Rattle.refusals.specs.RowsLaws.{passed-kept}
+use Rattle.declared.specs.Passed.{Passed}
+use Rattle.declared.specs.PassedLaws.{passed-kept}
+use Rattle.tables.specs.Tables.{lines-in}
+use Rattle.tables.specs.OfSheet.{OfSheet, program-same, count-same}
 use Rattle.normal_forms.specs.Ranks.{Formed}
 use Rattle.lefts.specs.declared.Count.{Count}
 use Rattle.lefts.specs.Lefts.{left-written, Counted}
 use Rattle.lefts.specs.RoomLaws.{never-short}
-use Rattle.lefts.specs.ReadyLaws.{room-verdict, room-left, accepted-all}
+use Rattle.answer.specs.declared.Refusal.{Refusal}
+use Rattle.answer.specs.Laws.Answer.{clear-accepted, or-later, refusal-append, accepted-passes}
 use Rattle.built.specs.declared.Built.{Built}
 use Rattle.built.specs.declared.Tried.{Tried}
 use Rattle.built.specs.Built.{refused-as, Gives, Tries}
 use Rattle.built.specs.BuiltLaws.{needed, rows-twelve, rows-none, gives-refused, gives-accepted}
 use Rattle.sheets.specs.Sheets.{no-room, Known, Owed, Written, Lent}
+use borrow.Author.Tests.{le-ltb}
 
 module _ (b : List ℕ) (accepted : input-refusal base b ≡ Accepted) where
+  -- outputs that are long enough
+  abbrev room-verdict : ℕ
+  room-verdict = length b
+
+  abbrev room-left : ℕ
+  room-left = needed b
+
+  outputs-long : refusal (output-rows base b room-verdict room-left) ≡ Accepted
+  unfolding output-rows
+  outputs-long = clear-accepted (output-rows base b room-verdict room-left) ((λ i h. le-ltb room-verdict room-verdict (omega arith)), ((λ i h. le-ltb room-left room-left (omega arith)), tt))
+
+  passes : Passes base b room-verdict room-left
+  unfolding answer answered
+  passes =
+      accepted-passes base b room-verdict room-left
+      (ap (λ (r : Refusal). answered base b r .code)
+      (refusal-append (input-rows base b) (output-rows base b room-verdict room-left) ∙ (ap (λ (r : Refusal). or-later r (refusal (output-rows base b room-verdict room-left))) accepted ∙ outputs-long)))
+
   abbrev ls : List Line
   ls = lines 6 b
 
   abbrev left : List Dtype
   left = left-program (run 100 (program ls))
 
-  passes : Passes base b (room-verdict b accepted) (room-left b accepted)
-  passes = accepted-all b accepted
-
   -- the length of the left sheet, by its lines
-  pub needed-is : needed b ≡ 32 * (count-of name-line ls + length (left-written ls .written .args) + length (left-written ls .written .types) + length (left-written ls .lines))
+  needed-is : needed b ≡ 32 * (count-of name-line ls + length (left-written ls .written .args) + length (left-written ls .written .types) + length (left-written ls .lines))
   unfolding left-sheet
   needed-is =
-      let fit = every-map (Fits 6) (Sized 6) (fits-sized 6) ls (pass-fit base b (room-verdict b accepted) (room-left b accepted) base-ample passes) in
+      let fit = every-map (Fits 6) (Sized 6) (fits-sized 6) ls (pass-fit base b room-verdict room-left base-ample passes) in
       let t = program-adds left (record { args = []; types = [] }) .types-count in
       left-bytes 6 ls left fit ∙ ap (λ (n : ℕ). 32 * n) (left-length ls left ∙ omega (arith, t))
 
   pub verdict-length : length (verdict-sheet base ls) ≡ length b
-  verdict-length = verdict-sheet-length base b (room-verdict b accepted) (room-left b accepted) (omega arith) passes
+  verdict-length = verdict-sheet-length base b room-verdict room-left (omega arith) passes
 
   -- written, with what is answered
   pub gives-written : (v l v′ l′ : List ℕ) (rounds vl ll : ℕ) → Written b v l v′ l′ → rounds ≡ run 100 (program ls) .rounds → length b ≤ length v → needed b ≤ length l → vl ≡ length b → ll ≡ needed b
@@ -88,24 +107,26 @@ tries-twelve Short b v l n r a h e q z =
     tries-gives Short b v l r v l (rw (z, e) (gives-refused b v l 12 (needed b) (rows-twelve b (length v) (length l) a h (rw e at q))))
 
 -- ---- the counts
-pub names-few : (b : List ℕ) → Passed b → count-of name-line (lines 6 b) ≤ 256
+pub names-few : (ls : List Line) → Passed ls → count-of name-line ls ≤ 256
 unfolding counts-of
-names-few b p = passed-kept b p .names
+names-few ls p = passed-kept ls p .names
 
-module _ (b u keep : List ℕ) (n : ℕ) where
-  pub needed-of : input-refusal base b ≡ Accepted → (r : Count) (names : ℕ) → names ≡ count-of name-line (lines 6 b) → Counted b u keep n r → r .room ≡ true
+module _ (b t u keep : List ℕ) (n : ℕ) (of : OfSheet b t) where
+  pub needed-of : input-refusal base b ≡ Accepted → (r : Count) (names : ℕ) → names ≡ count-of name-line (lines-in t) → Counted (lines-in t) u keep n r → r .room ≡ true
       → 32 * (names + r .args + r .types + r .lines) ≡ needed b
-  needed-of a r names e x t = rw (e, x .args t, x .types t, x .lines-are t) (sym (needed-is b a))
+  needed-of a r names e x y = rw (e, x .args y, x .types y, x .lines-are y, count-same b t of name-line, program-same b t of) (sym (needed-is b a))
 
-  pub owed-of : (l : List ℕ) (r : Count) → Counted b u keep n r → r .room ≡ true → needed b ≤ length l → Owed b u keep l n (r .args) (r .types)
-  owed-of l r x t h = record { fit = x .fit t; args-are = x .args t; types-are = x .types t; left-room = h }
+  pub owed-of : (l : List ℕ) (r : Count) → Counted (lines-in t) u keep n r → r .room ≡ true → needed b ≤ length l → Owed b t u keep l n (r .args) (r .types)
+  owed-of l r x y h = record { fit = x .fit y; args-are = x .args y; types-are = x .types y; left-room = h }
 
 -- ---- the normal forms
-module _ (b t u rank keep v : List ℕ) (forms scratch stack : ℕ) (f₀ f : List ℕ) (e : ℕ) (lent : Lent b t u rank keep v forms scratch stack) (x : Formed b u rank scratch f₀ f e) where
+module _ (b t u rank keep v : List ℕ) (forms scratch stack : ℕ) (f₀ f : List ℕ) (e : ℕ) (lent : Lent b t u rank keep v forms scratch stack) (x : Formed (lines-in t) u rank scratch f₀ f e) where
   pub known-of : e ≤ length f → Known b t u f keep v scratch stack
   known-of h =
       record {
-        ready = record { tabled = lent .ranked .tabled; settled = lent .settled; slotted = lent .slotted; accepted = lent .accepted; place = e; forms = x .table (omega (arith, x .same)) };
+        of = lent .of;
+        accepted = lent .accepted;
+        ready = record { tabled = lent .ranked .tabled; settled = lent .settled; slotted = lent .slotted; resolvable = lent .resolvable; place = e; forms = x .table (omega (arith, x .same)) };
         keeps = lent .keeps;
         verdict-room = lent .verdict-room;
         small = lent .small;
@@ -118,11 +139,11 @@ module _ (b t u rank keep v : List ℕ) (forms scratch stack : ℕ) (f₀ f : Li
       go : Dec (length f₀ < 98496) → Dec (scratch < 1024) → (length f₀ < 98496) ⊎ (scratch < 1024)
       go (yes p) q = inl p
       go (no p) (yes q) = inr q
-      go (no p) (no q) = absurd (never-short b t u rank keep (lent .ranked) (lent .settled) (lent .accepted) (lent .slotted) scratch (length f₀) (omega arith) (omega arith) (x .short (omega (arith, x .same))))
+      go (no p) (no q) = absurd (never-short (lines-in t) t u rank keep (lent .ranked) (lent .settled) (lent .resolvable) (lent .slotted) scratch (length f₀) (omega arith) (omega arith) (x .short (omega (arith, x .same))))
 
 -- ---- lent memory is as long as it was
 pub known-long : (b t u f keep v : List ℕ) (n n′ m : ℕ) → n′ ≡ n → Known b t u f keep v n m → Known b t u f keep v n′ m
 known-long b t u f keep v n n′ m e h = subst (λ (k : ℕ). Known b t u f keep v k m) (sym e) h
 
-pub owed-long : (b u keep l : List ℕ) (n n′ args types : ℕ) → n′ ≡ n → Owed b u keep l n args types → Owed b u keep l n′ args types
-owed-long b u keep l n n′ args types e h = subst (λ (k : ℕ). Owed b u keep l k args types) (sym e) h
+pub owed-long : (b t u keep l : List ℕ) (n n′ args types : ℕ) → n′ ≡ n → Owed b t u keep l n args types → Owed b t u keep l n′ args types
+owed-long b t u keep l n n′ args types e h = subst (λ (k : ℕ). Owed b t u keep l k args types) (sym e) h

@@ -6,15 +6,11 @@ ghost use mathlib.Core.Logic.{_⊎_};
 ghost use mathlib.Core.Path.{_≡_};
 ghost use Prim.Native.Nat.{_*_, _≤_, _<_};
 ghost use lib.ListN.{length};
-ghost use Rattle.sheet.specs.Format.{base};
-ghost use Rattle.sheet.specs.Sheet.{lines};
 ghost use Rattle.model.specs.Run.{run};
-ghost use Rattle.meaning.specs.Program.{name-line, field-line, program};
+ghost use Rattle.meaning.specs.Program.{name-line, program};
 ghost use Rattle.meaning.specs.Rows.{count-of};
-ghost use Rattle.answer.specs.Answer.{verdict-sheet, left-sheet, after};
-ghost use Rattle.tables.specs.Tables.{decls-of};
-ghost use Rattle.normal_forms.specs.Ranks.{Ranked};
-ghost use Rattle.lefts.specs.Lefts.{Ready, Flagged, Fit};
+ghost use Rattle.tables.specs.Tables.{lines-in};
+ghost use Rattle.lefts.specs.Lefts.{Flagged};
 ghost use Rattle.built.specs.Built.{Tries};
 ghost use Rattle.sheets.specs.Sheets.{no-room, Known, Owed, Lent, Written};
 
@@ -42,11 +38,11 @@ fn write(
     types: usize,
 )
     requires { ⌜ Known (now s) (now t) (now u) (now f) (now keep) (now v) (length (now scratch)) (length (now stack)) ⌝ }
-    requires { ⌜ Flagged (now s) (now left) × Owed (now s) (now u) (now keep) (now l) (length (now scratch)) args types ⌝ }
+    requires { ⌜ Flagged (lines-in (now t)) (now left) × Owed (now s) (now t) (now u) (now keep) (now l) (length (now scratch)) args types ⌝ }
     ensures { λ _. ⌜ Written (now (s .entry)) (now (v .entry)) (now (l .entry)) (now (v .exit)) (now (l .exit)) ⌝ }
 {
     let mut records = [0u8; 96];
-    left_records::records(s, t, u, f, keep, left, &mut records);
+    left_records::records(t, u, f, keep, left, &mut records);
     verdict_sheet::put_verdicts(s, t, u, keep, &records, v);
     left_sheet::put_left(s, t, u, f, keep, left, scratch, stack, l, args, types);
 }
@@ -67,10 +63,10 @@ fn measured(
     l: &mut [u8],
 ) -> Tried
     requires { ⌜ Known (now s) (now t) (now u) (now f) (now keep) (now v) (length (now scratch)) (length (now stack)) ⌝ }
-    requires { ⌜ Flagged (now s) (now left) × (names ≡ count-of name-line (lines 6 (now s))) × (rounds ≡ run 100 (program (lines 6 (now s))) .rounds) ⌝ }
+    requires { ⌜ Flagged (lines-in (now t)) (now left) × (names ≡ count-of name-line (lines-in (now t))) × (rounds ≡ run 100 (program (lines-in (now t))) .rounds) ⌝ }
     ensures { λ r. ⌜ Tries (length (now (scratch .entry)) < 1024) (now (s .entry)) (now (v .entry)) (now (l .entry)) r (now (v .exit)) (now (l .exit)) ⌝ }
 {
-    let c = left_count::count(s, t, u, f, keep, left, scratch);
+    let c = left_count::count(t, u, f, keep, left, scratch);
     let args = c.args;
     let types = c.types;
     if !c.room {
@@ -107,11 +103,11 @@ fn formed(
     l: &mut [u8],
 ) -> Tried
     requires { ⌜ Known (now s) (now t) (now u) (now f) (now keep) (now v) (length (now scratch)) (length (now stack)) ⌝ }
-    requires { ⌜ (names ≡ count-of name-line (lines 6 (now s))) × (rounds ≡ run 100 (program (lines 6 (now s))) .rounds) ⌝ }
+    requires { ⌜ (names ≡ count-of name-line (lines-in (now t))) × (rounds ≡ run 100 (program (lines-in (now t))) .rounds) ⌝ }
     ensures { λ r. ⌜ Tries (length (now (scratch .entry)) < 1024) (now (s .entry)) (now (v .entry)) (now (l .entry)) r (now (v .exit)) (now (l .exit)) ⌝ }
 {
     let mut left = [0u8; 96];
-    left_flags::flags(s, t, u, f, keep, &mut left);
+    left_flags::flags(t, u, f, keep, &mut left);
     measured(s, t, names, rounds, u, f, keep, &left, scratch, stack, v, l)
 }
 
@@ -132,10 +128,10 @@ pub fn sheets(
     l: &mut [u8],
 ) -> Tried
     requires { ⌜ Lent (now s) (now t) (now u) (now rank) (now keep) (now v) (length (now f)) (length (now scratch)) (length (now stack)) ⌝ }
-    requires { ⌜ (names ≡ count-of name-line (lines 6 (now s))) × (rounds ≡ run 100 (program (lines 6 (now s))) .rounds) ⌝ }
+    requires { ⌜ (names ≡ count-of name-line (lines-in (now t))) × (rounds ≡ run 100 (program (lines-in (now t))) .rounds) ⌝ }
     ensures { λ r. ⌜ Tries ((length (now (f .entry)) < 98496) ⊎ (length (now (scratch .entry)) < 1024)) (now (s .entry)) (now (v .entry)) (now (l .entry)) r (now (v .exit)) (now (l .exit)) ⌝ }
 {
-    let e = form_tables::normal_forms(s, t, u, rank, f, scratch);
+    let e = form_tables::normal_forms(t, u, rank, f, scratch);
     if e > f.len() {
         return none();
     }

@@ -1,41 +1,38 @@
 -- What each line of the verdict sheet is, by the declaration that it stands in. Assumes nothing.
-use mathlib.Core.Logic.{⊎-elim}
 use mathlib.Core.Path.{_≡_, refl, ap, sym, _∙_}
-use mathlib.Core.List.{List, [], _∷_, map}
+use mathlib.Core.List.{List, [], _∷_}
 use mathlib.Core.Bool.{Bool, true, false, _&&_, not}
-use Prim.Native.Nat.{ℕ, zero, suc, _+_, _-_, _*_, _≤_, _<_}
+use Prim.Native.Nat.{ℕ, zero, suc, _+_, _-_, _≤_, _<_}
 use native.Mathlib.Omega.{arith}
 use lib.Dec.{eqb, leb, ltb}
-use lib.ListN.{length, getD, take}
+use lib.ListN.{length, getD}
 use lib.Seq.{take-length}
-use borrow.Author.Tests.{eqb-true, eqb-false, leb-true, ltb-false, le-leb, lt-ltb, ne-eqb, not-true, not-false}
-use Rattle.columns.specs.Column.{pick, _⇒_∥_}
+use borrow.Author.Tests.{eqb-true, leb-true, ltb-false, le-leb, ne-eqb, not-true, not-false}
 use Rattle.sheet.specs.Line.{Line, named, row, bad, letter, number}
 use Rattle.sheet.specs.LineLaws.{Fits, five-numbers}
-use Rattle.sheet.specs.Sheet.{first, count, line, lines}
-use Rattle.sheet.specs.SheetLaws.{AllFit, length-lines, fit-lines, line-good}
+use Rattle.sheet.specs.Sheet.{lines}
+use Rattle.sheet.specs.SheetLaws.{AllFit, fit-lines, line-good}
 use Rattle.sheet.specs.FirstLaws.{first-before, none-first, first-le}
 use Rattle.sheet.specs.ListLaws.{contrary, both, false-true, every-at}
-use Rattle.model.specs.Decl.{Decl, bit, layout-number, origin-at, here}
+use Rattle.model.specs.Decl.{bit, layout-number}
 use Rattle.model.specs.Erasure.{cty-erased, marked, erasure-fixpoint}
 use Rattle.model.specs.Run.{info-at, layout-of-decl, left-at, record-of}
 use Rattle.model_laws.specs.Run.{local-info}
-use Rattle.meaning.specs.Program.{local-line, import-line, field-line, verdict-line, is, is-head, select, type-at, trees, program}
-use Rattle.meaning.specs.Rows.{line-at, count-of, count-before, heads-before, some-below, zeros-from, good-numbers, last-head, head-of, kept-after, good-verdict, good-verdicts, row7}
+use Rattle.meaning.specs.Program.{local-line, import-line, field-line, is, is-head, select, type-at, trees, program}
+use Rattle.meaning.specs.Rows.{line-at, count-of, count-before, heads-before, some-below, zeros-from, good-numbers, last-head, head-of, good-verdicts, row7}
 use Rattle.meaning.specs.Output.{verdict-line-of}
 use Rattle.meaning.specs.Laws.Verdict.{verdict-line-at}
 use Rattle.order.specs.StepLaws.{heads-before-suc, heads-before-mono, count-before-mono, count-before-suc, last-head-suc}
 use Rattle.limits.specs.Limits.{start}
-use Rattle.limits.specs.LimitsLaws.{start-counts, start-head, start-within}
+use Rattle.limits.specs.LimitsLaws.{start-counts}
 use Rattle.unused.specs.UnusedLaws.{stray, some-at}
-use Rattle.refusals.specs.Rows.{Passed}
-use Rattle.tables.specs.Tables.{nth, group, head-line, decls-of, first-of}
+use Rattle.tables.specs.Tables.{nth, head-line, decls-of, first-of}
 use Rattle.declared.specs.LineLaws.{good-line, nth-at}
 use Rattle.declared.specs.DeclLaws.{line-inside, line-of-head, group-is, head-is-head, origin-local, wholes}
 use Rattle.marks.specs.Marks.{type-erased}
 use Rattle.keeps.specs.Keeps.{slots-at, erased-at, Slotted}
 use Rattle.keeps.specs.KeepsLaws.{slot-is}
-use Rattle.verdict_sheet.specs.Upto.{verdicts}
+use Rattle.verdict_sheet.specs.Upto.{verdicts, Sheet}
 
 -- ---- where a line stands
 module _ (ls : List Line) where
@@ -110,7 +107,7 @@ unused k l e j a h = go (eqb (number l j) 0) refl
     go true q = eqb-true (number l j) 0 q
     go false q = contrary (some-below (stray k l) 5) (some-at (stray k l) 5 j h (rw (le-leb k j a, q))) (not-true (some-below (stray k l) 5) e)
 
-module _ (b : List ℕ) (p : Passed b) where
+module _ (b : List ℕ) (p : Sheet b) where
   pub fits : AllFit 6 (lines 6 b)
   fits = fit-lines 6 b (line-good 6 b (p .no-bad))
 
@@ -119,7 +116,7 @@ module _ (b : List ℕ) (p : Passed b) where
 
   good7 : (i : ℕ) → i < length (lines 6 b) → good-verdicts (lines 6 b) i ≡ true
   unfolding row7
-  good7 i h = not-false (good-verdicts (lines 6 b) i) (none-first (row7 (lines 6 b)) (count 6 b) (p .in-verdict) i (omega (arith, length-lines 6 b)))
+  good7 i h = not-false (good-verdicts (lines 6 b) i) (none-first (row7 (lines 6 b)) (length (lines 6 b)) (p .passed .in-verdict) i h)
 
   -- line i of the verdict sheet
   told : (d i : ℕ) → i < length (lines 6 b) → heads-before (lines 6 b) (suc i) ≡ suc d
@@ -127,12 +124,12 @@ module _ (b : List ℕ) (p : Passed b) where
       ≡ verdict-line-of (marked (program (lines 6 b)) (erasure-fixpoint (program (lines 6 b)) .marks)) (trees (lines 6 b)) (info-at 100 (program (lines 6 b)) d) (head-of (lines 6 b) i) (line-at (lines 6 b) i)
   told d i h e =
       let n : heads-before (lines 6 b) (suc i) - 1 ≡ d = omega arith in
-      rw n at (verdict-line-at 100 (lines 6 b) (wholes b p) i h)
+      rw n at (verdict-line-at 100 (lines 6 b) (wholes (lines 6 b) (p .passed)) i h)
 
   -- where no local declaration stands, lines stay
   stays : (i : ℕ) → i < length (lines 6 b) → is local-line (head-of (lines 6 b) i) ≡ false → line-at (verdicts (lines 6 b)) i ≡ line-at (lines 6 b) i
   unfolding verdict-line-of
-  stays i h e = verdict-line-at 100 (lines 6 b) (wholes b p) i h ∙ rw e
+  stays i h e = verdict-line-at 100 (lines 6 b) (wholes (lines 6 b) (p .passed)) i h ∙ rw e
 
   pub header-stays : (i : ℕ) → i < start (lines 6 b) 0 → line-at (verdicts (lines 6 b)) i ≡ line-at (lines 6 b) i
   header-stays i h = stays i (omega (arith, start-le (lines 6 b) 0)) (rw (head-before (lines 6 b) i h))
@@ -178,7 +175,7 @@ module _ (b : List ℕ) (p : Passed b) where
     zero-field : letter at ≡ 70 → (j : ℕ) → 3 ≤ j → j < 5 → number at j ≡ 0
     unfolding good-numbers
     zero-field q j =
-        let g : (ltb (number at 0) (count-of 78 (lines 6 b)) && ltb (number at 1) (count-of 89 (lines 6 b)) && zeros-from 3 at) ≡ true = rw q at (good-line b p i inside) in
+        let g : (ltb (number at 0) (count-of 78 (lines 6 b)) && ltb (number at 1) (count-of 89 (lines 6 b)) && zeros-from 3 at) ≡ true = rw q at (good-line (lines 6 b) (p .passed) i inside) in
         unused 3 at (both (ltb (number at 0) (count-of 78 (lines 6 b)) && ltb (number at 1) (count-of 89 (lines 6 b))) (zeros-from 3 at) g .1) j
 
     -- the keep table's entry of an F line
@@ -195,7 +192,7 @@ module _ (b : List ℕ) (p : Passed b) where
         let k : f - first-of field-line ls d < length (slots-at (program ls) d) = omega (arith, s .sized d h) in
         let m : first-of field-line ls d + (f - first-of field-line ls d) ≡ f = omega arith in
         let n : nth field-line ls f ≡ at = nth-at field-line ls i inside one .1 in
-        let v = slot-is b p d h (f - first-of field-line ls d) k in
+        let v = slot-is (lines 6 b) (p .passed) d h (f - first-of field-line ls d) k in
         let w : getD (slots-at (program ls) d) (f - first-of field-line ls d) false ≡ not (erased-at ls (number at 1)) = rw (m, e, n) at v in
         (rw m at (s .slots d h (f - first-of field-line ls d) k)) ∙ ap bit w
 
@@ -218,7 +215,7 @@ module _ (b : List ℕ) (p : Passed b) where
 
     zero-verdict : letter at ≡ 86 → (j : ℕ) → 3 ≤ j → j < 5 → number at j ≡ 0
     unfolding good-numbers
-    zero-verdict q j = unused 3 at (rw q at (good-line b p i inside)) j
+    zero-verdict q j = unused 3 at (rw q at (good-line (lines 6 b) (p .passed) i inside)) j
 
     pub local-verdict : letter at ≡ 86
         → (at ≡ row 86 (0 ∷ 0 ∷ 0 ∷ 0 ∷ 0 ∷ []))

@@ -1,16 +1,16 @@
 -- One line written over the copy, by its letter; and the numbers of a verdict, by the cells. Assumes nothing.
 use mathlib.Core.Path.{_≡_, refl, ap, sym, _∙_}
-use mathlib.Core.List.{List, [], _∷_, _++_}
+use mathlib.Core.List.{List, _++_}
 use mathlib.Core.Bool.{Bool, true, false, not}
 use mathlib.Core.Option.{Option, none, some}
-use Prim.Native.Nat.{ℕ, zero, suc, _+_, _-_, _*_, _≤_, _<_}
+use Prim.Native.Nat.{ℕ, suc, _+_, _-_, _*_, _≤_, _<_}
 use native.Mathlib.Omega.{arith}
 use lib.Dec.{eqb}
 use lib.ListN.{length, getD, set, drop}
 use lib.Seq.{take-length}
-use borrow.Author.Tests.{eqb-true, ne-eqb}
+use borrow.Author.Tests.{ne-eqb}
 use Rattle.columns.specs.Column.{pick, _⇒_∥_}
-use Rattle.sheet.specs.Line.{Line, row, letter, number}
+use Rattle.sheet.specs.Line.{Line, letter, number}
 use Rattle.sheet.specs.Sheet.{lines}
 use Rattle.sheet.specs.Format.{base}
 use Rattle.sheet.specs.ListLaws.{getD-within}
@@ -20,23 +20,23 @@ use Rattle.model.specs.Layout.{collapse, layout-of-body, layout-of}
 use Rattle.model.specs.Run.{layouts-of, layout-of-decl, left-at, record-of}
 use Rattle.model_laws.specs.Layout.{getD-layouts}
 use Rattle.meaning.specs.Program.{field-line, import-line, is, type-at, trees, program}
-use Rattle.meaning.specs.Rows.{line-at, count-of, count-before, heads-before}
+use Rattle.meaning.specs.Rows.{line-at, count-of, count-before}
 use Rattle.meaning.specs.Laws.Program.{length-program}
 use Rattle.answer.specs.Answer.{verdict-sheet, after}
 use Rattle.order.specs.StepLaws.{count-before-suc}
 use Rattle.limits.specs.Limits.{start}
 use Rattle.limits.specs.LimitsLaws.{start-past, start-rises}
-use Rattle.refusals.specs.Rows.{Passed}
-use Rattle.tables.specs.Tables.{head-line, decls-of, first-of}
+use Rattle.tables.specs.Tables.{head-line, decls-of, lines-in}
 use Rattle.declared.specs.LineLaws.{nth-at}
 use Rattle.declared.specs.DeclLaws.{origin-local}
 use Rattle.keeps.specs.Keeps.{Slotted}
 use Rattle.kept.specs.Kept.{body-kind}
 use Rattle.states.specs.States.{state, Shape, Settled}
 use Rattle.lefts.specs.Lefts.{Recorded}
-use Rattle.verdict_sheet.specs.Upto.{verdicts, upto, number-by, Known, Next, Moved}
+use Rattle.verdict_sheet.specs.Upto.{upto, number-by, Sheet, Next, Moved}
 use Rattle.verdict_sheet.specs.LineLaws.{start-le, inside, header-stays, import-stays, local-head, local-entry, local-field, local-verdict, local-other}
-use Rattle.verdict_sheet.specs.UptoLaws.{bytes, upto-length, upto-none, upto-all, upto-again, upto-same, upto-letter, upto-keep, upto-three, upto-run, letter-byte}
+use Rattle.verdict_sheet.specs.UptoLaws.{bytes, upto-none, upto-all, upto-again, upto-same, upto-letter, upto-keep, upto-three, upto-run, letter-byte}
+use Rattle.tables.specs.OfSheet.{decls-same, OfSheet, program-same, sheet-passed, first-same}
 
 -- ---- numbers of a verdict
 shape-number : (ls : List Line) (u : List ℕ) (d : ℕ) (l : Layout) → Shape ls u d l → number-by (state u d) (body-kind ls d) ≡ layout-number l
@@ -48,25 +48,25 @@ shape-number ls u d (L-abbrev c) h = rw (ne-eqb (state u d) 0 (λ e. omega (arit
 shape-number ls u d L-opaque h = rw (h .0, h .1)
 
 -- the same, as the cell is read and tested
-module _ (b u : List ℕ) (d : ℕ) (m : Settled b u) (h : d < decls-of (lines 6 b)) where
+module _ (ls : List Line) (u : List ℕ) (d : ℕ) (m : Settled ls u) (h : d < decls-of ls) where
   pub cell-inside : 2 * d < length u
   cell-inside = omega (arith, m .long)
 
-  by-cells : number-by (getD u (2 * d) 0) (body-kind (lines 6 b) d) ≡ layout-number (layout-of-decl (program (lines 6 b)) d)
+  by-cells : number-by (getD u (2 * d) 0) (body-kind ls d) ≡ layout-number (layout-of-decl (program ls) d)
   by-cells =
-      ap (λ (x : ℕ). number-by x (body-kind (lines 6 b) d)) (getD-within u (2 * d) 0 3 cell-inside)
-      ∙ shape-number (lines 6 b) u d (layout-of-decl (program (lines 6 b)) d) (m .shapes d h)
+      ap (λ (x : ℕ). number-by x (body-kind ls d)) (getD-within u (2 * d) 0 3 cell-inside)
+      ∙ shape-number ls u d (layout-of-decl (program ls) d) (m .shapes d h)
 
-  pub number-gone : getD u (2 * d) 0 ≡ 0 → 0 ≡ layout-number (layout-of-decl (program (lines 6 b)) d)
+  pub number-gone : getD u (2 * d) 0 ≡ 0 → 0 ≡ layout-number (layout-of-decl (program ls) d)
   unfolding number-by
   number-gone e = rw e at by-cells
 
-  pub number-newtype : getD u (2 * d) 0 ≡ 1 → 1 ≡ layout-number (layout-of-decl (program (lines 6 b)) d)
+  pub number-newtype : getD u (2 * d) 0 ≡ 1 → 1 ≡ layout-number (layout-of-decl (program ls) d)
   unfolding number-by
   number-newtype e = rw e at by-cells
 
-  pub number-kept : (getD u (2 * d) 0 ≡ 0 → ⊥) → (getD u (2 * d) 0 ≡ 1 → ⊥) → (k : ℕ) → k ≡ body-kind (lines 6 b) d
-      → (eqb k 0 ⇒ 4 ∥ eqb k 1 ⇒ 3 ∥ 2) ≡ layout-number (layout-of-decl (program (lines 6 b)) d)
+  pub number-kept : (getD u (2 * d) 0 ≡ 0 → ⊥) → (getD u (2 * d) 0 ≡ 1 → ⊥) → (k : ℕ) → k ≡ body-kind ls d
+      → (eqb k 0 ⇒ 4 ∥ eqb k 1 ⇒ 3 ∥ 2) ≡ layout-number (layout-of-decl (program ls) d)
   unfolding number-by
   number-kept x y k e = rw (ne-eqb (getD u (2 * d) 0) 0 x, ne-eqb (getD u (2 * d) 0) 1 y, ← e) at by-cells
 
@@ -112,7 +112,7 @@ layout-small (L-abbrev c) = omega arith
 layout-small L-opaque = omega arith
 
 -- ---- one line
-module _ (b out : List ℕ) (p : Passed b) (d i : ℕ) (n : Next b out d i) where
+module _ (b out : List ℕ) (p : Sheet b) (d i : ℕ) (n : Next b out d i) where
   pub here-inside : i < length (lines 6 b)
   here-inside = inside b p d i (n .declared) (n .local) (n .from) (n .to)
 
@@ -179,7 +179,7 @@ module _ (b out : List ℕ) (p : Passed b) (d i : ℕ) (n : Next b out d i) wher
       }
 
 -- ---- a declaration
-module _ (b : List ℕ) (p : Passed b) (d : ℕ) (h : d < decls-of (lines 6 b)) where
+module _ (b : List ℕ) (p : Sheet b) (d : ℕ) (h : d < decls-of (lines 6 b)) where
   pub starts-rise : start (lines 6 b) d < start (lines 6 b) (suc d)
   starts-rise = start-rises (lines 6 b) d (rw (take-length (lines 6 b)) h)
 
@@ -194,22 +194,42 @@ module _ (b : List ℕ) (p : Passed b) (d : ℕ) (h : d < decls-of (lines 6 b)) 
   local-next old out out' i l w m = m ∙ rw w (upto-again b p i (suc i) old (omega (arith, start-le (lines 6 b) (suc d))))
 
 -- ---- the whole
-pub upto-self : (b : List ℕ) → Passed b → (old out : List ℕ) (i : ℕ) → i ≤ length (lines 6 b) → out ≡ upto b i old → out ≡ upto b i out
+pub upto-self : (b : List ℕ) → Sheet b → (old out : List ℕ) (i : ℕ) → i ≤ length (lines 6 b) → out ≡ upto b i old → out ≡ upto b i out
 upto-self b p old out i h w = w ∙ sym (rw w (upto-again b p i i old h))
 
 -- a declaration further
-pub decl-next : (b : List ℕ) → Passed b → (d : ℕ) (old out out' : List ℕ) → out ≡ upto b (start (lines 6 b) d) old → out' ≡ upto b (start (lines 6 b) (suc d)) out → out' ≡ upto b (start (lines 6 b) (suc d)) old
+pub decl-next : (b : List ℕ) → Sheet b → (d : ℕ) (old out out' : List ℕ) → out ≡ upto b (start (lines 6 b) d) old → out' ≡ upto b (start (lines 6 b) (suc d)) out → out' ≡ upto b (start (lines 6 b) (suc d)) old
 decl-next b p d old out out' w m = m ∙ rw w (upto-again b p (start (lines 6 b) d) (start (lines 6 b) (suc d)) old (start-le (lines 6 b) d))
 
 -- a copy of the sheet has the header already
-pub begun : (b : List ℕ) → Passed b → (old out : List ℕ) → out ≡ b ++ drop (length b) old → out ≡ upto b (start (lines 6 b) 0) out
+pub begun : (b : List ℕ) → Sheet b → (old out : List ℕ) → out ≡ b ++ drop (length b) old → out ≡ upto b (start (lines 6 b) 0) out
 begun b p old out e =
     let z : 0 + start (lines 6 b) 0 ≡ start (lines 6 b) 0 = omega arith in
     upto-self b p old out 0 (omega arith) (e ∙ upto-none b p old)
     ∙ sym (rw z at (upto-run b p 0 (start (lines 6 b) 0) out (omega (arith, start-le (lines 6 b) 0)) (λ j a l. header-stays b p j (omega arith))))
 
-pub ended : (b : List ℕ) → Passed b → (old copy out : List ℕ) (d : ℕ) → decls-of (lines 6 b) ≤ d → copy ≡ b ++ drop (length b) old → out ≡ upto b (start (lines 6 b) d) copy
+pub ended : (b : List ℕ) → Sheet b → (old copy out : List ℕ) (d : ℕ) → decls-of (lines 6 b) ≤ d → copy ≡ b ++ drop (length b) old → out ≡ upto b (start (lines 6 b) d) copy
     → out ≡ after (verdict-sheet base (lines 6 b)) old
 ended b p old copy out d h e w =
     let n : length (lines 6 b) ≡ start (lines 6 b) d = sym (start-past (lines 6 b) d (rw (take-length (lines 6 b)) h)) in
     w ∙ ap (upto b (start (lines 6 b) d)) (e ∙ upto-none b p old) ∙ upto-again b p 0 (start (lines 6 b) d) old (omega arith) ∙ rw (← n) (upto-all b p old)
+
+-- ---- by the table
+module _ (b t : List ℕ) (of : OfSheet b t) where
+  pub sheet-of : Sheet b
+  sheet-of = record { short = of .short; no-bad = of .no-bad; passed = sheet-passed b t of }
+
+  -- the keep table and the record numbers are of the lines with their texts as well
+  pub slotted-of : (keep : List ℕ) → Slotted (lines-in t) keep → Slotted (lines 6 b) keep
+  slotted-of keep s =
+      record {
+        sized = λ d h. rw (first-same b t of field-line d, first-same b t of field-line (suc d), program-same b t of) at (s .sized d (rw (decls-same b t of) h));
+        slots = λ d h j l. rw (first-same b t of field-line d, program-same b t of) at (s .slots d (rw (decls-same b t of) h) j (rw (program-same b t of) l));
+      }
+
+  pub recorded-of : (records : List ℕ) → Recorded (lines-in t) records → Recorded (lines 6 b) records
+  recorded-of records r =
+      record {
+        long = rw (decls-same b t of) at (r .long);
+        numbers = λ d h. rw (program-same b t of) at (r .numbers d (rw (decls-same b t of) h));
+      }

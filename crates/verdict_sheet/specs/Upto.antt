@@ -7,13 +7,16 @@ use lib.Dec.{eqb}
 use lib.ListN.{length, take, drop}
 use Rattle.columns.specs.Column.{_⇒_∥_}
 use Rattle.sheet.specs.Line.{Line}
-use Rattle.sheet.specs.Sheet.{lines, encodes}
+use Rattle.sheet.specs.Format.{base}
+use Rattle.sheet.specs.Sheet.{count, lines, encodes, row1, row2}
 use Rattle.model.specs.Run.{run}
 use Rattle.meaning.specs.Program.{field-line, import-line, is, program}
 use Rattle.meaning.specs.Rows.{count-of, count-before}
 use Rattle.meaning.specs.Output.{verdict-lines}
 use Rattle.limits.specs.Limits.{start}
-use Rattle.tables.specs.Tables.{head-line, decls-of, Tabled}
+use Rattle.declared.specs.Passed.{Passed}
+use Rattle.tables.specs.Tables.{head-line, decls-of, lines-in}
+use Rattle.tables.specs.OfSheet.{OfSheet}
 use Rattle.keeps.specs.Keeps.{Slotted}
 use Rattle.states.specs.States.{Settled}
 use Rattle.lefts.specs.Lefts.{Recorded}
@@ -30,13 +33,19 @@ verdicts ls = verdict-lines ls (run 100 (program ls) .infos)
 unfoldable pub upto : List ℕ → ℕ → List ℕ → List ℕ
 upto b i old = encodes 6 (take i (verdicts (lines 6 b)) ++ drop i (lines 6 b)) ++ drop (length b) old
 
+-- bytes that passed rows 1 to 7
+pub record Sheet (b : List ℕ) : Type 0 where
+  pub short : row1 base b ≡ false
+  pub no-bad : row2 6 b ≡ count 6 b
+  pub passed : Passed (lines 6 b)
+
 -- what is known of a sheet before its verdicts are written: its table, what becomes of each declaration, the keep table, the record numbers
 pub record Known (b t u keep records : List ℕ) : Type 0 where
-  pub tabled : Tabled b t
-  pub settled : Settled b u
+  pub of : OfSheet b t
+  pub settled : Settled (lines-in t) u
   pub slotted : Slotted (lines 6 b) keep
   pub sized : count-of field-line (lines 6 b) ≤ length keep
-  pub recorded : Recorded b records
+  pub recorded : Recorded (lines 6 b) records
 
 -- line i is one of declaration d, which is local, and the next to be written
 pub record Next (b out : List ℕ) (d i : ℕ) : Type 0 where

@@ -1,34 +1,30 @@
 -- The verdict sheet over a copy of the sheet: at the start, a line further, and at the end. Assumes nothing.
-use mathlib.Core.Path.{_≡_, refl, ap, ap₂, sym, _∙_}
+use mathlib.Core.Path.{_≡_, refl, ap, sym, _∙_}
 use mathlib.Core.List.{List, [], _∷_, _++_, append-assoc, append-nil}
-use mathlib.Core.Bool.{Bool, true, false, not, _||_}
+use mathlib.Core.Bool.{not}
 use Prim.Native.Nat.{ℕ, zero, suc, _+_, _-_, _*_, _%_, _≤_, _<_}
 use native.Mathlib.Omega.{arith}
 use lib.Dec.{eqb, ltb}
-use lib.ListN.{length, getD, set, take, drop, length-append, length-take, length-drop, take-append-drop, drop-of-length-le}
+use lib.ListN.{length, getD, set, take, drop, length-append, length-drop, take-append-drop, drop-of-length-le}
 use lib.Seq.{take-all, take-suc, drop-cons, drop-append-seam, getD-take, getD-drop, length-take-le}
 use borrow.Author.Tests.{eqb-true, not-false}
-use Rattle.columns.specs.Column.{pick}
 use Rattle.sheet.specs.Format.{base}
-use Rattle.sheet.specs.Line.{Line, row, bad, letter, number, encode}
+use Rattle.sheet.specs.Line.{Line, row, bad, letter, encode}
 use Rattle.sheet.specs.LineLaws.{Fits}
-use Rattle.sheet.specs.Sheet.{count, lineAt, line, lines, encodes, row1}
-use Rattle.sheet.specs.SheetLaws.{AllFit, encodes-append, encodes-one, length-encodes, length-lines, getD-lines, within-count, encodes-lines, line-good, letter-good}
+use Rattle.sheet.specs.Sheet.{count, lineAt, lines, encodes, row1}
+use Rattle.sheet.specs.SheetLaws.{AllFit, encodes-append, encodes-one, length-encodes, length-lines, getD-lines, encodes-lines, line-good, letter-good}
 use Rattle.sheet.specs.ListLaws.{neither, every-append, every-left, every-right}
-use Rattle.model.specs.Decl.{TypeInfo, bit, layout-number}
 use Rattle.model.specs.Run.{run}
-use Rattle.meaning.specs.Program.{is-head, groups, program}
+use Rattle.meaning.specs.Program.{program}
 use Rattle.meaning.specs.Rows.{line-at}
-use Rattle.meaning.specs.Output.{verdict-lines}
 use Rattle.meaning.specs.Laws.Program.{length-verdict-lines, told-groups, run-told}
 use Rattle.meaning.specs.Laws.Output.{ten, verdict-fits}
 use Rattle.answer.specs.Answer.{verdict-sheet, after}
-use Rattle.refusals.specs.Rows.{Passed}
-use Rattle.verdict_sheet.specs.Upto.{verdicts, upto}
+use Rattle.verdict_sheet.specs.Upto.{verdicts, upto, Sheet}
 use Rattle.verdict_sheet.specs.LineLaws.{fits}
 use Rattle.verdict_sheet.specs.PatchLaws.{put-letter, put-digit}
 
-module _ (b : List ℕ) (p : Passed b) where
+module _ (b : List ℕ) (p : Sheet b) where
   -- ---- sizes
   verdicts-length : length (verdicts (lines 6 b)) ≡ length (lines 6 b)
   verdicts-length = length-verdict-lines (lines 6 b) (run 100 (program (lines 6 b)) .infos) (told-groups (lines 6 b) (run 100 (program (lines 6 b)) .infos) (run-told 100 (program (lines 6 b))))
@@ -55,10 +51,6 @@ module _ (b : List ℕ) (p : Passed b) where
   mixed-length i h =
       rw (length-encodes 6 (take i (verdicts (lines 6 b)) ++ drop i (lines 6 b)) (mixed-fit i), length-append, length-take-le i (verdicts (lines 6 b)) (omega (arith, verdicts-length)), length-drop)
       (omega (arith, bytes))
-
-  pub upto-length : (i : ℕ) (old : List ℕ) → i ≤ length (lines 6 b) → length b ≤ length old → length (upto b i old) ≡ length old
-  unfolding upto
-  upto-length i old h l = rw (length-append, mixed-length i h, length-drop) (omega arith)
 
   -- ---- the start and the end
   pub upto-none : (old : List ℕ) → b ++ drop (length b) old ≡ upto b 0 old

@@ -12,7 +12,8 @@ ghost use Rattle.meaning.specs.Program.{field-line};
 ghost use Rattle.meaning.specs.Rows.{count-of, count-before};
 ghost use Rattle.answer.specs.Answer.{verdict-sheet, after};
 ghost use Rattle.limits.specs.Limits.{start};
-ghost use Rattle.tables.specs.Tables.{decls-of, Tabled};
+ghost use Rattle.tables.specs.Tables.{decls-of, lines-in};
+ghost use Rattle.tables.specs.OfSheet.{OfSheet};
 ghost use Rattle.keeps.specs.Keeps.{Slotted};
 ghost use Rattle.states.specs.States.{Settled};
 ghost use Rattle.lefts.specs.Lefts.{Recorded};
@@ -57,12 +58,12 @@ fn put_decl(s: &[u8], t: &[u32], u: &[u16], keep: &[u8], records: &[u8], out: &m
     requires { ⌜ (length (now s) ≤ length (now out)) × (now out ≡ upto (now s) (start (lines 6 (now s)) d) (now out)) ⌝ }
     ensures { λ _. ⌜ now (out .exit) ≡ upto (now (s .entry)) (start (lines 6 (now (s .entry))) (suc d)) (now (out .entry)) ⌝ }
 {
-    if tables::is_import(s, t, d) {
+    if tables::is_import(t, d) {
         return;
     }
-    let end = tables::line_of(s, t, d + 1);
-    let mut i = tables::line_of(s, t, d);
-    let mut f = tables::first_field(s, t, d);
+    let end = tables::line_of(t, d + 1);
+    let mut i = tables::line_of(t, d);
+    let mut f = tables::first_field(t, d);
     while i < end {
         f = put_line(s, t, u, keep, records, out, d, i, f);
         i += 1;
@@ -71,13 +72,13 @@ fn put_decl(s: &[u8], t: &[u32], u: &[u16], keep: &[u8], records: &[u8], out: &m
 
 // The verdict sheet, at the front of an output.
 pub fn put_verdicts(s: &[u8], t: &[u32], u: &[u16], keep: &[u8], records: &[u8], out: &mut [u8])
-    requires { ⌜ Tabled (now s) (now t) × Settled (now s) (now u) ⌝ }
-    requires { ⌜ Slotted (lines 6 (now s)) (now keep) × (count-of field-line (lines 6 (now s)) ≤ length (now keep)) ⌝ }
-    requires { ⌜ Recorded (now s) (now records) × (length (now s) ≤ length (now out)) ⌝ }
+    requires { ⌜ OfSheet (now s) (now t) × Settled (lines-in (now t)) (now u) ⌝ }
+    requires { ⌜ Slotted (lines-in (now t)) (now keep) × (count-of field-line (lines-in (now t)) ≤ length (now keep)) ⌝ }
+    requires { ⌜ Recorded (lines-in (now t)) (now records) × (length (now s) ≤ length (now out)) ⌝ }
     ensures { λ _. ⌜ now (out .exit) ≡ after (verdict-sheet base (lines 6 (now (s .entry)))) (now (out .entry)) ⌝ }
 {
     overlay::copy(s, out);
-    let n = tables::decls(s, t);
+    let n = tables::decls(t);
     let mut d = 0;
     while d < n {
         put_decl(s, t, u, keep, records, out, d);

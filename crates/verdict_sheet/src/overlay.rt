@@ -10,7 +10,8 @@ ghost use Rattle.sheet.specs.Sheet.{lines};
 ghost use Rattle.model.specs.Decl as decl;
 ghost use Rattle.model.specs.Run.{layout-of-decl};
 ghost use Rattle.meaning.specs.Program.{program};
-ghost use Rattle.tables.specs.Tables.{decls-of, Tabled};
+ghost use Rattle.tables.specs.Tables.{decls-of, lines-in, Tabled};
+ghost use Rattle.tables.specs.OfSheet.{OfSheet};
 ghost use Rattle.states.specs.States.{Settled};
 ghost use Rattle.lefts.specs.Lefts.{Recorded};
 ghost use Rattle.verdict_sheet.specs.Upto.{Next, upto};
@@ -32,10 +33,10 @@ pub const SECOND: usize = 12;
 pub const THIRD: usize = 18;
 
 // The layout's number of declaration d: by its cell, and by its body kind where its name is left or abbreviates.
-fn layout_number(s: &[u8], t: &[u32], u: &[u16], d: usize) -> u8
-    requires { ⌜ Tabled (now s) (now t) × Settled (now s) (now u) ⌝ }
-    requires { ⌜ d < decls-of (lines 6 (now s)) ⌝ }
-    ensures { λ r. ⌜ r ≡ decl.layout-number (layout-of-decl (program (lines 6 (now (s .entry)))) d) ⌝ }
+fn layout_number(t: &[u32], u: &[u16], d: usize) -> u8
+    requires { ⌜ Tabled (now t) × Settled (lines-in (now t)) (now u) ⌝ }
+    requires { ⌜ d < decls-of (lines-in (now t)) ⌝ }
+    ensures { λ r. ⌜ r ≡ decl.layout-number (layout-of-decl (program (lines-in (now (t .entry)))) d) ⌝ }
 {
     let state = u[2 * d];
     if state == 0 {
@@ -44,7 +45,7 @@ fn layout_number(s: &[u8], t: &[u32], u: &[u16], d: usize) -> u8
     if state == 1 {
         return 1;
     }
-    let kind = tables::decl_number(s, t, d, 2);
+    let kind = tables::decl_number(t, d, 2);
     if kind == 0 {
         return 4;
     }
@@ -71,11 +72,11 @@ pub fn put_verdict(
     d: usize,
     i: usize,
 )
-    requires { ⌜ Tabled (now s) (now t) × Settled (now s) (now u) × Recorded (now s) (now records) ⌝ }
+    requires { ⌜ OfSheet (now s) (now t) × Settled (lines-in (now t)) (now u) × Recorded (lines 6 (now s)) (now records) ⌝ }
     requires { ⌜ Next (now s) (now out) d i × (getD (now s) (i * 32) 0 ≡ 86) ⌝ }
     ensures { λ _. ⌜ now (out .exit) ≡ upto (now (s .entry)) (suc i) (now (out .entry)) ⌝ }
 {
-    let layout = layout_number(s, t, u, d);
+    let layout = layout_number(t, u, d);
     let at = i * LINE;
     out[at + FIRST] = b'0' + erased(layout);
     out[at + SECOND] = b'0' + layout;

@@ -41,7 +41,21 @@ checked-requires-3 c κs =
 
 checked-requires-4 : tie.Need-checked-requires-4
 checked-requires-4 c κs =
-    let e = c .before .before .before .before .before .before in
+    let e = c .before .before .before .before .before .before .before in
+    let s = e .before .before .before .before .before .args .s .now in
+    let h : row1 base s ≡ false = sym (e .before .row1 .ensures) ∙ e .if1 .left in
+    (h, omega (arith, short-bytes s h))
+
+checked-requires-5 : tie.Need-checked-requires-5
+checked-requires-5 c κs =
+    let e = c .before .before .before .before .before .before .before .before in
+    let s = e .before .before .before .before .before .args .s .now in
+    let h : row1 base s ≡ false = sym (e .before .row1 .ensures) ∙ e .if1 .left in
+    (h, omega (arith, short-bytes s h))
+
+checked-requires-6 : tie.Need-checked-requires-6
+checked-requires-6 c κs =
+    let e = c .before .before .before .before .before .before .before .before in
     let s = e .before .before .before .before .before .args .s .now in
     let h : row1 base s ≡ false = sym (e .before .row1 .ensures) ∙ e .if1 .left in
     (h, omega (arith, short-bytes s h))
@@ -70,6 +84,16 @@ build-spec =
     (λ c. search needs)
     (λ c. search needs)
     checked-requires-4
+    (λ c. search needs)
+    (λ c. search needs)
+    (λ c. search needs)
+    (λ c. search needs)
+    checked-requires-5
+    (λ c. search needs)
+    (λ c. search needs)
+    (λ c. search needs)
+    (λ c. search needs)
+    checked-requires-6
     (λ c. search needs)
     (λ c. search needs)
     (λ c. search needs))

@@ -1,34 +1,43 @@
 -- `build::passed` meets its contract: the table has room. Assumes nothing.
+use mathlib.Core.Path.{_≡_, refl, _∙_}
 use Prim.Native.Nat.{_≤_}
-use native.Mathlib.Omega.{arith}
-use borrow.Author.Needs.{needs}
-use Rattle.sizing.specs.SizingLaws.{cells-few}
-use Rattle.build.specs.BuildLaws.{cells-room}
-use Rattle.build.proofs.passed.Statement.{statement}
 use lib.ListN.{length}
+use borrow.Author.Needs.{needs}
+use Rattle.build.specs.BuildLaws.{counted-of, cells-small, part-room, lined-of}
+use Rattle.build.proofs.passed.Statement.{statement}
 use Rattle.build.proofs.passed.Tie as tie
+
+sizes-requires : tie.Need-sizes-requires
+sizes-requires c κs =
+    let a = c .before .before .before .before .before in
+    counted-of (a .args .s .now) (a .args .t .now) (a .args .c) (a .pre) _ refl
 
 cells-requires : tie.Need-cells-requires
 cells-requires c κs =
-    let a = c .before .before .before .before .before in
-    rw (c .sizes-of .ensures) (cells-few (a .args .s .now) (a .pre .0 .0))
-
-part-filled-end : tie.Need-part-filled-end
-part-filled-end c =
     let a = c .before .before .before .before .before .before in
-    let h : c .cells .result ≤ length (a .args .t .now) = omega (arith, c .cells .ensures, (rw (← (c .before .sizes-of .ensures)) at (cells-room (a .args .s .now) (a .pre .0 .0))), a .pre .1) in
+    cells-small (a .args .s .now) (a .args .t .now) (a .args .c) (a .pre) (c .sizes .result) (c .sizes .ensures)
+
+part-lined-end : tie.Need-part-lined-end
+part-lined-end c =
+    let a = c .before .before .before .before .before .before .before in
+    let h : c .cells .result ≤ length (a .args .t .now) = part-room (a .args .s .now) (a .args .t .now) (a .args .c) (a .pre) (c .before .sizes .result) (c .before .sizes .ensures) (c .cells .result) (c .cells .ensures) in
     search needs
+
+lined-requires : tie.Need-lined-requires
+lined-requires c κs =
+    let a = c .before .before .before .before .before .before .before .before .before .before in
+    lined-of (a .args .s .now) (a .args .t .now) (a .args .c) (a .pre) (c .before .before .before .before .sizes .result) (c .before .before .before .before .sizes .ensures) (c .before .before .before .cells .result) (c .before .before .before .cells .ensures)
 
 pub passed-spec : {M : Type 1} → statement M
 passed-spec =
     tie.close
     (tie.spec
-    (λ c κs. search needs)
+    sizes-requires
     cells-requires
     (λ c. search needs)
     (λ c. search needs)
-    part-filled-end
-    (λ c κs. search needs)
+    part-lined-end
+    lined-requires
     (λ c. search needs)
     (λ c. search needs)
     (λ c. search needs)

@@ -1,5 +1,5 @@
 -- `left_sheet::put_names` meets its contract: the N lines are the first lines of the sheet. Assumes nothing.
-use mathlib.Core.Path.{_≡_, refl, sym, _∙_}
+use mathlib.Core.Path.{refl, sym, _∙_}
 use Prim.Native.Nat.{_*_, _-_, _≤_}
 use lib.ListN.{length}
 use lib.Seq.{length-take-le}
@@ -7,24 +7,26 @@ use Rattle.left_sheet.specs.SheetLaws.{names-within, names-put}
 use native.Mathlib.Omega.{arith}
 use borrow.Author.Needs.{needs}
 use Rattle.left_sheet.proofs.put_names.Statement.{statement}
+use Rattle.meaning.specs.Program.{name-line}
+use Rattle.tables.specs.OfSheet.{count-same}
 use Rattle.left_sheet.proofs.put_names.Tie as tie
 
 part-end : tie.Need-part-copy-lines-end-2
 part-end c =
     let z = c .before .before .before .before in
-    let h = names-within (z .args .s .now) (z .pre .0 .passed) (z .args .n) (omega (arith, z .pre .1)) in
+    let h = names-within (z .args .s .now) (z .args .t .now) (z .pre .0) (z .args .n) (omega (arith, z .pre .1, count-same (z .args .s .now) (z .args .t .now) (z .pre .0) name-line)) in
     search needs
 
 copy-lines-requires : tie.Need-copy-lines-requires
 copy-lines-requires c κs =
     let z = c .before .before .before .before .before in
-    let h = names-within (z .args .s .now) (z .pre .0 .passed) (z .args .n) (omega (arith, z .pre .1)) in
+    let h = names-within (z .args .s .now) (z .args .t .now) (z .pre .0) (z .args .n) (omega (arith, z .pre .1, count-same (z .args .s .now) (z .args .t .now) (z .pre .0) name-line)) in
     length-take-le (z .args .n * 32 - 0) (z .args .out .now) (omega (arith, z .pre .2)) ∙ sym (length-take-le (z .args .n * 32 - 0) (z .args .s .now) (omega (arith, h)))
 
 returns : tie.Need-returns
 returns c =
     let z = c .before .before .before .before .before .before .before .before in
-    names-put (z .args .s .now) (z .pre .0 .passed) (z .args .out .now) (z .args .n) _ _ (z .pre .1) (c .before .before .copy-lines .ensures) refl
+    names-put (z .args .s .now) (z .args .t .now) (z .pre .0) (z .args .out .now) (z .args .n) _ _ (z .pre .1 ∙ count-same (z .args .s .now) (z .args .t .now) (z .pre .0) name-line) (c .before .before .copy-lines .ensures) refl
 
 pub put-names-spec : {M : Type 1} → statement M
 put-names-spec =

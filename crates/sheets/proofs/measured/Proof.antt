@@ -1,13 +1,15 @@
 -- `sheets::measured` meets its contract, by the count of the left sheet's lines. Assumes nothing.
-use mathlib.Core.Path.{_≡_, refl, sym, _∙_}
-use mathlib.Core.Bool.{true}
-use Prim.Native.Nat.{_*_, _+_, _≤_, _<_}
+use mathlib.Core.List.{List}
+use Rattle.model.specs.Decl.{Decl}
+use mathlib.Core.Path.{refl, _∙_, ap}
 use native.Mathlib.Omega.{arith}
-use lib.ListN.{length}
 use borrow.Author.Needs.{needs}
 use borrow.Author.Tests.{not-true, not-false}
 use Rattle.sheets.specs.SheetsLaws.{names-few, needed-of, owed-of, tries-none, tries-twelve, tries-gives, gives-written, known-long, owed-long}
 use Rattle.sheets.proofs.measured.Statement.{statement}
+use Rattle.model.specs.Run.{run}
+use Rattle.tables.specs.OfSheet.{program-same}
+use Rattle.tables.specs.Tables.{lines-in}
 use Rattle.sheets.proofs.measured.Tie as tie
 
 returns : tie.Need-returns
@@ -20,52 +22,52 @@ add-needed c =
     let s = c .before .before .before .before .before .before .before .before .before .before .before .before .before .before .before .before in
     let f = c .before .before .before .before .count .ensures .1 in
     let t = not-false _ (c .if1 .left) in
-    omega (arith, names-few (s .args .s .now) (s .pre .0 .ready .tabled .passed), s .pre .1 .1, f .args t)
+    omega (arith, names-few (lines-in (s .args .t .now)) (s .pre .0 .ready .tabled .passed), s .pre .1 .1, f .args t)
 
 add-needed-2 : tie.Need-add-needed-2
 add-needed-2 c =
     let s = c .before .before .before .before .before .before .before .before .before .before .before .before .before .before .before .before in
     let f = c .before .before .before .before .count .ensures .1 in
     let t = not-false _ (c .if1 .left) in
-    omega (arith, names-few (s .args .s .now) (s .pre .0 .ready .tabled .passed), s .pre .1 .1, f .args t, f .types t)
+    omega (arith, names-few (lines-in (s .args .t .now)) (s .pre .0 .ready .tabled .passed), s .pre .1 .1, f .args t, f .types t)
 
 add-needed-3 : tie.Need-add-needed-3
 add-needed-3 c =
     let s = c .before .before .before .before .before .before .before .before .before .before .before .before .before .before .before .before .before in
     let f = c .before .before .before .before .before .count .ensures .1 in
     let t = not-false _ (c .before .if1 .left) in
-    omega (arith, names-few (s .args .s .now) (s .pre .0 .ready .tabled .passed), s .pre .1 .1, f .args t, f .types t, f .lines t)
+    omega (arith, names-few (lines-in (s .args .t .now)) (s .pre .0 .ready .tabled .passed), s .pre .1 .1, f .args t, f .types t, f .lines t)
 
 mul-needed : tie.Need-mul-needed
 mul-needed c =
     let s = c .before .before .before .before .before .before .before .before .before .before .before .before .before .before .before .before .before in
     let f = c .before .before .before .before .before .count .ensures .1 in
     let t = not-false _ (c .before .if1 .left) in
-    omega (arith, names-few (s .args .s .now) (s .pre .0 .ready .tabled .passed), s .pre .1 .1, f .args t, f .types t, f .lines t)
+    omega (arith, names-few (lines-in (s .args .t .now)) (s .pre .0 .ready .tabled .passed), s .pre .1 .1, f .args t, f .types t, f .lines t)
 
 returns-2 : tie.Need-returns-2
 returns-2 c =
     let s = c .before .before .before .before .before .before .before .before .before .before .before .before .before .before .before .before .before .before .before in
-    let n = needed-of (s .args .s .now) _ _ _ (s .pre .0 .ready .accepted) _ (s .args .names) (s .pre .1 .1) (c .before .before .before .before .before .before .before .count .ensures .0) (not-false _ (c .before .before .before .if1 .left)) in
-    tries-twelve _ (s .args .s .now) (s .args .v .now) (s .args .l .now) _ _ (s .pre .0 .ready .accepted) (s .pre .0 .verdict-room) n (c .before .if2 .taken) (c .refused .ensures)
+    let n = needed-of (s .args .s .now) (s .args .t .now) _ _ _ (s .pre .0 .of) (s .pre .0 .accepted) _ (s .args .names) (s .pre .1 .1) (c .before .before .before .before .before .before .before .count .ensures .0) (not-false _ (c .before .before .before .if1 .left)) in
+    tries-twelve _ (s .args .s .now) (s .args .v .now) (s .args .l .now) _ _ (s .pre .0 .accepted) (s .pre .0 .verdict-room) n (c .before .if2 .taken) (c .refused .ensures)
 
 write-requires : tie.Need-write-requires
 write-requires c κs =
     let s = c .before .before .before .before .before .before .before .before .before .before .before .before .before .before .before .before .before .before .before .before .before .before in
     let x = c .before .before .before .before .before .before .before .before .before .before .count .ensures .0 in
     let t = not-false _ (c .before .before .before .before .before .before .if1 .left) in
-    let n = needed-of (s .args .s .now) _ _ _ (s .pre .0 .ready .accepted) _ (s .args .names) (s .pre .1 .1) x t in
-    let k = c .before .before .before .before .before .before .before .before .before .before .count .kept .1 .1 .1 .1 .1 .1 .0 in
-    (known-long _ _ _ _ _ _ _ _ _ k (s .pre .0), (s .pre .1 .0, owed-long _ _ _ _ _ _ _ _ k (owed-of (s .args .s .now) _ _ _ (s .args .l .now) _ x t (omega (arith, n, c .before .before .before .before .if2 .left)))))
+    let n = needed-of (s .args .s .now) (s .args .t .now) _ _ _ (s .pre .0 .of) (s .pre .0 .accepted) _ (s .args .names) (s .pre .1 .1) x t in
+    let k = c .before .before .before .before .before .before .before .before .before .before .count .kept .1 .1 .1 .1 .1 .0 in
+    (known-long _ _ _ _ _ _ _ _ _ k (s .pre .0), (s .pre .1 .0, owed-long _ _ _ _ _ _ _ _ _ k (owed-of (s .args .s .now) (s .args .t .now) _ _ _ (s .pre .0 .of) (s .args .l .now) _ x t (omega (arith, n, c .before .before .before .before .if2 .left)))))
 
 returns-3 : tie.Need-returns-3
 returns-3 c =
     let s = c .before .before .before .before .before .before .before .before .before .before .before .before .before .before .before .before .before .before .before .before .before .before .before .before .before .before .before .before .before .before .before in
     let x = c .before .before .before .before .before .before .before .before .before .before .before .before .before .before .before .before .before .before .before .count .ensures .0 in
     let t = not-false _ (c .before .before .before .before .before .before .before .before .before .before .before .before .before .before .before .if1 .left) in
-    let n = needed-of (s .args .s .now) _ _ _ (s .pre .0 .ready .accepted) _ (s .args .names) (s .pre .1 .1) x t in
+    let n = needed-of (s .args .s .now) (s .args .t .now) _ _ _ (s .pre .0 .of) (s .pre .0 .accepted) _ (s .args .names) (s .pre .1 .1) x t in
     tries-gives _ (s .args .s .now) (s .args .v .now) (s .args .l .now) _ _ _
-    (gives-written (s .args .s .now) (s .pre .0 .ready .accepted) (s .args .v .now) (s .args .l .now) _ _ _ _ _ (c .before .before .before .before .before .before .before .before .write .ensures) (s .pre .1 .2) (s .pre .0 .verdict-room) (omega (arith, n, c .before .before .before .before .before .before .before .before .before .before .before .before .before .if2 .left)) refl n)
+    (gives-written (s .args .s .now) (s .pre .0 .accepted) (s .args .v .now) (s .args .l .now) _ _ _ _ _ (c .before .before .before .before .before .before .before .before .write .ensures) (s .pre .1 .2 ∙ ap (λ (ds : List Decl). run 100 ds .rounds) (program-same (s .args .s .now) (s .args .t .now) (s .pre .0 .of))) (s .pre .0 .verdict-room) (omega (arith, n, c .before .before .before .before .before .before .before .before .before .before .before .before .before .if2 .left)) refl n)
 
 pub measured-spec : {M : Type 1} → statement M
 measured-spec =

@@ -1,9 +1,8 @@
 -- `sheets::none` meets its contract. Assumes nothing.
-use mathlib.Core.Path.{_≡_, ap}
+use mathlib.Core.Path.{ap}
 use mathlib.Core.Bool.{false}
 use borrow.Author.Needs.{needs}
 use Rattle.built.specs.declared.Built.{Built}
-use Rattle.built.specs.declared.Tried.{Tried}
 use Rattle.sheets.proofs.none.Statement.{statement}
 use Rattle.sheets.proofs.none.Tie as tie
 

@@ -1,6 +1,5 @@
 -- `sheets::sheets` meets its contract, by the list of normal forms. Assumes nothing.
-use mathlib.Core.Logic.{inl, inr}
-use mathlib.Core.Path.{_≡_}
+use mathlib.Core.Logic.{inr}
 use native.Mathlib.Omega.{arith}
 use borrow.Author.Needs.{needs}
 use Rattle.sheets.specs.SheetsLaws.{known-of, short-of, tries-none, tries-less, known-long}
@@ -15,12 +14,12 @@ returns c =
 formed-requires : tie.Need-formed-requires
 formed-requires c κs =
     let s = c .before .before .before .before .before .before .before .before .before .before .before .before .before .before .before .before .before .before .before .before .before .before .before in
-    (known-long _ _ _ _ _ _ _ _ _ (c .before .before .before .before .before .before .before .before .before .before .normal-forms .kept .1 .1 .1 .1 .1 .0) (known-of (s .args .s .now) (s .args .t .now) (s .args .u .now) (s .args .rank .now) (s .args .keep .now) (s .args .v .now) _ _ _ _ _ _ (s .pre .0) (c .before .before .before .before .before .before .before .before .before .before .normal-forms .ensures) (c .before .before .before .before .before .if1 .left)), s .pre .1)
+    (known-long _ _ _ _ _ _ _ _ _ (c .before .before .before .before .before .before .before .before .before .before .normal-forms .kept .1 .1 .1 .1 .0) (known-of (s .args .s .now) (s .args .t .now) (s .args .u .now) (s .args .rank .now) (s .args .keep .now) (s .args .v .now) _ _ _ _ _ _ (s .pre .0) (c .before .before .before .before .before .before .before .before .before .before .normal-forms .ensures) (c .before .before .before .before .before .if1 .left)), s .pre .1)
 
 returns-2 : tie.Need-returns-2
 returns-2 c =
     let s = c .before .before .before .before .before .before .before .before .before .before .before .before .before .before .before .before .before .before .before .before .before .before .before .before .before .before .before .before .before .before .before .before in
-    tries-less _ _ (λ x. inr (omega (arith, x, c .before .before .before .before .before .before .before .before .before .before .before .before .before .before .before .before .before .before .before .normal-forms .kept .1 .1 .1 .1 .1 .0))) (s .args .s .now) (s .args .v .now) (s .args .l .now) _ _ _ (c .before .before .before .before .before .before .before .before .formed .ensures)
+    tries-less _ _ (λ x. inr (omega (arith, x, c .before .before .before .before .before .before .before .before .before .before .before .before .before .before .before .before .before .before .before .normal-forms .kept .1 .1 .1 .1 .0))) (s .args .s .now) (s .args .v .now) (s .args .l .now) _ _ _ (c .before .before .before .before .before .before .before .before .formed .ensures)
 
 pub sheets-spec : {M : Type 1} → statement M
 sheets-spec =

@@ -12,7 +12,7 @@ records-requires c κs =
 put-left-requires : tie.Need-put-left-requires
 put-left-requires c κs =
     let p = c .before .before .before .before .before .before .before .before .before .before .before .before .before .before .before .before .before .before .before .before .before .pre in
-    ((p .0 .ready, p .1 .0, p .1 .1 .fit), ((p .0 .keeps, p .0 .stacked), ((p .1 .1 .args-are, p .1 .1 .types-are), p .1 .1 .left-room)))
+    ((p .0 .of, p .0 .ready), ((p .1 .0, p .1 .1 .fit), ((p .0 .keeps, p .0 .stacked), ((p .1 .1 .args-are, p .1 .1 .types-are), p .1 .1 .left-room))))
 
 pub write-spec : {M : Type 1} → statement M
 write-spec =

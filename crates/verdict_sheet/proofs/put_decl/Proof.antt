@@ -1,7 +1,7 @@
 -- `verdict_sheet::put_decl` meets its contract, line after line. Assumes nothing.
 use mathlib.Core.Bool.{false}
 use mathlib.Core.Path.{_≡_, refl, sym, _∙_}
-use Prim.Native.Nat.{suc, _+_, _-_, _≤_}
+use Prim.Native.Nat.{suc, _-_, _≤_}
 use native.Mathlib.Omega.{arith}
 use native.Mathlib.Numerals.{add-one}
 use lib.ListN.{length}
@@ -10,12 +10,13 @@ use Rattle.sheet.specs.Sheet.{lines}
 use Rattle.meaning.specs.Program.{field-line, import-line, is}
 use Rattle.meaning.specs.Rows.{count-before}
 use Rattle.limits.specs.Limits.{start}
-use Rattle.tables.specs.Tables.{head-line}
+use Rattle.tables.specs.Tables.{head-line, lines-in}
 use Rattle.keeps.specs.KeepsLaws.{decls-few}
 use Rattle.verdict_sheet.specs.Upto.{upto}
 use Rattle.verdict_sheet.specs.LineLaws.{start-le}
-use Rattle.verdict_sheet.specs.StepLaws.{starts-rise, import-whole, local-next, upto-self}
+use Rattle.verdict_sheet.specs.StepLaws.{starts-rise, import-whole, local-next, upto-self, sheet-of}
 use Rattle.verdict_sheet.proofs.put_decl.Statement.{statement}
+use Rattle.tables.specs.OfSheet.{head-same, decls-same, start-same, first-same}
 use Rattle.verdict_sheet.proofs.put_decl.Tie as tie
 
 abbrev Inv-loop : tie.InvT-loop
@@ -32,35 +33,35 @@ abbrev μ-loop : tie.MeasureT-loop
 μ-loop s t u keep records out₀ d end i₀ f₀ out i f = end - i
 
 is-import-requires : tie.Need-is-import-requires Inv-loop μ-loop
-is-import-requires c κs = let a = c .before .before .before .before .before .before in (a .pre .0 .0 .tabled, a .pre .0 .1)
+is-import-requires c κs = let a = c .before .before .before .before .before .before in (a .pre .0 .0 .of .tabled, rw (decls-same (a .args .s .now) (a .args .t .now) (a .pre .0 .0 .of)) (a .pre .0 .1))
 
 returns : tie.Need-returns Inv-loop μ-loop
 returns c =
     let a = c .before .before .before .before .before .before .before .before in
-    import-whole (a .args .s .now) (a .pre .0 .0 .tabled .passed) (a .args .d) (a .pre .0 .1) (a .args .out .now) (sym (c .before .is-import .ensures) ∙ c .if1 .taken) (a .pre .1 .1)
+    import-whole (a .args .s .now) (sheet-of (a .args .s .now) (a .args .t .now) (a .pre .0 .0 .of)) (a .args .d) (a .pre .0 .1) (a .args .out .now) (sym (head-same (a .args .s .now) (a .args .t .now) (a .pre .0 .0 .of) import-line (a .args .d)) ∙ sym (c .before .is-import .ensures) ∙ c .if1 .taken) (a .pre .1 .1)
 
 add-line-of : tie.Need-add-line-of Inv-loop μ-loop
-add-line-of c = let a = c .before .before .before .before .before .before .before .before in omega (arith, a .pre .0 .1, decls-few (a .args .s .now) (a .pre .0 .0 .tabled .passed))
+add-line-of c = let a = c .before .before .before .before .before .before .before .before in omega (arith, a .pre .0 .1, decls-same (a .args .s .now) (a .args .t .now) (a .pre .0 .0 .of), decls-few (lines-in (a .args .t .now)) (a .pre .0 .0 .of .tabled .passed))
 
 line-of-requires : tie.Need-line-of-requires Inv-loop μ-loop
-line-of-requires c κs = let a = c .before .before .before .before .before .before .before .before in (a .pre .0 .0 .tabled, omega (arith, a .pre .0 .1))
+line-of-requires c κs = let a = c .before .before .before .before .before .before .before .before in (a .pre .0 .0 .of .tabled, omega (arith, a .pre .0 .1, decls-same (a .args .s .now) (a .args .t .now) (a .pre .0 .0 .of)))
 
 line-of-requires-2 : tie.Need-line-of-requires-2 Inv-loop μ-loop
-line-of-requires-2 c κs = let a = c .before .before .before .before .before .before .before .before .before in (a .pre .0 .0 .tabled, omega (arith, a .pre .0 .1))
+line-of-requires-2 c κs = let a = c .before .before .before .before .before .before .before .before .before in (a .pre .0 .0 .of .tabled, omega (arith, a .pre .0 .1, decls-same (a .args .s .now) (a .args .t .now) (a .pre .0 .0 .of)))
 
 first-field-requires : tie.Need-first-field-requires Inv-loop μ-loop
-first-field-requires c κs = let a = c .before .before .before .before .before .before .before .before .before .before in (a .pre .0 .0 .tabled, omega (arith, a .pre .0 .1))
+first-field-requires c κs = let a = c .before .before .before .before .before .before .before .before .before .before in (a .pre .0 .0 .of .tabled, omega (arith, a .pre .0 .1, decls-same (a .args .s .now) (a .args .t .now) (a .pre .0 .0 .of)))
 
 loop-holds : tie.Need-loop-holds Inv-loop μ-loop
 loop-holds c =
     let a = c .before .before .before .before .before .before .before .before .before .before .before in
-    let e : c .before .before .line-of .result ≡ start (lines 6 (a .args .s .now)) (suc (a .args .d)) = c .before .before .line-of .ensures ∙ rw add-one in
-    let g = c .before .line-of2 .ensures in (
+    let e : c .before .before .line-of .result ≡ start (lines 6 (a .args .s .now)) (suc (a .args .d)) = c .before .before .line-of .ensures ∙ rw add-one (start-same (a .args .s .now) (a .args .t .now) (a .pre .0 .0 .of) (suc (a .args .d))) in
+    let g = c .before .line-of2 .ensures ∙ start-same (a .args .s .now) (a .args .t .now) (a .pre .0 .0 .of) (a .args .d) in (
       omega (arith, g),
-      omega (arith, g, e, starts-rise (a .args .s .now) (a .pre .0 .0 .tabled .passed) (a .args .d) (a .pre .0 .1)),
+      omega (arith, g, e, starts-rise (a .args .s .now) (sheet-of (a .args .s .now) (a .args .t .now) (a .pre .0 .0 .of)) (a .args .d) (a .pre .0 .1)),
       e,
-      sym (c .before .before .before .before .is-import .ensures) ∙ c .before .before .before .if1 .left,
-      rw g (c .first-field .ensures),
+      sym (head-same (a .args .s .now) (a .args .t .now) (a .pre .0 .0 .of) import-line (a .args .d)) ∙ sym (c .before .before .before .before .is-import .ensures) ∙ c .before .before .before .if1 .left,
+      rw g (c .first-field .ensures ∙ first-same (a .args .s .now) (a .args .t .now) (a .pre .0 .0 .of) field-line (a .args .d)),
       rw g (a .pre .1 .1),
       refl,
     )
@@ -70,7 +71,7 @@ put-line-requires c κs =
     let a = c .before .before .before .before .before .before .before .before .before .before .before .before .before .before in
     let l = c .before .before .loop in
     let z = c .before .loop-test .taken in
-    let p = a .pre .0 .0 .tabled .passed in (
+    let p = sheet-of (a .args .s .now) (a .args .t .now) (a .pre .0 .0 .of) in (
       a .pre .0 .0,
       (
         record {
@@ -91,7 +92,7 @@ loop-again c =
     let l = c .before .before .before .before .before .loop in
     let z = c .before .before .before .before .loop-test .taken in
     let k = c .before .before .put-line in
-    let p = a .pre .0 .0 .tabled .passed in (
+    let p = sheet-of (a .args .s .now) (a .args .t .now) (a .pre .0 .0 .of) in (
       omega (arith, l .inv .0),
       omega arith,
       l .inv .2,

@@ -10,8 +10,10 @@ use Rattle.limits.specs.Limits.{start}
 use Rattle.tables.specs.Tables.{decls-of}
 use Rattle.verdict_sheet.specs.Upto.{upto}
 use Rattle.verdict_sheet.specs.LineLaws.{start-le}
-use Rattle.verdict_sheet.specs.StepLaws.{upto-self, begun, ended, decl-next}
+use Rattle.verdict_sheet.specs.StepLaws.{upto-self, begun, ended, decl-next, slotted-of, sheet-of, recorded-of}
 use Rattle.verdict_sheet.proofs.put_verdicts.Statement.{statement}
+use Rattle.meaning.specs.Program.{field-line}
+use Rattle.tables.specs.OfSheet.{count-same, decls-same}
 use Rattle.verdict_sheet.proofs.put_verdicts.Tie as tie
 
 abbrev Inv-loop : tie.InvT-loop
@@ -24,21 +26,21 @@ copy-requires : tie.Need-copy-requires Inv-loop μ-loop
 copy-requires c κs = c .before .before .before .before .before .before .before .pre .1 .1 .1
 
 decls-requires : tie.Need-decls-requires Inv-loop μ-loop
-decls-requires c κs = c .before .before .before .before .before .before .before .before .before .before .pre .0 .0
+decls-requires c κs = c .before .before .before .before .before .before .before .before .before .before .pre .0 .0 .tabled
 
 loop-holds : tie.Need-loop-holds Inv-loop μ-loop
 loop-holds c =
     let a = c .before .before .before .before .before .before .before .before .before .before .before in
-    (omega arith, c .decls .ensures, begun (a .args .s .now) (a .pre .0 .0 .passed) (a .args .out .now) _ (c .before .before .before .copy .ensures), refl)
+    (omega arith, c .decls .ensures ∙ decls-same (a .args .s .now) (a .args .t .now) (a .pre .0 .0), begun (a .args .s .now) (sheet-of (a .args .s .now) (a .args .t .now) (a .pre .0 .0)) (a .args .out .now) _ (c .before .before .before .copy .ensures), refl)
 
 put-decl-requires : tie.Need-put-decl-requires Inv-loop μ-loop
 put-decl-requires c κs =
     let a = c .before .before .before .before .before .before .before .before .before .before .before .before .before .before in
     let l = c .before .before .loop in
     let k = c .before .before .before .before .before .before .copy in
-    let p = a .pre .0 .0 .passed in (
+    let p = sheet-of (a .args .s .now) (a .args .t .now) (a .pre .0 .0) in (
       (
-        record { tabled = a .pre .0 .0; settled = a .pre .0 .1; slotted = a .pre .1 .0 .0; sized = a .pre .1 .0 .1; recorded = a .pre .1 .1 .0 },
+        record { of = a .pre .0 .0; settled = a .pre .0 .1; slotted = slotted-of (a .args .s .now) (a .args .t .now) (a .pre .0 .0) (a .args .keep .now) (a .pre .1 .0 .0); sized = omega (arith, a .pre .1 .0 .1, count-same (a .args .s .now) (a .args .t .now) (a .pre .0 .0) field-line); recorded = recorded-of (a .args .s .now) (a .args .t .now) (a .pre .0 .0) (a .args .records .now) (a .pre .1 .1 .0) },
         omega (arith, l .inv .1, c .before .loop-test .taken),
       ),
       (
@@ -54,7 +56,7 @@ loop-again c =
     let k = c .before .before .put-decl in (
       omega arith,
       l .inv .1,
-      rw add-one (decl-next (a .args .s .now) (a .pre .0 .0 .passed) (l .d) _ (l .out) _ (l .inv .2) (k .ensures)),
+      rw add-one (decl-next (a .args .s .now) (sheet-of (a .args .s .now) (a .args .t .now) (a .pre .0 .0)) (l .d) _ (l .out) _ (l .inv .2) (k .ensures)),
       k .kept .1 .1 .1 .1 .1 .0 ∙ l .inv .3,
     )
 
@@ -65,7 +67,7 @@ returns : tie.Need-returns Inv-loop μ-loop
 returns c =
     let a = c .before .before .before .before .before .before .before .before .before .before .before .before .before in
     let l = c .before .loop in
-    ended (a .args .s .now) (a .pre .0 .0 .passed) (a .args .out .now) _ (l .out) (l .d) (omega (arith, l .inv .0, l .inv .1, c .loop-test .left)) (c .before .before .before .before .before .copy .ensures) (l .inv .2)
+    ended (a .args .s .now) (sheet-of (a .args .s .now) (a .args .t .now) (a .pre .0 .0)) (a .args .out .now) _ (l .out) (l .d) (omega (arith, l .inv .0, l .inv .1, c .loop-test .left)) (c .before .before .before .before .before .copy .ensures) (l .inv .2)
 
 pub put-verdicts-spec : {M : Type 1} → statement M
 put-verdicts-spec =

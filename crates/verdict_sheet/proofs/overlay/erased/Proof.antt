@@ -1,5 +1,4 @@
 -- `overlay::erased` meets its contract, by its test. Assumes nothing.
-use borrow.Author.Needs.{needs}
 use borrow.Author.Tests.{ne-eqb}
 use Rattle.verdict_sheet.proofs.overlay.erased.Statement.{statement}
 use Rattle.verdict_sheet.proofs.overlay.erased.Tie as tie
