@@ -1,25 +1,20 @@
 -- Laws of the argument of a parameter, one P line after the other. Assumes nothing.
 use mathlib.Core.Path.{_≡_, refl, ap, ap₂, sym, _∙_}
-use mathlib.Core.List.{List, [], _∷_, _++_}
+use mathlib.Core.List.{List, [], _∷_}
 use mathlib.Core.Bool.{Bool, true, false}
-use Prim.Native.Nat.{ℕ, zero, suc, _+_, _-_, _≤_, _<_}
+use Prim.Native.Nat.{ℕ, suc, _+_, _-_, _≤_, _<_}
 use native.Mathlib.Omega.{arith}
-use native.Mathlib.Numerals.{add-one}
-use lib.Dec.{eqb}
 use lib.ListN.{length, getD, take, drop, length-append, length-take, take-append-drop}
 use lib.Seq.{drop-cons, getD-take}
 use borrow.Author.Tests.{eq-eqb, ne-eqb}
 use Rattle.columns.specs.Column.{pick}
-use Rattle.sheet.specs.Format.{base}
 use Rattle.sheet.specs.Line.{Line, number}
-use Rattle.sheet.specs.Sheet.{lines}
 use Rattle.meaning.specs.Program.{param-line, is, select}
 use Rattle.meaning.specs.Rows.{count-of, count-before}
 use Rattle.meaning.specs.Laws.Program.{select-append}
-use Rattle.answer.specs.Laws.Left.{lines-limit}
 use Rattle.limits.specs.Limits.{counts-of}
-use Rattle.refusals.specs.Rows.{Passed}
-use Rattle.refusals.specs.RowsLaws.{passed-kept}
+use Rattle.declared.specs.Passed.{Passed}
+use Rattle.declared.specs.PassedLaws.{passed-kept}
 use Rattle.tables.specs.Tables.{nth, decls-of, first-of}
 use Rattle.outcomes.specs.Outcome.{one, argument}
 use Rattle.outcomes.specs.Scratch.{part}
@@ -93,16 +88,16 @@ select-le x (l ∷ ls) = go (is x l) (select-le x ls)
     go true h = omega arith
     go false h = omega arith
 
-module _ (b : List ℕ) (passed : Passed b) where
-  pub params-few : count-of param-line (lines 6 b) ≤ 2048
-  params-few = omega (arith, select-le param-line (lines 6 b), lines-limit base b (passed .short))
+module _ (ls : List Line) (passed : Passed ls) where
+  pub params-few : count-of param-line ls ≤ 2048
+  params-few = omega (arith, select-le param-line ls, passed .few)
 
-  pub decls-few : decls-of (lines 6 b) ≤ 96
+  pub decls-few : decls-of ls ≤ 96
   unfolding counts-of
-  decls-few = passed-kept b passed .decls
+  decls-few = passed-kept ls passed .decls
 
 -- what the code seeks
-pub found-of : (b : List ℕ) (d : ℕ) (xs : List ℕ) (at count v first end : ℕ) → first ≡ first-of param-line (lines 6 b) d → end ≡ first-of param-line (lines 6 b) (d + 1) →
-    argument (params-of (lines 6 b) d) (part at count xs) v ≡ argument (params-from (lines 6 b) first (end - first)) (part at count xs) v
-found-of b d xs at count v first end e f =
-    sym (ap₂ (λ (m n : ℕ). argument (params-from (lines 6 b) m (n - m)) (part at count xs) v) e f)
+pub found-of : (ls : List Line) (d : ℕ) (xs : List ℕ) (at count v first end : ℕ) → first ≡ first-of param-line ls d → end ≡ first-of param-line ls (d + 1) →
+    argument (params-of ls d) (part at count xs) v ≡ argument (params-from ls first (end - first)) (part at count xs) v
+found-of ls d xs at count v first end e f =
+    sym (ap₂ (λ (m n : ℕ). argument (params-from ls m (n - m)) (part at count xs) v) e f)

@@ -2,7 +2,6 @@
 ghost use mathlib.Core.Path.{_≡_};
 ghost use Prim.Native.Nat.{_+_, _≤_, _<_};
 ghost use lib.ListN.{length};
-ghost use Rattle.sheet.specs.Sheet as sheet;
 ghost use Rattle.tables.specs.Tables as tables;
 ghost use Rattle.outcomes.specs.Outcome as outcome;
 ghost use Rattle.outcomes.specs.Scratch as scratch;
@@ -13,26 +12,18 @@ pub const ONE: usize = 4;
 
 // The outcome of variable v in declaration d, of whose arguments `count` outcomes stand from place
 // `at` on. A variable that is not bound has one node.
-pub fn argument(
-    s: &[u8],
-    t: &[u32],
-    d: usize,
-    out: &[u16],
-    at: usize,
-    count: usize,
-    v: usize,
-) -> usize
-    requires { ⌜ tables.Tabled (now s) (now t) × (d < tables.decls-of (sheet.lines 6 (now s))) × (at + count ≤ length (now out)) ⌝ }
-    ensures { λ r. ⌜ (r ≡ outcome.argument (params.params-of (sheet.lines 6 (now (s .entry))) d) (scratch.part at count (now (out .entry))) v) × (r < 65536) ⌝ }
+pub fn argument(t: &[u32], d: usize, out: &[u16], at: usize, count: usize, v: usize) -> usize
+    requires { ⌜ tables.Tabled (now t) × (d < tables.decls-of (tables.lines-in (now t))) × (at + count ≤ length (now out)) ⌝ }
+    ensures { λ r. ⌜ (r ≡ outcome.argument (params.params-of (tables.lines-in (now (t .entry))) d) (scratch.part at count (now (out .entry))) v) × (r < 65536) ⌝ }
 {
-    let first = tables::first_param(s, t, d);
-    let end = tables::first_param(s, t, d + 1);
+    let first = tables::first_param(t, d);
+    let end = tables::first_param(t, d + 1);
     let mut i = 0;
     while i < count {
         if first + i >= end {
             return ONE;
         }
-        if tables::param(s, t, first + i) == v {
+        if tables::param(t, first + i) == v {
             return out[at + i] as usize;
         }
         i += 1;

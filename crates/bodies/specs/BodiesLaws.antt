@@ -3,51 +3,46 @@ use mathlib.Core.Logic.{⊎-elim}
 use mathlib.Core.Path.{_≡_, refl, ap, sym, _∙_}
 use mathlib.Core.List.{List, [], _∷_, _++_, map, append-nil}
 use mathlib.Core.Bool.{Bool, true, false, _&&_}
-use Prim.Native.Nat.{ℕ, zero, suc, _+_, _-_, _/_, _%_, _≤_, _<_}
+use Prim.Native.Nat.{ℕ, suc, _+_, _-_, _/_, _%_, _≤_, _<_}
 use native.Mathlib.Omega.{arith}
 use lib.Dec.{eqb, ltb, leb}
 use lib.ListN.{length, getD, set, take, drop, length-append, take-append-drop, length-set}
 use lib.Seq.{getD-set-same, getD-set-other}
-use borrow.Author.Tests.{eqb-true, eq-eqb, ne-eqb, ltb-true, ltb-false}
-use Rattle.columns.specs.Column.{pick, _⇒_∥_}
+use borrow.Author.Tests.{eqb-true, ne-eqb, ltb-true, ltb-false}
 use Rattle.sheet.specs.Line.{Line, bad, letter, number}
-use Rattle.sheet.specs.Sheet.{lines}
-use Rattle.sheet.specs.SheetLaws.{length-lines}
 use Rattle.sheet.specs.ListLaws.{both}
-use Rattle.model.specs.Cty.{Cty, TUnit}
-use Rattle.model.specs.Decl.{Body, TAbstract, TAbbrev, TRecord, TVariant, Dtype, has-flag, close-body, close-fields}
-use Rattle.model.specs.Erasure.{marked, cty-erased, fields-erased, body-erased, dtype-erased, rule-of, rule}
-use Rattle.meaning.specs.Program.{name-line, type-line, import-line, param-line, ctor-line, field-line, is, select, before, Group, groups, trees, type-at, ctor-of, body-of, dtype-of, program}
-use Rattle.meaning.specs.Rows.{line-at, count-of, count-before, zeros-from, good-head, good-numbers}
+use Rattle.model.specs.Cty.{TUnit}
+use Rattle.model.specs.Decl.{TVariant, has-flag, close-body, close-fields}
+use Rattle.model.specs.Erasure.{marked, fields-erased, body-erased, dtype-erased, rule-of, rule}
+use Rattle.meaning.specs.Program.{name-line, type-line, import-line, param-line, ctor-line, field-line, is, select, Group, groups, trees, ctor-of, body-of, dtype-of, program}
+use Rattle.meaning.specs.Rows.{line-at, count-of, zeros-from, good-head, good-numbers}
 use Rattle.meaning.specs.Laws.Program.{select-append, head-cases}
 use Rattle.model_laws.specs.Rounds.{cases-eq}
 use Rattle.limits.specs.Limits.{start, counts-of}
-use Rattle.limits.specs.LimitsLaws.{short-bytes}
 use Rattle.header.specs.OrderLaws.{count-of-le}
-use Rattle.refusals.specs.Rows.{Passed}
-use Rattle.refusals.specs.RowsLaws.{passed-kept}
+use Rattle.declared.specs.Passed.{Passed}
+use Rattle.declared.specs.PassedLaws.{passed-kept}
 use Rattle.tables.specs.Tables.{nth, group, head-line, decls-of, first-of}
-use Rattle.declared.specs.LineLaws.{Stands, stands, good-line}
+use Rattle.declared.specs.LineLaws.{stands, good-line}
 use Rattle.declared.specs.DeclLaws.{line-inside, line-of-head, group-is, first-next, nth-in, dtype-is, origin-local, whole-at}
 use Rattle.declared.specs.BodyLaws.{close-erased, closed, fields-all, fields-some, length-groups-of, fields-of, ctor-fields}
 use Rattle.marks.specs.Marks.{marks-of, type-erased, Marks}
 use Rattle.marks.specs.MarksLaws.{bit-zero, bit-set}
-use Rattle.bodies.specs.declared.Ruled.{Ruled}
 use Rattle.bodies.specs.declared.Field.{Field}
 use Rattle.bodies.specs.Bodies.{Higher, kind-of, last-of, field-type, Below, decl-erased, Erased, ByFields, ByType, ByBody, Way, Found, Places, State, Ruling}
 
 -- ---- fields
 -- a field's type is a type
-pub field-types : (b : List ℕ) → Passed b → (f : ℕ) → f < count-of field-line (lines 6 b) → field-type (lines 6 b) f < count-of type-line (lines 6 b)
+pub field-types : (ls : List Line) → Passed ls → (f : ℕ) → f < count-of field-line ls → field-type ls f < count-of type-line ls
 unfolding good-numbers
-field-types b p f h =
-    let r = stands field-line (lines 6 b) f h in
-    let l : Line = line-at (lines 6 b) (r .place) in
+field-types ls p f h =
+    let r = stands field-line ls f h in
+    let l : Line = line-at ls (r .place) in
     let e : letter l ≡ 70 = eqb-true (letter l) 70 (r .lettered) in
-    let g : (ltb (number l 0) (count-of name-line (lines 6 b)) && ltb (number l 1) (count-of type-line (lines 6 b)) && zeros-from 3 l) ≡ true = rw e at (good-line b p (r .place) (r .inside)) in
-    let k = both (ltb (number l 0) (count-of name-line (lines 6 b)) && ltb (number l 1) (count-of type-line (lines 6 b))) (zeros-from 3 l) g in
-    let m = both (ltb (number l 0) (count-of name-line (lines 6 b))) (ltb (number l 1) (count-of type-line (lines 6 b))) (k .0) in
-    rw (r .same) (ltb-true (number l 1) (count-of type-line (lines 6 b)) (m .1))
+    let g : (ltb (number l 0) (count-of name-line ls) && ltb (number l 1) (count-of type-line ls) && zeros-from 3 l) ≡ true = rw e at (good-line ls p (r .place) (r .inside)) in
+    let k = both (ltb (number l 0) (count-of name-line ls) && ltb (number l 1) (count-of type-line ls)) (zeros-from 3 l) g in
+    let m = both (ltb (number l 0) (count-of name-line ls)) (ltb (number l 1) (count-of type-line ls)) (k .0) in
+    rw (r .same) (ltb-true (number l 1) (count-of type-line ls) (m .1))
 
 -- no more lines of a letter before a declaration than there are
 pub first-le : (x : ℕ) (ls : List Line) (d : ℕ) → first-of x ls d ≤ count-of x ls
@@ -56,10 +51,10 @@ first-le x ls d =
     let e : select x ls ≡ select x (take i ls) ++ select x (drop i ls) = ap (select x) (sym (take-append-drop i ls)) ∙ select-append x (take i ls) (drop i ls) in
     omega (arith, ap length e, length-append (select x (take i ls)) (select x (drop i ls)))
 
-pub below-of : (b : List ℕ) → Passed b → (d : ℕ) → Below (lines 6 b) (first-of field-line (lines 6 b) d)
-below-of b p d =
-    let h = first-le field-line (lines 6 b) d in
-    record { fields = h; types = λ f l. field-types b p f (omega arith) }
+pub below-of : (ls : List Line) → Passed ls → (d : ℕ) → Below ls (first-of field-line ls d)
+below-of ls p d =
+    let h = first-le field-line ls d in
+    record { fields = h; types = λ f l. field-types ls p f (omega arith) }
 
 pub first-rises : (ls : List Line) (d : ℕ) → d < decls-of ls → first-of field-line ls d ≤ first-of field-line ls (suc d)
 first-rises ls d h = omega (arith, first-next ls d h field-line refl refl)
@@ -69,128 +64,128 @@ good-last : (names types : ℕ) (l : Line) → good-head names types l ≡ true 
 unfolding good-head
 good-last names types l g e = ltb-true (number l 4) types (both (ltb (number l 0) names && leb (number l 1) 31) (ltb (number l 4) types) (rw e at g) .1)
 
-good-head-at : (b : List ℕ) → Passed b → (d : ℕ) → d < decls-of (lines 6 b) → good-head (count-of name-line (lines 6 b)) (count-of type-line (lines 6 b)) (line-at (lines 6 b) (start (lines 6 b) d)) ≡ true
+good-head-at : (ls : List Line) → Passed ls → (d : ℕ) → d < decls-of ls → good-head (count-of name-line ls) (count-of type-line ls) (line-at ls (start ls d)) ≡ true
 unfolding good-numbers
-good-head-at b p d h =
-    let l : Line = line-at (lines 6 b) (start (lines 6 b) d) in
-    let g = good-line b p (start (lines 6 b) d) (line-inside (lines 6 b) d h) in
-    ⊎-elim (λ (q : letter l ≡ 68). rw q at g) (λ (q : letter l ≡ 73). rw q at g) (head-cases l (line-of-head (lines 6 b) d h))
+good-head-at ls p d h =
+    let l : Line = line-at ls (start ls d) in
+    let g = good-line ls p (start ls d) (line-inside ls d h) in
+    ⊎-elim (λ (q : letter l ≡ 68). rw q at g) (λ (q : letter l ≡ 73). rw q at g) (head-cases l (line-of-head ls d h))
 
-pub last-types : (b : List ℕ) → Passed b → (d : ℕ) → d < decls-of (lines 6 b) → kind-of (lines 6 b) d ≡ 1 → last-of (lines 6 b) d < count-of type-line (lines 6 b)
-last-types b p d h k =
-    let m : head-line (lines 6 b) d ≡ line-at (lines 6 b) (start (lines 6 b) d) = ap (λ (g : Group). g .head) (group-is (lines 6 b) d h) in
-    rw (← m) at (good-last (count-of name-line (lines 6 b)) (count-of type-line (lines 6 b)) (line-at (lines 6 b) (start (lines 6 b) d)) (good-head-at b p d h) (rw m at k))
+pub last-types : (ls : List Line) → Passed ls → (d : ℕ) → d < decls-of ls → kind-of ls d ≡ 1 → last-of ls d < count-of type-line ls
+last-types ls p d h k =
+    let m : head-line ls d ≡ line-at ls (start ls d) = ap (λ (g : Group). g .head) (group-is ls d h) in
+    rw (← m) at (good-last (count-of name-line ls) (count-of type-line ls) (line-at ls (start ls d)) (good-head-at ls p d h) (rw m at k))
 
 -- ---- the limits
-pub fields-few : (b : List ℕ) → Passed b → count-of field-line (lines 6 b) ≤ 2048
-fields-few b p = omega (arith, count-of-le field-line (lines 6 b), length-lines 6 b, short-bytes b (p .short))
+pub fields-few : (ls : List Line) → Passed ls → count-of field-line ls ≤ 2048
+fields-few ls p = omega (arith, count-of-le field-line ls, p .few)
 
-pub types-few : (b : List ℕ) → Passed b → count-of type-line (lines 6 b) ≤ 1024
+pub types-few : (ls : List Line) → Passed ls → count-of type-line ls ≤ 1024
 unfolding counts-of
-types-few b p = passed-kept b p .types
+types-few ls p = passed-kept ls p .types
 
 -- ---- a local declaration
-module _ (b : List ℕ) (p : Passed b) (d : ℕ) (h : d < decls-of (lines 6 b)) where
+module _ (ls : List Line) (p : Passed ls) (d : ℕ) (h : d < decls-of ls) where
   er : List Bool → ℕ → Bool
-  er m = marked (program (lines 6 b)) m
+  er m = marked (program ls) m
 
-  module _ (loc : is import-line (head-line (lines 6 b) d) ≡ false) where
-    decl-is : (m : List Bool) → decl-erased (lines 6 b) m d ≡ dtype-erased (er m) (close-fields (dtype-of (trees (lines 6 b)) (group (lines 6 b) d)))
+  module _ (loc : is import-line (head-line ls d) ≡ false) where
+    decl-is : (m : List Bool) → decl-erased ls m d ≡ dtype-erased (er m) (close-fields (dtype-of (trees ls) (group ls d)))
     unfolding rule rule-of er
-    decl-is m = rw (origin-local (lines 6 b) d h loc, dtype-is (lines 6 b) d h)
+    decl-is m = rw (origin-local ls d h loc, dtype-is ls d h)
 
-    pub by-flag : number (head-line (lines 6 b) d) 1 % 2 ≡ 1 → (m : List Bool) → decl-erased (lines 6 b) m d ≡ true
+    pub by-flag : number (head-line ls d) 1 % 2 ≡ 1 → (m : List Bool) → decl-erased ls m d ≡ true
     unfolding dtype-erased has-flag close-fields dtype-of
-    by-flag e m = let q : number (head-line (lines 6 b) d) 1 / 1 % 2 ≡ 1 = omega arith in decl-is m ∙ rw q
+    by-flag e m = let q : number (head-line ls d) 1 / 1 % 2 ≡ 1 = omega arith in decl-is m ∙ rw q
 
-    pub by-realized : (number (head-line (lines 6 b) d) 1 % 2 ≡ 1 → ⊥) → number (head-line (lines 6 b) d) 1 / 2 % 2 ≡ 1 → (m : List Bool) → decl-erased (lines 6 b) m d ≡ false
+    pub by-realized : (number (head-line ls d) 1 % 2 ≡ 1 → ⊥) → number (head-line ls d) 1 / 2 % 2 ≡ 1 → (m : List Bool) → decl-erased ls m d ≡ false
     unfolding dtype-erased has-flag close-fields dtype-of
     by-realized n e m =
-        let q : eqb (number (head-line (lines 6 b) d) 1 / 1 % 2) 1 ≡ false = ne-eqb (number (head-line (lines 6 b) d) 1 / 1 % 2) 1 (λ z. n (omega arith)) in
+        let q : eqb (number (head-line ls d) 1 / 1 % 2) 1 ≡ false = ne-eqb (number (head-line ls d) 1 / 1 % 2) 1 (λ z. n (omega arith)) in
         decl-is m ∙ rw (q, e)
 
-    pub by-body : (number (head-line (lines 6 b) d) 1 % 2 ≡ 1 → ⊥) → (number (head-line (lines 6 b) d) 1 / 2 % 2 ≡ 1 → ⊥) → ByBody (lines 6 b) d
+    pub by-body : (number (head-line ls d) 1 % 2 ≡ 1 → ⊥) → (number (head-line ls d) 1 / 2 % 2 ≡ 1 → ⊥) → ByBody ls d
     unfolding dtype-erased has-flag close-fields dtype-of er
     by-body n k =
         record {
           by =
               λ m.
-              let q : eqb (number (head-line (lines 6 b) d) 1 / 1 % 2) 1 ≡ false = ne-eqb (number (head-line (lines 6 b) d) 1 / 1 % 2) 1 (λ z. n (omega arith)) in
-              decl-is m ∙ rw (q, ne-eqb (number (head-line (lines 6 b) d) 1 / 2 % 2) 1 k);
+              let q : eqb (number (head-line ls d) 1 / 1 % 2) 1 ≡ false = ne-eqb (number (head-line ls d) 1 / 1 % 2) 1 (λ z. n (omega arith)) in
+              decl-is m ∙ rw (q, ne-eqb (number (head-line ls d) 1 / 2 % 2) 1 k);
         }
 
   -- ---- by the body
   -- its parameters
   ps : List ℕ
-  ps = map (λ l. number l 0) (select param-line (group (lines 6 b) d .rest))
+  ps = map (λ l. number l 0) (select param-line (group ls d .rest))
 
   -- erased as fields are, where these are the declaration's F lines
-  by-list : (fl : List Line) → select field-line (group (lines 6 b) d .rest) ≡ fl
-      → ((m : List Bool) → decl-erased (lines 6 b) m d ≡ fields-erased (er m) (closed (er m) ps (trees (lines 6 b)) fl)) → ByFields (lines 6 b) d
+  by-list : (fl : List Line) → select field-line (group ls d .rest) ≡ fl
+      → ((m : List Bool) → decl-erased ls m d ≡ fields-erased (er m) (closed (er m) ps (trees ls) fl)) → ByFields ls d
   unfolding type-erased er
   by-list fl q f =
-      let n : length fl ≡ count-of field-line (group (lines 6 b) d .rest) = ap length (sym q) in
-      let e = first-next (lines 6 b) d h field-line refl refl in
-      let at : (j : ℕ) → j < length fl → getD fl j bad ≡ nth field-line (lines 6 b) (first-of field-line (lines 6 b) d + j) = λ j l. ap (λ (r : List Line). getD r j bad) (sym q) ∙ sym (nth-in (lines 6 b) d h field-line refl refl j (omega arith)) in
+      let n : length fl ≡ count-of field-line (group ls d .rest) = ap length (sym q) in
+      let e = first-next ls d h field-line refl refl in
+      let at : (j : ℕ) → j < length fl → getD fl j bad ≡ nth field-line ls (first-of field-line ls d + j) = λ j l. ap (λ (r : List Line). getD r j bad) (sym q) ∙ sym (nth-in ls d h field-line refl refl j (omega arith)) in
       record {
-        all = λ m a. f m ∙ fields-all (er m) ps (trees (lines 6 b)) fl (λ j l. rw (at j l) (a (first-of field-line (lines 6 b) d + j) (omega arith) (omega arith)));
+        all = λ m a. f m ∙ fields-all (er m) ps (trees ls) fl (λ j l. rw (at j l) (a (first-of field-line ls d + j) (omega arith) (omega arith)));
         some =
             λ m i lo hi k.
-            let j : ℕ = i - first-of field-line (lines 6 b) d in
-            let w : first-of field-line (lines 6 b) d + (i - first-of field-line (lines 6 b) d) ≡ i = omega arith in
+            let j : ℕ = i - first-of field-line ls d in
+            let w : first-of field-line ls d + (i - first-of field-line ls d) ≡ i = omega arith in
             let l : j < length fl = omega arith in
-            f m ∙ fields-some (er m) ps (trees (lines 6 b)) fl j l (rw (at j l, w) k);
+            f m ∙ fields-some (er m) ps (trees ls) fl j l (rw (at j l, w) k);
       }
 
-  module _ (y : ByBody (lines 6 b) d) where
-    pub by-abbrev : number (head-line (lines 6 b) d) 2 ≡ 1 → ByType (lines 6 b) d
+  module _ (y : ByBody ls d) where
+    pub by-abbrev : number (head-line ls d) 2 ≡ 1 → ByType ls d
     unfolding body-of close-body body-erased type-erased er ps
-    by-abbrev e = record { by = λ m. y .by m ∙ rw e (close-erased (er m) ps (getD (trees (lines 6 b)) (number (head-line (lines 6 b) d) 4) TUnit)) }
+    by-abbrev e = record { by = λ m. y .by m ∙ rw e (close-erased (er m) ps (getD (trees ls) (number (head-line ls d) 4) TUnit)) }
 
-    pub by-record : number (head-line (lines 6 b) d) 2 ≡ 2 → ByFields (lines 6 b) d
+    pub by-record : number (head-line ls d) 2 ≡ 2 → ByFields ls d
     unfolding body-of close-body body-erased er ps
-    by-record e = by-list (select field-line (group (lines 6 b) d .rest)) refl (λ m. y .by m ∙ rw e)
+    by-record e = by-list (select field-line (group ls d .rest)) refl (λ m. y .by m ∙ rw e)
 
-    pub by-abstract : (number (head-line (lines 6 b) d) 2 ≡ 1 → ⊥) → (number (head-line (lines 6 b) d) 2 ≡ 2 → ⊥) → (number (head-line (lines 6 b) d) 2 ≡ 3 → ⊥) → (m : List Bool) → decl-erased (lines 6 b) m d ≡ false
+    pub by-abstract : (number (head-line ls d) 2 ≡ 1 → ⊥) → (number (head-line ls d) 2 ≡ 2 → ⊥) → (number (head-line ls d) 2 ≡ 3 → ⊥) → (m : List Bool) → decl-erased ls m d ≡ false
     unfolding body-of close-body body-erased
-    by-abstract n1 n2 n3 m = y .by m ∙ rw (ne-eqb (number (head-line (lines 6 b) d) 2) 1 n1, ne-eqb (number (head-line (lines 6 b) d) 2) 2 n2, ne-eqb (number (head-line (lines 6 b) d) 2) 3 n3)
+    by-abstract n1 n2 n3 m = y .by m ∙ rw (ne-eqb (number (head-line ls d) 2) 1 n1, ne-eqb (number (head-line ls d) 2) 2 n2, ne-eqb (number (head-line ls d) 2) 3 n3)
 
-    module _ (e : number (head-line (lines 6 b) d) 2 ≡ 3) where
-      counts : length (groups (is ctor-line) (group (lines 6 b) d .rest)) ≡ number (head-line (lines 6 b) d) 4
-      counts = length-groups-of ctor-line (group (lines 6 b) d .rest) ∙ whole-at b p d h .ctors e
+    module _ (e : number (head-line ls d) 2 ≡ 3) where
+      counts : length (groups (is ctor-line) (group ls d .rest)) ≡ number (head-line ls d) 4
+      counts = length-groups-of ctor-line (group ls d .rest) ∙ whole-at ls p d h .ctors e
 
       -- by the constructors
-      variant : (m : List Bool) (gs : List Group) → groups (is ctor-line) (group (lines 6 b) d .rest) ≡ gs
-          → decl-erased (lines 6 b) m d ≡ body-erased (er m) (close-body ps (TVariant (map (ctor-of (trees (lines 6 b))) gs)))
+      variant : (m : List Bool) (gs : List Group) → groups (is ctor-line) (group ls d .rest) ≡ gs
+          → decl-erased ls m d ≡ body-erased (er m) (close-body ps (TVariant (map (ctor-of (trees ls)) gs)))
       unfolding body-of er ps
       variant m gs q = y .by m ∙ rw (e, q)
 
-      pub by-none : number (head-line (lines 6 b) d) 4 ≡ 0 → (m : List Bool) → decl-erased (lines 6 b) m d ≡ true
+      pub by-none : number (head-line ls d) 4 ≡ 0 → (m : List Bool) → decl-erased ls m d ≡ true
       unfolding close-body body-erased
-      by-none z m = go (groups (is ctor-line) (group (lines 6 b) d .rest)) refl
+      by-none z m = go (groups (is ctor-line) (group ls d .rest)) refl
         where
-          go : (gs : List Group) → groups (is ctor-line) (group (lines 6 b) d .rest) ≡ gs → decl-erased (lines 6 b) m d ≡ true
+          go : (gs : List Group) → groups (is ctor-line) (group ls d .rest) ≡ gs → decl-erased ls m d ≡ true
           go [] q = variant m [] q
           go (c ∷ gs) q = absurd (omega (arith, counts, ap length q))
 
-      pub by-several : (number (head-line (lines 6 b) d) 4 ≡ 0 → ⊥) → (number (head-line (lines 6 b) d) 4 ≡ 1 → ⊥) → (m : List Bool) → decl-erased (lines 6 b) m d ≡ false
+      pub by-several : (number (head-line ls d) 4 ≡ 0 → ⊥) → (number (head-line ls d) 4 ≡ 1 → ⊥) → (m : List Bool) → decl-erased ls m d ≡ false
       unfolding close-body body-erased
-      by-several n0 n1 m = go (groups (is ctor-line) (group (lines 6 b) d .rest)) refl
+      by-several n0 n1 m = go (groups (is ctor-line) (group ls d .rest)) refl
         where
-          go : (gs : List Group) → groups (is ctor-line) (group (lines 6 b) d .rest) ≡ gs → decl-erased (lines 6 b) m d ≡ false
+          go : (gs : List Group) → groups (is ctor-line) (group ls d .rest) ≡ gs → decl-erased ls m d ≡ false
           go [] q = absurd (n0 (sym counts ∙ ap length q))
           go (c ∷ []) q = absurd (n1 (sym counts ∙ ap length q))
           go (c ∷ k ∷ gs) q = variant m (c ∷ k ∷ gs) q
 
-      pub by-one : number (head-line (lines 6 b) d) 4 ≡ 1 → ByFields (lines 6 b) d
+      pub by-one : number (head-line ls d) 4 ≡ 1 → ByFields ls d
       unfolding close-body body-erased ctor-of fields-of
-      by-one z = go (groups (is ctor-line) (group (lines 6 b) d .rest)) refl
+      by-one z = go (groups (is ctor-line) (group ls d .rest)) refl
         where
-          go : (gs : List Group) → groups (is ctor-line) (group (lines 6 b) d .rest) ≡ gs → ByFields (lines 6 b) d
+          go : (gs : List Group) → groups (is ctor-line) (group ls d .rest) ≡ gs → ByFields ls d
           go [] q = absurd (omega (arith, counts, ap length q))
           go (c ∷ []) q =
               by-list (select field-line (c .rest))
-              (ctor-fields (group (lines 6 b) d .rest) (whole-at b p d h .ctors-first e) ∙ rw q (append-nil (select field-line (c .rest))))
+              (ctor-fields (group ls d .rest) (whole-at ls p d h .ctors-first e) ∙ rw q (append-nil (select field-line (c .rest))))
               (λ m. variant m (c ∷ []) q)
           go (c ∷ k ∷ gs) q = absurd (omega (arith, counts, ap length q))
 

@@ -1,25 +1,23 @@
 -- Laws for the tests of a call: its count of parameters, the head of its instance, its surplus. Assumes nothing.
 use mathlib.Core.Path.{_≡_, refl, ap, ap₂, sym, _∙_}
-use mathlib.Core.List.{List, [], _∷_, _++_, append-nil, append-assoc}
+use mathlib.Core.List.{List}
 use mathlib.Core.Bool.{Bool, true, false}
 use Prim.Native.Nat.{ℕ, zero, suc, _+_, _-_, _%_, _≤_, _<_}
 use native.Mathlib.Omega.{arith}
-use native.Mathlib.Numerals.{add-one}
 use lib.Dec.{eqb, ltb}
 use lib.ListN.{length, getD, set}
-use borrow.Author.Tests.{eqb-true, eqb-false, eq-eqb, ne-eqb, lt-ltb, ltb-true}
+use borrow.Author.Tests.{eq-eqb, ne-eqb, lt-ltb, ltb-true}
 use Rattle.sheet.specs.Line.{Line, number}
-use Rattle.sheet.specs.Sheet.{lines}
-use Rattle.model.specs.Cty.{Cty, TVar, TApp}
+use Rattle.model.specs.Cty.{Cty, TVar}
 use Rattle.meaning.specs.Program.{param-line, type-line}
 use Rattle.meaning.specs.Rows.{count-of}
-use Rattle.refusals.specs.Rows.{Passed}
+use Rattle.declared.specs.Passed.{Passed}
 use Rattle.tables.specs.Tables.{first-of}
-use Rattle.outcomes.specs.Outcome.{other, app, head, argument, instance-head, counted, fits}
+use Rattle.outcomes.specs.Outcome.{app, head, argument, instance-head, counted, fits}
 use Rattle.outcomes.specs.Scratch.{part, Same}
 use Rattle.outcomes.specs.Laws.Answer.{head-plain}
 use Rattle.outcomes.specs.Laws.Call.{unfolded}
-use Rattle.outcomes.specs.Laws.Scratch.{part-none, part-last, part-set, part-length, part-same, part-get, same-refl, same-sym, same-get, same-trans, same-set}
+use Rattle.outcomes.specs.Laws.Scratch.{part-none, part-last, part-set, same-refl, same-sym, same-get, same-trans, same-set}
 use Rattle.kids.specs.Nodes.{y-line, kind-of, type-of}
 use Rattle.kids.specs.NodesLaws.{var-type, app-type, plain-type}
 use Rattle.arguments.specs.Params.{params-from, params-of}
@@ -29,30 +27,27 @@ unfolding params-from
 params-length ls p zero = refl
 params-length ls p (suc n) = ap suc (params-length ls (suc p) n)
 
-pub counted-of : (b : List ℕ) (d first end r : ℕ) → first ≡ first-of param-line (lines 6 b) d → end ≡ first-of param-line (lines 6 b) (d + 1) → r ≡ end - first → r ≡ length (params-of (lines 6 b) d)
-counted-of b d first end r e f q =
-    q ∙ (ap₂ (λ (m n : ℕ). n - m) e f ∙ sym (params-length (lines 6 b) (first-of param-line (lines 6 b) d) (first-of param-line (lines 6 b) (d + 1) - first-of param-line (lines 6 b) d)))
+pub counted-of : (ls : List Line) (d first end r : ℕ) → first ≡ first-of param-line ls d → end ≡ first-of param-line ls (d + 1) → r ≡ end - first → r ≡ length (params-of ls d)
+counted-of ls d first end r e f q =
+    q ∙ (ap₂ (λ (m n : ℕ). n - m) e f ∙ sym (params-length ls (first-of param-line ls d) (first-of param-line ls (d + 1) - first-of param-line ls d)))
 
 -- ---- the head of an instance
 head-var : (ps os : List ℕ) (v : ℕ) → instance-head ps os (TVar v) ≡ argument ps os v % 4
 unfolding instance-head head
 head-var ps os v = refl
 
-module _ (b : List ℕ) (passed : Passed b) (ps os : List ℕ) (y : ℕ) (h : y < count-of type-line (lines 6 b)) where
-  abbrev ls : List Line
-  ls = lines 6 b
-
+module _ (ls : List Line) (passed : Passed ls) (ps os : List ℕ) (y : ℕ) (h : y < count-of type-line ls) where
   pub takes-app : kind-of ls y ≡ 8 → true ≡ eqb (instance-head ps os (type-of ls y)) app
   unfolding instance-head
-  takes-app k = sym (ap (λ (c : Cty). eqb (instance-head ps os c) app) (app-type b passed y h k))
+  takes-app k = sym (ap (λ (c : Cty). eqb (instance-head ps os c) app) (app-type ls passed y h k))
 
   pub takes-var : (v r : ℕ) → kind-of ls y ≡ 3 → v ≡ number (y-line ls y) 1 → r ≡ argument ps os v → eqb (r % 4) 1 ≡ eqb (instance-head ps os (type-of ls y)) app
   takes-var v r k e a =
       ap (λ (n : ℕ). eqb (n % 4) 1) (a ∙ ap (argument ps os) e)
-      ∙ sym (ap (λ (n : ℕ). eqb n app) (ap (instance-head ps os) (var-type b passed y h k) ∙ head-var ps os (number (y-line ls y) 1)))
+      ∙ sym (ap (λ (n : ℕ). eqb n app) (ap (instance-head ps os) (var-type ls passed y h k) ∙ head-var ps os (number (y-line ls y) 1)))
 
   pub takes-none : (kind-of ls y ≡ 3 → ⊥) → (kind-of ls y ≡ 8 → ⊥) → false ≡ eqb (instance-head ps os (type-of ls y)) app
-  takes-none m n = sym (ap (λ (x : ℕ). eqb x app) (head-plain ps os (type-of ls y) (plain-type b passed y h m n .is-plain)))
+  takes-none m n = sym (ap (λ (x : ℕ). eqb x app) (head-plain ps os (type-of ls y) (plain-type ls passed y h m n .is-plain)))
 
 -- ---- the counts
 module _ (ps os : List ℕ) (c : Cty) where

@@ -2,9 +2,8 @@
 ghost use mathlib.Core.Path.{_≡_};
 ghost use mathlib.Core.Bool.{true, false};
 ghost use Prim.Native.Nat.{_+_, _-_, _≤_, _<_};
-ghost use lib.Dec.{eqb, leb};
+ghost use lib.Dec.{eqb};
 ghost use lib.ListN.{length};
-ghost use Rattle.sheet.specs.Sheet as sheet;
 ghost use Rattle.meaning.specs.Program as program;
 ghost use Rattle.meaning.specs.Rows as rows;
 ghost use Rattle.tables.specs.Tables as tables;
@@ -16,12 +15,12 @@ ghost use Rattle.arguments.specs.Params as params;
 ghost use Rattle.calls.specs.CallsLaws.{Copy};
 
 // How many parameters declaration d has.
-pub fn params(s: &[u8], t: &[u32], d: usize) -> usize
-    requires { ⌜ tables.Tabled (now s) (now t) × (d < tables.decls-of (sheet.lines 6 (now s))) ⌝ }
-    ensures { λ r. ⌜ r ≡ length (params.params-of (sheet.lines 6 (now (s .entry))) d) ⌝ }
+pub fn params(t: &[u32], d: usize) -> usize
+    requires { ⌜ tables.Tabled (now t) × (d < tables.decls-of (tables.lines-in (now t))) ⌝ }
+    ensures { λ r. ⌜ r ≡ length (params.params-of (tables.lines-in (now (t .entry))) d) ⌝ }
 {
-    let first = tables::first_param(s, t, d);
-    let end = tables::first_param(s, t, d + 1);
+    let first = tables::first_param(t, d);
+    let end = tables::first_param(t, d + 1);
     if end < first {
         return 0;
     }
@@ -29,18 +28,18 @@ pub fn params(s: &[u8], t: &[u32], d: usize) -> usize
 }
 
 // The instance of Y line y's type takes a surplus: it is a `TApp`.
-fn takes(s: &[u8], t: &[u32], y: usize, d: usize, out: &[u16], at: usize, count: usize) -> bool
-    requires { ⌜ tables.Tabled (now s) (now t) × (y < rows.count-of program.type-line (sheet.lines 6 (now s))) ⌝ }
-    requires { ⌜ (d < tables.decls-of (sheet.lines 6 (now s))) × (at + count ≤ length (now out)) ⌝ }
-    ensures { λ r. ⌜ r ≡ eqb (outcome.instance-head (params.params-of (sheet.lines 6 (now (s .entry))) d) (scratch.part at count (now (out .entry))) (nodes.type-of (sheet.lines 6 (now (s .entry))) y)) 1 ⌝ }
+fn takes(t: &[u32], y: usize, d: usize, out: &[u16], at: usize, count: usize) -> bool
+    requires { ⌜ tables.Tabled (now t) × (y < rows.count-of program.type-line (tables.lines-in (now t))) ⌝ }
+    requires { ⌜ (d < tables.decls-of (tables.lines-in (now t))) × (at + count ≤ length (now out)) ⌝ }
+    ensures { λ r. ⌜ r ≡ eqb (outcome.instance-head (params.params-of (tables.lines-in (now (t .entry))) d) (scratch.part at count (now (out .entry))) (nodes.type-of (tables.lines-in (now (t .entry))) y)) 1 ⌝ }
 {
-    let kind = tables::type_number(s, t, y, 0);
+    let kind = tables::type_number(t, y, 0);
     if kind == 8 {
         return true;
     }
     if kind == 3 {
-        let v = tables::type_number(s, t, y, 1) as usize;
-        return arguments::argument(s, t, d, out, at, count, v) % 4 == 1;
+        let v = tables::type_number(t, y, 1) as usize;
+        return arguments::argument(t, d, out, at, count, v) % 4 == 1;
     }
     false
 }
@@ -48,7 +47,6 @@ fn takes(s: &[u8], t: &[u32], y: usize, d: usize, out: &[u16], at: usize, count:
 // Row 9: declaration d, a newtype or an abbreviation of Y line y's type, takes the `count`
 // arguments from place `at` on.
 pub fn fits(
-    s: &[u8],
     t: &[u32],
     newtype: bool,
     y: usize,
@@ -57,11 +55,11 @@ pub fn fits(
     at: usize,
     count: usize,
 ) -> bool
-    requires { ⌜ tables.Tabled (now s) (now t) × (y < rows.count-of program.type-line (sheet.lines 6 (now s))) ⌝ }
-    requires { ⌜ (d < tables.decls-of (sheet.lines 6 (now s))) × (at + count ≤ length (now out)) ⌝ }
-    ensures { λ r. ⌜ r ≡ outcome.fits (scratch.part at count (now (out .entry))) (call.unfolded newtype (params.params-of (sheet.lines 6 (now (s .entry))) d) (nodes.type-of (sheet.lines 6 (now (s .entry))) y)) ⌝ }
+    requires { ⌜ tables.Tabled (now t) × (y < rows.count-of program.type-line (tables.lines-in (now t))) ⌝ }
+    requires { ⌜ (d < tables.decls-of (tables.lines-in (now t))) × (at + count ≤ length (now out)) ⌝ }
+    ensures { λ r. ⌜ r ≡ outcome.fits (scratch.part at count (now (out .entry))) (call.unfolded newtype (params.params-of (tables.lines-in (now (t .entry))) d) (nodes.type-of (tables.lines-in (now (t .entry))) y)) ⌝ }
 {
-    let n = params(s, t, d);
+    let n = params(t, d);
     if count == n {
         return true;
     }
@@ -71,7 +69,7 @@ pub fn fits(
     if count < n {
         return false;
     }
-    takes(s, t, y, d, out, at, count)
+    takes(t, y, d, out, at, count)
 }
 
 // Copies n outcomes to a later place, if there is room.

@@ -11,7 +11,6 @@ use lib.Seq.{getD-set-same, getD-set-other}
 use borrow.Author.Tests.{ne-eqb, lt-ltb, le-ltb}
 use Rattle.columns.specs.Column.{pick}
 use Rattle.sheet.specs.Line.{Line, number}
-use Rattle.sheet.specs.Sheet.{lines}
 use Rattle.model.specs.Decl.{close, close-fields, has-flag, NoNewtype, NewtypeLayout, dtype-at}
 use Rattle.model.specs.Erasure.{erasure-fixpoint, marked}
 use Rattle.model.specs.Layout.{candidate, newtype-of, payload}
@@ -20,7 +19,7 @@ use Rattle.model_laws.specs.Rounds.{cases-eq}
 use Rattle.meaning.specs.Program.{type-line, field-line, import-line, is, dtype-of, program}
 use Rattle.meaning.specs.Rows.{count-of}
 use Rattle.meaning.specs.Laws.Program.{length-program}
-use Rattle.refusals.specs.Rows.{Passed}
+use Rattle.declared.specs.Passed.{Passed}
 use Rattle.tables.specs.Tables.{head-line, decls-of}
 use Rattle.declared.specs.DeclLaws.{dtype-is, origin-local, origin-import}
 use Rattle.marks.specs.Marks.{marks-of}
@@ -29,13 +28,13 @@ use Rattle.kids.specs.Nodes.{type-of}
 use Rattle.arguments.specs.Params.{params-of}
 use Rattle.kept.specs.Kept.{ctors-of-decl, ctors-at, field-type}
 use Rattle.layouts.specs.Layouts.{newtype-told}
-use Rattle.bodies.specs.BodiesLaws as bodies
 use Rattle.payloads.specs.Payloads.{Payload}
 use Rattle.payloads.specs.PayloadsLaws.{close-uninline}
 use Rattle.newtypes.specs.declared.Only.{Only}
 use Rattle.newtypes.specs.declared.Only.the-variants.{Field, Nothing}
 use Rattle.newtypes.specs.Newtypes.{only-told}
 use Rattle.candidates.specs.Candidates.{candidate-of, Sole, no-field, number-of, field-told, body-told, Body, Candidate, Partly, Candidates}
+use Rattle.bodies.specs.BodiesLaws as bodies
 
 -- ---- declaration d
 module _ (ls : List Line) (d : ℕ) (h : d < decls-of ls) where
@@ -70,49 +69,49 @@ module _ (ls : List Line) (d : ℕ) (h : d < decls-of ls) where
         go false o = refl
 
 -- ---- by numbers
-pub fields-few : (b : List ℕ) → Passed b → count-of field-line (lines 6 b) < no-field
-fields-few b p = omega (arith, bodies.fields-few b p)
+pub fields-few : (ls : List Line) → Passed ls → count-of field-line ls < no-field
+fields-few ls p = omega (arith, bodies.fields-few ls p)
 
-module _ (b : List ℕ) (p : Passed b) (d : ℕ) where
-  pub none-told : candidate-of (lines 6 b) d ≡ none → Candidate (lines 6 b) d no-field
+module _ (ls : List Line) (p : Passed ls) (d : ℕ) where
+  pub none-told : candidate-of ls d ≡ none → Candidate ls d no-field
   unfolding field-told
   none-told e =
-      let l = fields-few b p in
-      record { told = e ∙ rw (le-ltb no-field (count-of field-line (lines 6 b)) (omega arith)); named = λ n. absurd (n refl); one = λ h. absurd (omega arith) }
+      let l = fields-few ls p in
+      record { told = e ∙ rw (le-ltb no-field (count-of field-line ls) (omega arith)); named = λ n. absurd (n refl); one = λ h. absurd (omega arith) }
 
   -- where it may not collapse
-  pub kept-whole : (c : Bool) → c ≡ false → candidate-of (lines 6 b) d ≡ pick c (newtype-of (ctors-at (program (lines 6 b)) d)) none → Candidate (lines 6 b) d no-field
+  pub kept-whole : (c : Bool) → c ≡ false → candidate-of ls d ≡ pick c (newtype-of (ctors-at (program ls) d)) none → Candidate ls d no-field
   kept-whole c e q = none-told (q ∙ rw e)
 
   -- by the only kept field
-  pub only-told-by : (r : Only) (f : ℕ) → newtype-of (ctors-at (program (lines 6 b)) d) ≡ only-told (lines 6 b) d r → ((g : ℕ) → r ≡ Field g → Sole (lines 6 b) d g)
-      → candidate-of (lines 6 b) d ≡ newtype-of (ctors-at (program (lines 6 b)) d) → f ≡ number-of r → Candidate (lines 6 b) d f
+  pub only-told-by : (r : Only) (f : ℕ) → newtype-of (ctors-at (program ls) d) ≡ only-told ls d r → ((g : ℕ) → r ≡ Field g → Sole ls d g)
+      → candidate-of ls d ≡ newtype-of (ctors-at (program ls) d) → f ≡ number-of r → Candidate ls d f
   unfolding field-told only-told number-of
   only-told-by Nothing f e g q z = rw z (none-told (q ∙ e))
   only-told-by (Field x) f e g q z =
       rw z
       (let k = g x refl in
-      record { told = q ∙ e ∙ rw (lt-ltb x (count-of field-line (lines 6 b)) (k .0)); named = λ n. k .0; one = λ h. k .2 })
+      record { told = q ∙ e ∙ rw (lt-ltb x (count-of field-line ls) (k .0)); named = λ n. k .0; one = λ h. k .2 })
 
   -- the only kept field fits
-  pub only-small : (r : Only) → ((g : ℕ) → r ≡ Field g → Sole (lines 6 b) d g) → (f : ℕ) → r ≡ Field f → f < 65536
-  only-small r g f e = omega (arith, g f e .0, fields-few b p)
+  pub only-small : (r : Only) → ((g : ℕ) → r ≡ Field g → Sole ls d g) → (f : ℕ) → r ≡ Field f → f < 65536
+  only-small r g f e = omega (arith, g f e .0, fields-few ls p)
 
-module _ (b : List ℕ) (p : Passed b) (d f : ℕ) (c : Candidate (lines 6 b) d f) where
+module _ (ls : List Line) (p : Passed ls) (d f : ℕ) (c : Candidate ls d f) where
   -- the type that the guard goes on through
-  body-none : (y : ℕ) → f ≡ no-field → y ≡ count-of type-line (lines 6 b) → payload (candidate-of (lines 6 b) d) ≡ body-told (lines 6 b) d y
+  body-none : (y : ℕ) → f ≡ no-field → y ≡ count-of type-line ls → payload (candidate-of ls d) ≡ body-told ls d y
   unfolding field-told body-told payload
   body-none y e l =
-      let h = fields-few b p in
-      rw (c .told, le-ltb f (count-of field-line (lines 6 b)) (omega arith), le-ltb y (count-of type-line (lines 6 b)) (omega arith))
+      let h = fields-few ls p in
+      rw (c .told, le-ltb f (count-of field-line ls) (omega arith), le-ltb y (count-of type-line ls) (omega arith))
 
-  body-some : (y : ℕ) → (f ≡ no-field → ⊥) → Payload (lines 6 b) f y → payload (candidate-of (lines 6 b) d) ≡ body-told (lines 6 b) d y
+  body-some : (y : ℕ) → (f ≡ no-field → ⊥) → Payload ls f y → payload (candidate-of ls d) ≡ body-told ls d y
   unfolding field-told body-told payload newtype-told
   body-some y n q =
-      rw (c .told, lt-ltb f (count-of field-line (lines 6 b)) (c .named n), lt-ltb y (count-of type-line (lines 6 b)) (q .inside))
-      (ap some (sym (close-uninline (params-of (lines 6 b) d) (type-of (lines 6 b) (field-type (lines 6 b) f))) ∙ ap (close (params-of (lines 6 b) d)) (sym (q .type))))
+      rw (c .told, lt-ltb f (count-of field-line ls) (c .named n), lt-ltb y (count-of type-line ls) (q .inside))
+      (ap some (sym (close-uninline (params-of ls d) (type-of ls (field-type ls f))) ∙ ap (close (params-of ls d)) (sym (q .type))))
 
-  pub body-by : (y : ℕ) → Body (lines 6 b) f y → payload (candidate-of (lines 6 b) d) ≡ body-told (lines 6 b) d y
+  pub body-by : (y : ℕ) → Body ls f y → payload (candidate-of ls d) ≡ body-told ls d y
   body-by y k = cases-eq f no-field (λ e. body-none y e (k .none e)) (λ n. body-some y n (k .some n))
 
 -- ---- one declaration after the other

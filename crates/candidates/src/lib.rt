@@ -5,7 +5,6 @@ ghost use mathlib.Core.Option.{none};
 ghost use Prim.Native.Nat.{ℕ, _<_};
 ghost use lib.ListN.{length};
 ghost use Rattle.columns.specs.Column.{pick};
-ghost use Rattle.sheet.specs.Sheet as sheet;
 ghost use Rattle.model.specs.Layout as layout;
 ghost use Rattle.meaning.specs.Program as program;
 ghost use Rattle.meaning.specs.Rows as rows;
@@ -18,19 +17,19 @@ ghost use Rattle.candidates.specs.Candidates as candidates;
 pub const NONE: u16 = 65535;
 
 // Declaration d may collapse if it keeps one field: it is local, not erased and without `NoNewtype`.
-fn may_collapse(s: &[u8], t: &[u32], decl: &[u8], d: usize) -> bool
-    requires { ⌜ tables.Tabled (now s) (now t) ⌝ }
-    requires { ⌜ d < tables.decls-of (sheet.lines 6 (now s)) ⌝ }
-    requires { ⌜ candidates.Marked (sheet.lines 6 (now s)) (now decl) ⌝ }
-    ensures { λ r. ⌜ candidates.candidate-of (sheet.lines 6 (now (s .entry))) d ≡ pick r (layout.newtype-of (kept.ctors-at (program.program (sheet.lines 6 (now (s .entry)))) d)) none ⌝ }
+fn may_collapse(t: &[u32], decl: &[u8], d: usize) -> bool
+    requires { ⌜ tables.Tabled (now t) ⌝ }
+    requires { ⌜ d < tables.decls-of (tables.lines-in (now t)) ⌝ }
+    requires { ⌜ candidates.Marked (tables.lines-in (now t)) (now decl) ⌝ }
+    ensures { λ r. ⌜ candidates.candidate-of (tables.lines-in (now (t .entry))) d ≡ pick r (layout.newtype-of (kept.ctors-at (program.program (tables.lines-in (now (t .entry)))) d)) none ⌝ }
 {
-    if tables::is_import(s, t, d) {
+    if tables::is_import(t, d) {
         return false;
     }
     if decl[d] == 1 {
         return false;
     }
-    tables::decl_number(s, t, d, 1) / 4 % 2 != 1
+    tables::decl_number(t, d, 1) / 4 % 2 != 1
 }
 
 fn number(o: Only) -> u16
@@ -44,50 +43,43 @@ fn number(o: Only) -> u16
 }
 
 // The F line of declaration d's payload where it is a candidate, else none.
-fn candidate(s: &[u8], t: &[u32], decl: &[u8], keep: &[u8], d: usize) -> u16
-    requires { ⌜ tables.Tabled (now s) (now t) ⌝ }
-    requires { ⌜ d < tables.decls-of (sheet.lines 6 (now s)) ⌝ }
-    requires { ⌜ candidates.Ruled (sheet.lines 6 (now s)) (now decl) (now keep) ⌝ }
-    ensures { λ r. ⌜ candidates.Candidate (sheet.lines 6 (now (s .entry))) d r ⌝ }
+fn candidate(t: &[u32], decl: &[u8], keep: &[u8], d: usize) -> u16
+    requires { ⌜ tables.Tabled (now t) ⌝ }
+    requires { ⌜ d < tables.decls-of (tables.lines-in (now t)) ⌝ }
+    requires { ⌜ candidates.Ruled (tables.lines-in (now t)) (now decl) (now keep) ⌝ }
+    ensures { λ r. ⌜ candidates.Candidate (tables.lines-in (now (t .entry))) d r ⌝ }
 {
-    if may_collapse(s, t, decl, d) {
-        return number(newtypes::only_kept(s, t, keep, d));
+    if may_collapse(t, decl, d) {
+        return number(newtypes::only_kept(t, keep, d));
     }
     NONE
 }
 
 // The type that the guard goes on through: the payload that is F line f, or the number of types where there is none.
-fn body(s: &[u8], t: &[u32], f: u16) -> u16
-    requires { ⌜ tables.Tabled (now s) (now t) ⌝ }
-    requires { ⌜ ((f ≡ candidates.no-field → ⊥) → f < rows.count-of program.field-line (sheet.lines 6 (now s))) ⌝ }
-    ensures { λ r. ⌜ candidates.Body (sheet.lines 6 (now (s .entry))) f r ⌝ }
+fn body(t: &[u32], f: u16) -> u16
+    requires { ⌜ tables.Tabled (now t) ⌝ }
+    requires { ⌜ ((f ≡ candidates.no-field → ⊥) → f < rows.count-of program.field-line (tables.lines-in (now t))) ⌝ }
+    ensures { λ r. ⌜ candidates.Body (tables.lines-in (now (t .entry))) f r ⌝ }
 {
     if f == NONE {
-        return tables::types(s, t) as u16;
+        return tables::types(t) as u16;
     }
-    payloads::payload(s, t, f as usize) as u16
+    payloads::payload(t, f as usize) as u16
 }
 
 // For each declaration this F line, and this type.
-pub fn candidates(
-    s: &[u8],
-    t: &[u32],
-    decl: &[u8],
-    keep: &[u8],
-    fields: &mut [u16],
-    bodies: &mut [u16],
-)
-    requires { ⌜ tables.Tabled (now s) (now t) ⌝ }
-    requires { ⌜ candidates.Ruled (sheet.lines 6 (now s)) (now decl) (now keep) ⌝ }
-    requires { ⌜ (length (now fields) ≡ tables.decls-of (sheet.lines 6 (now s))) × (length (now bodies) ≡ tables.decls-of (sheet.lines 6 (now s))) ⌝ }
-    ensures { λ _. ⌜ candidates.Candidates (sheet.lines 6 (now (s .entry))) (now (fields .exit)) (now (bodies .exit)) ⌝ }
+pub fn candidates(t: &[u32], decl: &[u8], keep: &[u8], fields: &mut [u16], bodies: &mut [u16])
+    requires { ⌜ tables.Tabled (now t) ⌝ }
+    requires { ⌜ candidates.Ruled (tables.lines-in (now t)) (now decl) (now keep) ⌝ }
+    requires { ⌜ (length (now fields) ≡ tables.decls-of (tables.lines-in (now t))) × (length (now bodies) ≡ tables.decls-of (tables.lines-in (now t))) ⌝ }
+    ensures { λ _. ⌜ candidates.Candidates (tables.lines-in (now (t .entry))) (now (fields .exit)) (now (bodies .exit)) ⌝ }
 {
     let n = fields.len();
     let mut d = 0;
     while d < n {
-        let f = candidate(s, t, decl, keep, d);
+        let f = candidate(t, decl, keep, d);
         fields[d] = f;
-        bodies[d] = body(s, t, f);
+        bodies[d] = body(t, f);
         d += 1;
     }
 }

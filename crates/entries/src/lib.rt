@@ -3,19 +3,18 @@ ghost use mathlib.Core.Path.{_≡_};
 ghost use Prim.Native.Nat.{_+_, _*_};
 ghost use lib.Dec.{eqb};
 ghost use lib.ListN.{getD};
-ghost use Rattle.sheet.specs.Sheet as sheet;
 ghost use Rattle.outcomes.specs.Laws.Call as call;
 ghost use Rattle.arguments.specs.Params as params;
 ghost use Rattle.kids.specs.Nodes as nodes;
 ghost use Rattle.resolving.specs.Resolver as resolver;
 ghost use Rattle.states.specs.States as states;
+ghost use Rattle.tables.specs.Tables.{lines-in};
 
 // The body has the answer. No test answers that there is no room.
 pub const OPEN: usize = 1;
 
 // Row 9, the fuel, row 10, and a bare parameter with a surplus; Y line y is the body of declaration d.
 pub fn entry(
-    s: &[u8],
     t: &[u32],
     u: &[u16],
     k: usize,
@@ -25,28 +24,28 @@ pub fn entry(
     at: usize,
     count: usize,
 ) -> usize
-    requires { ⌜ resolver.Place (now s) (now t) (now u) y d × (states.unfold-at (sheet.lines 6 (now s)) (now u) d ≡ call.unfolded (eqb (getD (now u) (2 * d) 3) 1) (params.params-of (sheet.lines 6 (now s)) d) (nodes.type-of (sheet.lines 6 (now s)) y)) ⌝ }
+    requires { ⌜ resolver.Place (lines-in (now t)) (now t) (now u) y d × (states.unfold-at (lines-in (now t)) (now u) d ≡ call.unfolded (eqb (getD (now u) (2 * d) 3) 1) (params.params-of (lines-in (now t)) d) (nodes.type-of (lines-in (now t)) y)) ⌝ }
     requires { ⌜ resolver.Args (now out) at count (at + count) ⌝ }
-    ensures { λ r. ⌜ resolver.Entered (sheet.lines 6 (now (s .entry))) (now (u .entry)) y d at count (now (out .entry)) k r ⌝ }
+    ensures { λ r. ⌜ resolver.Entered (lines-in (now (t .entry))) (now (u .entry)) y d at count (now (out .entry)) k r ⌝ }
 {
     let newtype = recalls::state(u, d) == resolving::NEWTYPE;
-    if !calls::fits(s, t, newtype, y, d, out, at, count) {
+    if !calls::fits(t, newtype, y, d, out, at, count) {
         return resolving::NINE;
     }
     if k == 0 {
         return resolving::NO_FUEL;
     }
-    let n = calls::params(s, t, d);
+    let n = calls::params(t, d);
     let over = count - n;
     let from = sums::total(out, at + n, over, 0);
-    let w = weighing::weigh(s, t, y, d, out, at, count, from);
+    let w = weighing::weigh(t, y, d, out, at, count, from);
     if w > sums::LIMIT {
         return resolving::TEN;
     }
     if over == 0 {
         return OPEN;
     }
-    if tables::type_number(s, t, y, 0) == 3 {
+    if tables::type_number(t, y, 0) == 3 {
         return 4 * w + 1;
     }
     OPEN

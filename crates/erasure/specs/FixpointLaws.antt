@@ -1,49 +1,44 @@
 -- The marks before the first round, and which type is the first to name a declaration. Assumes nothing.
-use mathlib.Core.Path.{_≡_, refl, ap, sym, _∙_}
-use mathlib.Core.List.{List, _++_, map}
+use mathlib.Core.Path.{_≡_, ap, sym, _∙_}
+use mathlib.Core.List.{List, _++_}
 use mathlib.Core.Bool.{Bool, true, false}
-use Prim.Native.Nat.{ℕ, zero, suc, _+_, _-_, _≤_, _<_}
+use Prim.Native.Nat.{ℕ, suc, _+_, _-_, _≤_, _<_}
 use native.Mathlib.Omega.{arith}
 use lib.Dec.{eqb}
-use lib.ListN.{length, getD, set, take, drop, replicate, length-map, length-set, length-replicate, getD-replicate, List·getD-append}
+use lib.ListN.{length, getD, set, take, replicate, length-map, length-set, length-replicate, getD-replicate, List·getD-append}
 use lib.Seq.{length-take-le, take-at, getD-set-same, getD-set-other, ext-getD, getD-take}
-use borrow.Author.Tests.{eq-eqb}
 use Rattle.sheet.specs.Line.{Line, number}
-use Rattle.sheet.specs.Sheet.{lines}
-use Rattle.model.specs.Decl.{Decl, TypeInfo, here, imported, no-decl, origin-at, position, close-fields, bit}
-use Rattle.model.specs.Erasure.{rule, settle, start-of, start, erasure-fixpoint}
-use Rattle.meaning.specs.Program.{name-line, type-line, import-line, verdict-line, is, dtype-of, trees, info-of, verdict-of, program}
+use Rattle.model.specs.Decl.{origin-at, position, bit}
+use Rattle.model.specs.Erasure.{start-of, start, erasure-fixpoint}
+use Rattle.meaning.specs.Program.{name-line, type-line, import-line, verdict-line, is, info-of, program}
 use Rattle.meaning.specs.Rows.{count-of}
-use Rattle.model_laws.specs.Lists.{trues}
-use Rattle.model_laws.specs.Rounds.{Le, Sound, cases-eq}
+use Rattle.model_laws.specs.Rounds.{cases-eq}
 use Rattle.model_laws.specs.Erasure.{length-start, start-at, start-sound}
 use Rattle.meaning.specs.Laws.Program.{length-program}
 use Rattle.limits.specs.Limits.{counts-of}
 use Rattle.type_lines.specs.TypeLists.{types-of}
-use Rattle.refusals.specs.Rows.{Passed}
-use Rattle.refusals.specs.RowsLaws.{passed-kept}
-use Rattle.tables.specs.Tables.{nth, group, head-line, decls-of}
+use Rattle.declared.specs.Passed.{Passed}
+use Rattle.declared.specs.PassedLaws.{passed-kept}
+use Rattle.tables.specs.Tables.{nth, head-line, decls-of}
 use Rattle.declared.specs.TypeLaws.{good-app, good-type-at}
 use Rattle.declared.specs.DeclLaws.{origin-local, origin-import, verdict-is}
-use Rattle.marks.specs.Marks.{part, marks-of, type-erased, Marks}
+use Rattle.marks.specs.Marks.{part, marks-of, type-erased}
 use Rattle.marks.specs.MarksLaws.{bit-one, marks-at}
-use Rattle.bodies.specs.Bodies.{Places, State}
 use Rattle.rounds.specs.Rounds.{Uses, Running, Ended}
-use Rattle.erasure.specs.declared.Erasure.{Erasure}
 use Rattle.erasure.specs.Fixpoint.{named, Fresh, Fixed, Fixpoint}
 
 -- ---- the limits
-pub types-few : (b : List ℕ) → Passed b → count-of type-line (lines 6 b) ≤ 1024
+pub types-few : (ls : List Line) → Passed ls → count-of type-line ls ≤ 1024
 unfolding counts-of
-types-few b p = passed-kept b p .types
+types-few ls p = passed-kept ls p .types
 
-pub decls-few : (b : List ℕ) → Passed b → decls-of (lines 6 b) ≤ 96
+pub decls-few : (ls : List Line) → Passed ls → decls-of ls ≤ 96
 unfolding counts-of
-decls-few b p = passed-kept b p .decls
+decls-few ls p = passed-kept ls p .decls
 
 -- the name of a `TApp` is a name
-pub name-of-app : (b : List ℕ) → Passed b → (y : ℕ) → y < count-of type-line (lines 6 b) → part (lines 6 b) y 0 ≡ 8 → part (lines 6 b) y 1 < count-of name-line (lines 6 b)
-name-of-app b p y h e = good-app (count-of name-line (lines 6 b)) (types-of (lines 6 b)) y (nth type-line (lines 6 b) y) (good-type-at b p y h) e .0
+pub name-of-app : (ls : List Line) → Passed ls → (y : ℕ) → y < count-of type-line ls → part ls y 0 ≡ 8 → part ls y 1 < count-of name-line ls
+name-of-app ls p y h e = good-app (count-of name-line ls) (types-of ls) y (nth type-line ls y) (good-type-at ls p y h) e .0
 
 -- ---- first uses
 -- no type from y on and below used[d] names declaration d
@@ -70,10 +65,10 @@ pub used-all : (ls : List Line) (used : List ℕ) → UsedFrom ls used 0 → Use
 used-all ls used u = record { size = u .size; none = λ d h y l k q e. let z = u .none d h y (omega arith) k q e in omega arith }
 
 -- ---- the start
-pub starts-import : (b : List ℕ) → Passed b → (d : ℕ) → d < decls-of (lines 6 b) → is import-line (head-line (lines 6 b) d) ≡ true
-    → start-of (origin-at (program (lines 6 b)) d) ≡ eqb (number (nth verdict-line (lines 6 b) d) 0) 1
+pub starts-import : (ls : List Line) → Passed ls → (d : ℕ) → d < decls-of ls → is import-line (head-line ls d) ≡ true
+    → start-of (origin-at (program ls) d) ≡ eqb (number (nth verdict-line ls d) 0) 1
 unfolding start-of info-of
-starts-import b p d h e = rw (origin-import (lines 6 b) d h e, verdict-is b p d h)
+starts-import ls p d h e = rw (origin-import ls d h e, verdict-is ls p d h)
 
 pub starts-local : (ls : List Line) (d : ℕ) → d < decls-of ls → is import-line (head-line ls d) ≡ false → start-of (origin-at (program ls) d) ≡ false
 unfolding start-of

@@ -4,7 +4,6 @@ use mathlib.Core.List.{List, [], _∷_}
 use Prim.Native.Nat.{ℕ, _*_, _≤_, _<_}
 use lib.ListN.{length}
 use Rattle.sheet.specs.Line.{Line}
-use Rattle.sheet.specs.Sheet.{lines}
 use Rattle.sheet.specs.ListLaws.{Every}
 use Rattle.meaning.specs.Program.{field-line}
 use Rattle.meaning.specs.Rows.{count-of}
@@ -19,9 +18,9 @@ use Rattle.faults.specs.declared.First.{First}
 use mathlib.Core.Path.{_≡_}
 
 -- what is asked: beside what the resolution asks, an entry for each F line
-pub record Kept (b t u keep : List ℕ) : Type 0 where
-  pub setup : Setup b t u
-  pub fields : count-of field-line (lines 6 b) ≤ length keep
+pub record Kept (ls : List Line) (t u keep : List ℕ) : Type 0 where
+  pub setup : Setup ls t u
+  pub fields : count-of field-line ls ≤ length keep
 
 -- a type resolves: every fuel that is not spent gives this outcome
 pub record Fine (e : ℕ → Result ℕ) : Type 0 where

@@ -11,7 +11,6 @@ use lib.ListN.{length, getD}
 use borrow.Author.Tests.{eqb-true, eqb-false, ne-eqb, ltb-true, ltb-false}
 use Rattle.columns.specs.Column.{pick}
 use Rattle.sheet.specs.Line.{Line}
-use Rattle.sheet.specs.Sheet.{lines}
 use Rattle.sheet.specs.ListLaws.{Every, getD-within}
 use Rattle.model.specs.Resolve.{Result}
 use Rattle.meaning.specs.Program.{field-line}
@@ -152,13 +151,10 @@ pub first-clear : (ls : List Line) (u keep : List ℕ) (room d n : ℕ) → n �
 first-clear ls u keep room d n e q f = record { fine = λ i h. f i (omega arith); all = λ h. e; stops = λ h. absurd (omega arith) }
 
 -- ---- for the code
-module _ (b t u keep : List ℕ) (kept : Kept b t u keep) (d : ℕ) (h : d < decls-of (lines 6 b)) where
-  abbrev ls : List Line
-  ls = lines 6 b
-
-  pub field-place : (f y : ℕ) → f < count-of field-line ls → y ≡ field-type ls f → Place b t u y d
+module _ (ls : List Line) (t u keep : List ℕ) (kept : Kept ls t u keep) (d : ℕ) (h : d < decls-of ls) where
+  pub field-place : (f y : ℕ) → f < count-of field-line ls → y ≡ field-type ls f → Place ls t u y d
   field-place f y l e =
-      record { setup = kept .setup; type = omega (arith, field-types b (kept .setup .tabled .passed) f l); decl = h }
+      record { setup = kept .setup; type = omega (arith, field-types ls (kept .setup .tabled .passed) f l); decl = h }
 
   -- the cell that the code reads
   abbrev cell : ℕ
@@ -173,7 +169,7 @@ module _ (b t u keep : List ℕ) (kept : Kept b t u keep) (d : ℕ) (h : d < dec
   pub decl-gone : (room : ℕ) (slots : List ℕ) → cell ≡ 0 → Slots (call-of ls u) slots → Went ls u d room (resolves-of ls u keep d) 4 slots
   decl-gone room slots e held = went-same ls u d room (resolves-of ls u keep d) [] 4 slots (resolves-gone ls u keep d (state-is ∙ e)) (went-none ls u d room slots held)
 
-  pub payload-place : cell ≡ 1 → Place b t u (body-of u d) d
+  pub payload-place : cell ≡ 1 → Place ls t u (body-of u d) d
   payload-place e = record { setup = kept .setup; type = kept .setup .states .bodies d h (inl (state-is ∙ e)); decl = h }
 
   pub decl-payload : cell ≡ 1 → (out out′ slots′ : List ℕ) (r : ℕ) → Found (type-of-decl ls u d (body-of u d)) 97 0 0 out out′ (call-of ls u) slots′ r → Went ls u d (length out) (resolves-of ls u keep d) r slots′
@@ -190,8 +186,8 @@ module _ (b t u keep : List ℕ) (kept : Kept b t u keep) (d : ℕ) (h : d < dec
     pub decl-abstract : (room : ℕ) (slots : List ℕ) → kind ≡ 0 → Slots (call-of ls u) slots → Went ls u d room (resolves-of ls u keep d) 4 slots
     decl-abstract room slots e held = went-same ls u d room (resolves-of ls u keep d) [] 4 slots (resolves-abstract ls u keep d s0 s1 (sym ek ∙ e)) (went-none ls u d room slots held)
 
-    pub abbrev-place : kind ≡ 1 → (y : ℕ) → y ≡ body-last ls d → Place b t u y d
-    abbrev-place e y q = record { setup = kept .setup; type = omega (arith, last-types b (kept .setup .tabled .passed) d h (sym ek ∙ e)); decl = h }
+    pub abbrev-place : kind ≡ 1 → (y : ℕ) → y ≡ body-last ls d → Place ls t u y d
+    abbrev-place e y q = record { setup = kept .setup; type = omega (arith, last-types ls (kept .setup .tabled .passed) d h (sym ek ∙ e)); decl = h }
 
     pub decl-abbrev : kind ≡ 1 → (y : ℕ) → y ≡ body-last ls d → (out out′ slots′ : List ℕ) (r : ℕ) → Found (type-of-decl ls u d y) 97 0 0 out out′ (call-of ls u) slots′ r → Went ls u d (length out) (resolves-of ls u keep d) r slots′
     decl-abbrev e y q out out′ slots′ r f =
@@ -206,5 +202,5 @@ module _ (b t u keep : List ℕ) (kept : Kept b t u keep) (d : ℕ) (h : d < dec
   pub fields-inside : (end : ℕ) → end ≡ first-of field-line ls (d + 1) → end ≤ count-of field-line ls
   fields-inside end e = omega (arith, first-le field-line ls (d + 1))
 
-pub kept-decls : (b t u keep : List ℕ) → Kept b t u keep → decls-of (lines 6 b) ≤ 96
-kept-decls b t u keep kept = decls-few b (kept .setup .tabled .passed)
+pub kept-decls : (ls : List Line) (t u keep : List ℕ) → Kept ls t u keep → decls-of ls ≤ 96
+kept-decls ls t u keep kept = decls-few ls (kept .setup .tabled .passed)

@@ -2,7 +2,6 @@
 ghost use mathlib.Core.Path.{_≡_};
 ghost use Prim.Native.Nat.{_+_, _-_, _≤_, _<_};
 ghost use lib.ListN.{length};
-ghost use Rattle.sheet.specs.Sheet as sheet;
 ghost use Rattle.meaning.specs.Program as program;
 ghost use Rattle.meaning.specs.Rows as rows;
 ghost use Rattle.tables.specs.Tables as tables;
@@ -30,7 +29,6 @@ pub struct First {
 
 // The answer for the first kept one of declaration d's F lines from..end whose type does not resolve.
 fn field_fault(
-    s: &[u8],
     t: &[u32],
     u: &[u16],
     keep: &[u8],
@@ -40,15 +38,15 @@ fn field_fault(
     out: &mut [u16],
     slots: &mut [u16],
 ) -> usize
-    requires { ⌜ faults.Kept (now s) (now t) (now u) (now keep) × (d < tables.decls-of (sheet.lines 6 (now s))) × (end ≤ rows.count-of program.field-line (sheet.lines 6 (now s))) ⌝ }
-    requires { ⌜ Slots (resolver.call-of (sheet.lines 6 (now s)) (now u)) (now slots) ⌝ }
-    ensures { λ r. ⌜ faults.Went (sheet.lines 6 (now (s .entry))) (now (u .entry)) d (length (now (out .entry))) (states.kept-types (sheet.lines 6 (now (s .entry))) (now (keep .entry)) from (end - from)) r (now (slots .exit)) ⌝ }
+    requires { ⌜ faults.Kept (tables.lines-in (now t)) (now t) (now u) (now keep) × (d < tables.decls-of (tables.lines-in (now t))) × (end ≤ rows.count-of program.field-line (tables.lines-in (now t))) ⌝ }
+    requires { ⌜ Slots (resolver.call-of (tables.lines-in (now t)) (now u)) (now slots) ⌝ }
+    ensures { λ r. ⌜ faults.Went (tables.lines-in (now (t .entry))) (now (u .entry)) d (length (now (out .entry))) (states.kept-types (tables.lines-in (now (t .entry))) (now (keep .entry)) from (end - from)) r (now (slots .exit)) ⌝ }
 {
     let mut f = from;
     while f < end {
         if keep[f] == 1 {
-            let y = tables::field_number(s, t, f, 1) as usize;
-            let r = resolver::resolved(s, t, u, out, slots, d, y);
+            let y = tables::field_number(t, f, 1) as usize;
+            let r = resolver::resolved(t, u, out, slots, d, y);
             if r < resolver::VALUE {
                 return r;
             }
@@ -60,7 +58,6 @@ fn field_fault(
 
 // The same for all that is resolved of declaration d: a payload, an abbreviated type, or kept fields.
 fn decl_fault(
-    s: &[u8],
     t: &[u32],
     u: &[u16],
     keep: &[u8],
@@ -68,9 +65,9 @@ fn decl_fault(
     out: &mut [u16],
     slots: &mut [u16],
 ) -> usize
-    requires { ⌜ faults.Kept (now s) (now t) (now u) (now keep) × (d < tables.decls-of (sheet.lines 6 (now s))) ⌝ }
-    requires { ⌜ Slots (resolver.call-of (sheet.lines 6 (now s)) (now u)) (now slots) ⌝ }
-    ensures { λ r. ⌜ faults.Went (sheet.lines 6 (now (s .entry))) (now (u .entry)) d (length (now (out .entry))) (states.resolves-of (sheet.lines 6 (now (s .entry))) (now (u .entry)) (now (keep .entry)) d) r (now (slots .exit)) ⌝ }
+    requires { ⌜ faults.Kept (tables.lines-in (now t)) (now t) (now u) (now keep) × (d < tables.decls-of (tables.lines-in (now t))) ⌝ }
+    requires { ⌜ Slots (resolver.call-of (tables.lines-in (now t)) (now u)) (now slots) ⌝ }
+    ensures { λ r. ⌜ faults.Went (tables.lines-in (now (t .entry))) (now (u .entry)) d (length (now (out .entry))) (states.resolves-of (tables.lines-in (now (t .entry))) (now (u .entry)) (now (keep .entry)) d) r (now (slots .exit)) ⌝ }
 {
     let state = u[2 * d] as usize;
     if state == GONE {
@@ -78,38 +75,31 @@ fn decl_fault(
     }
     if state == NEWTYPE {
         let y = u[2 * d + 1] as usize;
-        return resolver::resolved(s, t, u, out, slots, d, y);
+        return resolver::resolved(t, u, out, slots, d, y);
     }
-    let kind = tables::decl_number(s, t, d, 2);
+    let kind = tables::decl_number(t, d, 2);
     if kind == ABSTRACT {
         return resolver::VALUE;
     }
     if kind == ABBREVIATION {
-        let y = tables::decl_number(s, t, d, 4) as usize;
-        return resolver::resolved(s, t, u, out, slots, d, y);
+        let y = tables::decl_number(t, d, 4) as usize;
+        return resolver::resolved(t, u, out, slots, d, y);
     }
-    let from = tables::first_field(s, t, d);
-    let end = tables::first_field(s, t, d + 1);
-    field_fault(s, t, u, keep, d, from, end, out, slots)
+    let from = tables::first_field(t, d);
+    let end = tables::first_field(t, d + 1);
+    field_fault(t, u, keep, d, from, end, out, slots)
 }
 
 // Resolves what is resolved of each declaration, up to the first type that does not resolve. With
 // 97 * 1,024 places to work in it never answers that there is no room.
-pub fn first_fault(
-    s: &[u8],
-    t: &[u32],
-    u: &[u16],
-    keep: &[u8],
-    out: &mut [u16],
-    slots: &mut [u16],
-) -> First
-    requires { ⌜ faults.Kept (now s) (now t) (now u) (now keep) ⌝ }
-    requires { ⌜ Slots (resolver.call-of (sheet.lines 6 (now s)) (now u)) (now slots) ⌝ }
-    ensures { λ r. ⌜ faults.Firstly (sheet.lines 6 (now (s .entry))) (now (u .entry)) (now (keep .entry)) (length (now (out .entry))) r ⌝ }
+pub fn first_fault(t: &[u32], u: &[u16], keep: &[u8], out: &mut [u16], slots: &mut [u16]) -> First
+    requires { ⌜ faults.Kept (tables.lines-in (now t)) (now t) (now u) (now keep) ⌝ }
+    requires { ⌜ Slots (resolver.call-of (tables.lines-in (now t)) (now u)) (now slots) ⌝ }
+    ensures { λ r. ⌜ faults.Firstly (tables.lines-in (now (t .entry))) (now (u .entry)) (now (keep .entry)) (length (now (out .entry))) r ⌝ }
 {
-    let n = tables::decls(s, t);
+    let n = tables::decls(t);
     for d in 0..n {
-        let answer = decl_fault(s, t, u, keep, d, out, slots);
+        let answer = decl_fault(t, u, keep, d, out, slots);
         if answer < resolver::VALUE {
             return First { answer, decl: d };
         }

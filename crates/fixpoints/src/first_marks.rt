@@ -2,7 +2,6 @@
 ghost use mathlib.Core.Path.{_≡_};
 ghost use Prim.Native.Nat.{_<_};
 ghost use lib.ListN.{length, set};
-ghost use Rattle.sheet.specs.Sheet as sheet;
 ghost use Rattle.model.specs.Decl as decls;
 ghost use Rattle.model.specs.Erasure as model;
 ghost use Rattle.meaning.specs.Program as program;
@@ -19,15 +18,15 @@ fn bit(b: bool) -> u8
 }
 
 // The declaration that type y names, the number of declarations where it names none.
-fn named(s: &[u8], t: &[u32], y: usize) -> usize
-    requires { ⌜ tables.Tabled (now s) (now t) ⌝ }
-    requires { ⌜ y < rows.count-of program.type-line (sheet.lines 6 (now s)) ⌝ }
-    ensures { λ r. ⌜ r ≡ fixpoint.named (sheet.lines 6 (now (s .entry))) y ⌝ }
+fn named(t: &[u32], y: usize) -> usize
+    requires { ⌜ tables.Tabled (now t) ⌝ }
+    requires { ⌜ y < rows.count-of program.type-line (tables.lines-in (now t)) ⌝ }
+    ensures { λ r. ⌜ r ≡ fixpoint.named (tables.lines-in (now (t .entry))) y ⌝ }
 {
-    if tables::type_number(s, t, y, 0) == 8 {
-        return tables::decl_of(s, t, tables::type_number(s, t, y, 1) as usize);
+    if tables::type_number(t, y, 0) == 8 {
+        return tables::decl_of(t, tables::type_number(t, y, 1) as usize);
     }
-    tables::decls(s, t)
+    tables::decls(t)
 }
 
 // Type y names declaration d, where there is such a declaration.
@@ -41,40 +40,40 @@ fn put_use(used: &mut [u16], d: usize, y: usize)
 }
 
 // The first type that names each declaration.
-pub fn first_uses(s: &[u8], t: &[u32], used: &mut [u16])
-    requires { ⌜ tables.Tabled (now s) (now t) ⌝ }
-    requires { ⌜ length (now used) ≡ tables.decls-of (sheet.lines 6 (now s)) ⌝ }
-    ensures { λ _. ⌜ rounds.Uses (sheet.lines 6 (now (s .entry))) (now (used .exit)) ⌝ }
+pub fn first_uses(t: &[u32], used: &mut [u16])
+    requires { ⌜ tables.Tabled (now t) ⌝ }
+    requires { ⌜ length (now used) ≡ tables.decls-of (tables.lines-in (now t)) ⌝ }
+    ensures { λ _. ⌜ rounds.Uses (tables.lines-in (now (t .entry))) (now (used .exit)) ⌝ }
 {
-    let mut y = tables::types(s, t);
+    let mut y = tables::types(t);
     while y > 0 {
         y -= 1;
-        put_use(used, named(s, t, y), y);
+        put_use(used, named(t, y), y);
     }
 }
 
 // Declaration d is erased before the first round: an import whose verdict says so.
-fn starts_erased(s: &[u8], t: &[u32], d: usize) -> bool
-    requires { ⌜ tables.Tabled (now s) (now t) ⌝ }
-    requires { ⌜ d < tables.decls-of (sheet.lines 6 (now s)) ⌝ }
-    ensures { λ r. ⌜ r ≡ model.start-of (decls.origin-at (program.program (sheet.lines 6 (now (s .entry)))) d) ⌝ }
+fn starts_erased(t: &[u32], d: usize) -> bool
+    requires { ⌜ tables.Tabled (now t) ⌝ }
+    requires { ⌜ d < tables.decls-of (tables.lines-in (now t)) ⌝ }
+    ensures { λ r. ⌜ r ≡ model.start-of (decls.origin-at (program.program (tables.lines-in (now (t .entry)))) d) ⌝ }
 {
-    if tables::is_import(s, t, d) {
-        return tables::verdict_number(s, t, d, 0) == 1;
+    if tables::is_import(t, d) {
+        return tables::verdict_number(t, d, 0) == 1;
     }
     false
 }
 
 // Nothing is erased but imports with that verdict.
-pub fn start(s: &[u8], t: &[u32], decl: &mut [u8])
-    requires { ⌜ tables.Tabled (now s) (now t) ⌝ }
-    requires { ⌜ length (now decl) ≡ tables.decls-of (sheet.lines 6 (now s)) ⌝ }
-    ensures { λ _. ⌜ marks.marks-of (now (decl .exit)) ≡ model.start (program.program (sheet.lines 6 (now (s .entry)))) ⌝ }
+pub fn start(t: &[u32], decl: &mut [u8])
+    requires { ⌜ tables.Tabled (now t) ⌝ }
+    requires { ⌜ length (now decl) ≡ tables.decls-of (tables.lines-in (now t)) ⌝ }
+    ensures { λ _. ⌜ marks.marks-of (now (decl .exit)) ≡ model.start (program.program (tables.lines-in (now (t .entry)))) ⌝ }
 {
     let n = decl.len();
     let mut d = 0;
     while d < n {
-        decl[d] = bit(starts_erased(s, t, d));
+        decl[d] = bit(starts_erased(t, d));
         d += 1;
     }
 }

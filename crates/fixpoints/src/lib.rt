@@ -2,7 +2,6 @@
 mod first_marks;
 
 use erasure::Erasure;
-ghost use Rattle.sheet.specs.Sheet as sheet;
 ghost use Rattle.tables.specs.Tables as tables;
 ghost use Rattle.erasure.specs.Fixpoint as fixpoint;
 
@@ -12,7 +11,6 @@ const DECLS: usize = 96;
 
 // The marks, in lent memory.
 fn fixpoint(
-    s: &[u8],
     t: &[u32],
     used: &mut [u16],
     decl: &mut [u8],
@@ -21,22 +19,22 @@ fn fixpoint(
     field: &mut [u16],
     wait: &mut [u16],
 ) -> usize
-    requires { ⌜ tables.Tabled (now s) (now t) ⌝ }
-    requires { ⌜ fixpoint.Fresh (sheet.lines 6 (now s)) (now used) (now decl) (now node) (now member) (now field) (now wait) ⌝ }
-    ensures { λ r. ⌜ fixpoint.Fixed (sheet.lines 6 (now (s .entry))) (now (decl .exit)) (now (node .exit)) r ⌝ }
+    requires { ⌜ tables.Tabled (now t) ⌝ }
+    requires { ⌜ fixpoint.Fresh (tables.lines-in (now t)) (now used) (now decl) (now node) (now member) (now field) (now wait) ⌝ }
+    ensures { λ r. ⌜ fixpoint.Fixed (tables.lines-in (now (t .entry))) (now (decl .exit)) (now (node .exit)) r ⌝ }
 {
-    first_marks::first_uses(s, t, used);
-    first_marks::start(s, t, decl);
-    settling::settle(s, t, used, decl, node, member, field, wait)
+    first_marks::first_uses(t, used);
+    first_marks::start(t, decl);
+    settling::settle(t, used, decl, node, member, field, wait)
 }
 
 // Layout's `erasure_fixpoint`.
-pub fn erasure_fixpoint(s: &[u8], t: &[u32]) -> Erasure
-    requires { ⌜ tables.Tabled (now s) (now t) ⌝ }
-    ensures { λ r. ⌜ fixpoint.Fixpoint (sheet.lines 6 (now (s .entry))) r ⌝ }
+pub fn erasure_fixpoint(t: &[u32]) -> Erasure
+    requires { ⌜ tables.Tabled (now t) ⌝ }
+    ensures { λ r. ⌜ fixpoint.Fixpoint (tables.lines-in (now (t .entry))) r ⌝ }
 {
-    let n = tables::decls(s, t);
-    let types = tables::types(s, t);
+    let n = tables::decls(t);
+    let types = tables::types(t);
     let none = types as u16;
     let mut node = [0u8; TYPES];
     let mut decl = [0u8; DECLS];
@@ -45,7 +43,6 @@ pub fn erasure_fixpoint(s: &[u8], t: &[u32]) -> Erasure
     let mut used = [0u16; DECLS];
     let mut wait = [none; DECLS];
     let rounds = fixpoint(
-        s,
         t,
         &mut used[0..n],
         &mut decl[0..n],

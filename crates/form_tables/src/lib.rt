@@ -4,8 +4,7 @@ mod rank_bounds;
 ghost use mathlib.Core.Path.{_≡_};
 ghost use Prim.Native.Nat.{ℕ, _*_, _≤_, _<_};
 ghost use lib.ListN.{length, getD};
-ghost use Rattle.sheet.specs.Sheet.{lines};
-ghost use Rattle.tables.specs.Tables.{decls-of};
+ghost use Rattle.tables.specs.Tables.{decls-of, lines-in};
 ghost use Rattle.normal_forms.specs.Ranks.{Ranked, Formed};
 ghost use Rattle.form_tables.specs.Bounds.{Starts, Ends};
 
@@ -21,7 +20,6 @@ fn clear(f: &mut [u64], k: usize)
 
 // The normal forms of all ranks, whose declarations stand from `start` to before `end`.
 fn ranked(
-    s: &[u8],
     t: &[u32],
     u: &[u16],
     rank: &[u16],
@@ -30,18 +28,18 @@ fn ranked(
     f: &mut [u64],
     scratch: &mut [u64],
 ) -> usize
-    requires { ⌜ Ranked (now s) (now t) (now u) (now rank) × (2 * decls-of (lines 6 (now s)) ≤ length (now f)) ⌝ }
+    requires { ⌜ Ranked (lines-in (now t)) (now t) (now u) (now rank) × (2 * decls-of (lines-in (now t)) ≤ length (now f)) ⌝ }
     requires { ⌜ Starts (now rank) (length (now start)) (now start) × Ends (now rank) (length (now end)) (now end) ⌝ }
-    requires { ⌜ (decls-of (lines 6 (now s)) ≤ length (now start)) × (decls-of (lines 6 (now s)) ≤ length (now end)) ⌝ }
-    ensures { λ e. ⌜ Formed (now (s .entry)) (now (u .entry)) (now (rank .entry)) (length (now (scratch .entry))) (now (f .entry)) (now (f .exit)) e ⌝ }
+    requires { ⌜ (decls-of (lines-in (now t)) ≤ length (now start)) × (decls-of (lines-in (now t)) ≤ length (now end)) ⌝ }
+    ensures { λ e. ⌜ Formed (lines-in (now (t .entry))) (now (u .entry)) (now (rank .entry)) (length (now (scratch .entry))) (now (f .entry)) (now (f .exit)) e ⌝ }
 {
-    let n = tables::decls(s, t);
+    let n = tables::decls(t);
     clear(f, 2 * n);
     let mut p = 2 * n;
     for r in 0..n {
         let from = start[r] as usize;
         let to = end[r] as usize;
-        p = rank_forms::forms_of_rank(s, t, u, rank, f, scratch, r, from, to, p);
+        p = rank_forms::forms_of_rank(t, u, rank, f, scratch, r, from, to, p);
         if p > f.len() {
             return p;
         }
@@ -51,7 +49,6 @@ fn ranked(
 
 // In memory that is lent for the bounds of ranks.
 fn bounded(
-    s: &[u8],
     t: &[u32],
     u: &[u16],
     rank: &[u16],
@@ -60,30 +57,23 @@ fn bounded(
     f: &mut [u64],
     scratch: &mut [u64],
 ) -> usize
-    requires { ⌜ Ranked (now s) (now t) (now u) (now rank) × (2 * decls-of (lines 6 (now s)) ≤ length (now f)) ⌝ }
-    requires { ⌜ (decls-of (lines 6 (now s)) ≤ length (now start)) × (decls-of (lines 6 (now s)) ≤ length (now end)) ⌝ }
+    requires { ⌜ Ranked (lines-in (now t)) (now t) (now u) (now rank) × (2 * decls-of (lines-in (now t)) ≤ length (now f)) ⌝ }
+    requires { ⌜ (decls-of (lines-in (now t)) ≤ length (now start)) × (decls-of (lines-in (now t)) ≤ length (now end)) ⌝ }
     requires { ⌜ ((r : ℕ) → getD (now end) r 0 ≡ 0) ⌝ }
-    ensures { λ e. ⌜ Formed (now (s .entry)) (now (u .entry)) (now (rank .entry)) (length (now (scratch .entry))) (now (f .entry)) (now (f .exit)) e ⌝ }
+    ensures { λ e. ⌜ Formed (lines-in (now (t .entry))) (now (u .entry)) (now (rank .entry)) (length (now (scratch .entry))) (now (f .entry)) (now (f .exit)) e ⌝ }
 {
     rank_bounds::starts(rank, start);
     rank_bounds::ends(rank, end);
-    ranked(s, t, u, rank, start, end, f, scratch)
+    ranked(t, u, rank, start, end, f, scratch)
 }
 
 // The normal forms of all unfolded declarations, callees first, and the place after them; a place past the end where the list
 // or the scratch is too short.
-pub fn normal_forms(
-    s: &[u8],
-    t: &[u32],
-    u: &[u16],
-    rank: &[u16],
-    f: &mut [u64],
-    scratch: &mut [u64],
-) -> usize
-    requires { ⌜ Ranked (now s) (now t) (now u) (now rank) × (2 * decls-of (lines 6 (now s)) ≤ length (now f)) ⌝ }
-    ensures { λ e. ⌜ Formed (now (s .entry)) (now (u .entry)) (now (rank .entry)) (length (now (scratch .entry))) (now (f .entry)) (now (f .exit)) e ⌝ }
+pub fn normal_forms(t: &[u32], u: &[u16], rank: &[u16], f: &mut [u64], scratch: &mut [u64]) -> usize
+    requires { ⌜ Ranked (lines-in (now t)) (now t) (now u) (now rank) × (2 * decls-of (lines-in (now t)) ≤ length (now f)) ⌝ }
+    ensures { λ e. ⌜ Formed (lines-in (now (t .entry))) (now (u .entry)) (now (rank .entry)) (length (now (scratch .entry))) (now (f .entry)) (now (f .exit)) e ⌝ }
 {
     let mut start = [0u16; 96];
     let mut end = [0u16; 96];
-    bounded(s, t, u, rank, &mut start, &mut end, f, scratch)
+    bounded(t, u, rank, &mut start, &mut end, f, scratch)
 }

@@ -1,27 +1,25 @@
 -- What each function of the emission puts, from what its callees put. Assumes nothing.
 use mathlib.Core.Logic.{_⊎_, inl, inr}
 use mathlib.Core.Path.{_≡_, refl, ap, ap₂, sym, _∙_, subst}
-use mathlib.Core.List.{List, [], _∷_, _++_, map, append-assoc, append-nil}
+use mathlib.Core.List.{List, [], _∷_, _++_, append-assoc, append-nil}
 use mathlib.Core.Bool.{Bool, true, false}
 use Prim.Native.Nat.{ℕ, zero, suc, _+_, _-_, _*_, _≤_, _<_}
 use native.Mathlib.Omega.{arith}
 use native.Mathlib.Numerals.{add-one}
 use lib.Dec.{eqb, ltb}
-use lib.ListN.{length, getD, take, drop, length-append, length-take, length-drop, take-append-drop, List·getD-eq-default}
+use lib.ListN.{length, getD, take, drop, length-append, length-drop, take-append-drop, List·getD-eq-default}
 use lib.Seq.{take-suc, take-append-add, drop-drop, getD-take, getD-drop, take-at, take-all, drop-at, length-take-le}
 use borrow.Author.Tests.{eqb-true, eqb-false, eq-eqb, ne-eqb, lt-leb, ltb-true, ltb-false}
-use Rattle.columns.specs.Column.{pick}
 use Rattle.sheet.specs.Line.{Line, number}
-use Rattle.sheet.specs.Sheet.{lines}
 use Rattle.model.specs.Cty.{Cty}
 use Rattle.model.specs.Decl.{position}
 use Rattle.meaning.specs.Program.{type-line, program}
 use Rattle.meaning.specs.Rows.{count-of}
-use Rattle.model.specs.Resolve.{Unfold, gone, newtype, abbreviation, stays}
-use Rattle.refusals.specs.Rows.{Passed}
+use Rattle.model.specs.Resolve.{gone, newtype, abbreviation, stays}
+use Rattle.declared.specs.Passed.{Passed}
 use Rattle.kids.specs.Nodes.{y-line, kind-of, type-of, kids-of, kid-of}
 use Rattle.arguments.specs.Params.{params-of}
-use Rattle.normal.specs.Nodes.{Node, node}
+use Rattle.normal.specs.Nodes.{node}
 use Rattle.nodes.specs.Words.{word, node-of}
 use Rattle.node_words.specs.Own.{y-node}
 use Rattle.node_words.specs.Put.{Put, put-none, put-more, put-stop}
@@ -258,10 +256,7 @@ module _ (ls : List Line) (u : List ℕ) (n m x : ℕ) (em : m ≡ position (pro
       go true e = inl (rw (state-is, ne-eqb x 0 n0, e))
       go false e = inr (rw (state-is, ne-eqb x 0 n0, e, eq-eqb x 2 (only-two x n0 (eqb-false x 1 e) h)))
 
-module _ (b : List ℕ) (passed : Passed b) (u f : List ℕ) (d : ℕ) (places : Bool) (y : ℕ) (h : y < count-of type-line (lines 6 b)) (out : List ℕ) (at : ℕ) (a : at ≤ length out) where
-  abbrev ls : List Line
-  ls = lines 6 b
-
+module _ (ls : List Line) (passed : Passed ls) (u f : List ℕ) (d : ℕ) (places : Bool) (y : ℕ) (h : y < count-of type-line ls) (out : List ℕ) (at : ℕ) (a : at ≤ length out) where
   abbrev W : List ℕ
   W = words ls u f d places y
 
@@ -287,11 +282,11 @@ module _ (b : List ℕ) (passed : Passed b) (u f : List ℕ) (d : ℕ) (places :
       go : (c : Bool) → eqb (kind-of ls y) 3 ≡ c → leaf ls d places y ∷ [] ≡ W
       go true e =
           let k3 : kind-of ls y ≡ 3 = eqb-true (kind-of ls y) 3 e in
-          ap (λ (x : ℕ). x ∷ []) (sym (leaf-var ls d places y _ _ k3 refl refl)) ∙ sym (words-var b passed u f d places y h k3)
+          ap (λ (x : ℕ). x ∷ []) (sym (leaf-var ls d places y _ _ k3 refl refl)) ∙ sym (words-var ls passed u f d places y h k3)
       go false e =
           let n3 : kind-of ls y ≡ 3 → ⊥ = eqb-false (kind-of ls y) 3 e in
           ap (λ (x : ℕ). x ∷ []) (sym (leaf-own ls d places y _ n3 refl))
-          ∙ sym (words-plain b passed u f d places y h n3 (λ q. omega arith) ∙ ap (λ (n : ℕ). run g 0 n ++ (word (y-node ls y) ∷ [])) (no-kids k))
+          ∙ sym (words-plain ls passed u f d places y h n3 (λ q. omega arith) ∙ ap (λ (n : ℕ). run g 0 n ++ (word (y-node ls y) ∷ [])) (no-kids k))
 
   pub put-leaf : (w r : ℕ) (res : List ℕ) → kind-of ls y < 7 → w ≡ leaf ls d places y → Put (w ∷ []) out at r res → Put W out at r res
   put-leaf w r res k e x = put-same (w ∷ []) W out at r res (ap (λ (z : ℕ). z ∷ []) e ∙ leaf-words k) x
@@ -299,12 +294,12 @@ module _ (b : List ℕ) (passed : Passed b) (u f : List ℕ) (d : ℕ) (places :
   module _ (n3 : kind-of ls y ≡ 3 → ⊥) (n8 : kind-of ls y ≡ 8 → ⊥) where
     pub put-plain : (w r e : ℕ) (mid res : List ℕ) → r ≤ length out → Put kids out at r mid → w ≡ word (y-node ls y) → Put (w ∷ []) mid r e res → Put W out at e res
     put-plain w r e mid res q x ew z =
-        put-same (kids ++ (w ∷ [])) W out at e res (ap₂ (λ (l : List ℕ) (v : ℕ). l ++ (v ∷ [])) kids-all ew ∙ sym (words-plain b passed u f d places y h n3 n8))
+        put-same (kids ++ (w ∷ [])) W out at e res (ap₂ (λ (l : List ℕ) (v : ℕ). l ++ (v ∷ [])) kids-all ew ∙ sym (words-plain ls passed u f d places y h n3 n8))
         (put-more kids (w ∷ []) out at r e mid res a q x z)
 
     pub stop-plain : (r : ℕ) (res : List ℕ) → length out < r → Put kids out at r res → Put W out at r res
     stop-plain r res q x =
-        put-same (kids ++ (word (y-node ls y) ∷ [])) W out at r res (ap (λ (l : List ℕ). l ++ (word (y-node ls y) ∷ [])) kids-all ∙ sym (words-plain b passed u f d places y h n3 n8))
+        put-same (kids ++ (word (y-node ls y) ∷ [])) W out at r res (ap (λ (l : List ℕ). l ++ (word (y-node ls y) ∷ [])) kids-all ∙ sym (words-plain ls passed u f d places y h n3 n8))
         (put-stop kids (word (y-node ls y) ∷ []) out at r res q x)
 
   module _ (k8 : kind-of ls y ≡ 8) (n m x : ℕ) (en : n ≡ number (y-line ls y) 1) (em : m ≡ position (program ls) n) (ex : x ≡ getD u (2 * m) 3) where
@@ -316,11 +311,11 @@ module _ (b : List ℕ) (passed : Passed b) (u f : List ℕ) (d : ℕ) (places :
 
     pub put-gone : (w r : ℕ) (res : List ℕ) → x ≡ 0 → w ≡ word (node 0 0 0) → Put (w ∷ []) out at r res → Put W out at r res
     put-gone w r res e ew z =
-        put-same (w ∷ []) W out at r res (ap (λ (v : ℕ). v ∷ []) ew ∙ sym (words-gone b passed u f d places y h k8 (lay-gone ls u name m x here ex e))) z
+        put-same (w ∷ []) W out at r res (ap (λ (v : ℕ). v ∷ []) ew ∙ sym (words-gone ls passed u f d places y h k8 (lay-gone ls u name m x here ex e))) z
 
     stays-words : 2 < x → kids ++ (word (node 8 (kids-of ls y) name) ∷ []) ≡ W
     stays-words q =
-        ap (λ (l : List ℕ). l ++ (word (node 8 (kids-of ls y) name) ∷ [])) kids-all ∙ sym (words-stays b passed u f d places y h k8 (lay-stays ls u name m x here ex q))
+        ap (λ (l : List ℕ). l ++ (word (node 8 (kids-of ls y) name) ∷ [])) kids-all ∙ sym (words-stays ls passed u f d places y h k8 (lay-stays ls u name m x here ex q))
 
     pub put-stays : (c w r e : ℕ) (mid res : List ℕ) → 2 < x → r ≤ length out → Put kids out at r mid → c ≡ kids-of ls y → w ≡ word (node 8 c n) → Put (w ∷ []) mid r e res → Put W out at e res
     put-stays c w r e mid res q l z ec ew v =
@@ -345,8 +340,8 @@ module _ (b : List ℕ) (passed : Passed b) (u f : List ℕ) (d : ℕ) (places :
 
       placed-is : W ≡ grown normal (kids-of ls y - k) (run g k (kids-of ls y - k))
       placed-is =
-          words-placed b passed u f d places y h k8 k (qs ls u name m x here ex) (body ls u name m x here ex) (lay-unfolded ls u name m x here ex n0 n2) count
-          ∙ (placed-words b passed u f d places y h k8 k ∙ ap (λ (l : List ℕ). grown l (kids-of ls y - k) (run g k (kids-of ls y - k))) at-form)
+          words-placed ls passed u f d places y h k8 k (qs ls u name m x here ex) (body ls u name m x here ex) (lay-unfolded ls u name m x here ex n0 n2) count
+          ∙ (placed-words ls passed u f d places y h k8 k ∙ ap (λ (l : List ℕ). grown l (kids-of ls y - k) (run g k (kids-of ls y - k))) at-form)
 
       pub stop-form : (r : ℕ) (res : List ℕ) → length out < r → Put normal out at r res → Put W out at r res
       stop-form r res q z =
@@ -356,7 +351,7 @@ module _ (b : List ℕ) (passed : Passed b) (u f : List ℕ) (d : ℕ) (places :
       pub put-form : (r : ℕ) (res : List ℕ) → kids-of ls y ≤ k → Put normal out at r res → Put W out at r res
       put-form r res q z =
           put-same normal W out at r res
-          (sym (words-placed b passed u f d places y h k8 k (qs ls u name m x here ex) (body ls u name m x here ex) (lay-unfolded ls u name m x here ex n0 n2) count ∙ (words-exact b passed u f d places y h k8 k q ∙ at-form))) z
+          (sym (words-placed ls passed u f d places y h k8 k (qs ls u name m x here ex) (body ls u name m x here ex) (lay-unfolded ls u name m x here ex n0 n2) count ∙ (words-exact ls passed u f d places y h k8 k q ∙ at-form))) z
 
       pub put-surplus : (j r e : ℕ) (mid res : List ℕ) → j ≡ k → r ≤ length out → Put normal out at r mid
           → Put (grown (take (r - at) (drop at mid)) (kids-of ls y - j) (run g j (kids-of ls y - j))) mid at e res → Put W out at e res
@@ -376,21 +371,21 @@ state-below u m x d e h l = go (ltb (2 * m) (length u)) refl
     go false q = absurd (omega (arith, e, List·getD-eq-default u 3 {n = 2 * m} (ltb-false (2 * m) (length u) q)))
 
 -- a name's declaration, or their number
-pub place-few : (b : List ℕ) → Passed b → (n : ℕ) → position (program (lines 6 b)) n ≤ 96
-place-few b passed n = omega (arith, position-le (program (lines 6 b)) n, length-program (lines 6 b), decls-few b passed)
+pub place-few : (ls : List Line) → Passed ls → (n : ℕ) → position (program ls) n ≤ 96
+place-few ls passed n = omega (arith, position-le (program ls) n, length-program ls, decls-few ls passed)
 
 pub count-few : (w : ℕ) → node-of w .count < 1024
 unfolding node-of
 count-few w = omega arith
 
 -- a name has few arguments
-pub name-kids : (b : List ℕ) (passed : Passed b) (y : ℕ) → y < count-of type-line (lines 6 b) → kind-of (lines 6 b) y ≡ 8 → kids-of (lines 6 b) y ≤ 512
-name-kids b passed y h k = omega (arith, kids-8 (lines 6 b) y k, node-at b passed y h .listed8 k, args-few b passed)
+pub name-kids : (ls : List Line) (passed : Passed ls) (y : ℕ) → y < count-of type-line ls → kind-of ls y ≡ 8 → kids-of ls y ≤ 512
+name-kids ls passed y h k = omega (arith, kids-8 ls y k, node-at ls passed y h .listed8 k, args-few ls passed)
 
 -- what is asked of a part
-pub asked-kid : (b t u f : List ℕ) (y d i c : ℕ) → Asked b t u f y d → i < kids-of (lines 6 b) y → c ≡ kid-of (lines 6 b) y i → (c < y) × Asked b t u f c d
-asked-kid b t u f y d i c a h e =
-    let l : c < y = omega (arith, e, node-at b (a .tabled .passed) y (a .type) .lower i h) in
+pub asked-kid : (ls : List Line) (t u f : List ℕ) (y d i c : ℕ) → Asked ls t u f y d → i < kids-of ls y → c ≡ kid-of ls y i → (c < y) × Asked ls t u f c d
+asked-kid ls t u f y d i c a h e =
+    let l : c < y = omega (arith, e, node-at ls (a .tabled .passed) y (a .type) .lower i h) in
     (l, record { tabled = a .tabled; states = a .states; forms = a .forms; type = omega (arith, l, a .type); decl = a .decl })
 
 pub below : (a r : ℕ) → a ≤ r → (r ≡ a → ⊥) → a < r

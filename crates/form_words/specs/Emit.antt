@@ -1,18 +1,16 @@
 -- The words of a type's nodes, put together from those of its parts and of normal forms. The normal forms
 -- stand in one list of words: two cells for each declaration say where its own begins and how long it
 -- is. Assumes nothing.
-use mathlib.Core.Path.{_≡_}
 use mathlib.Core.List.{List, [], _∷_, _++_, map}
 use mathlib.Core.Bool.{Bool, true, false}
 use Prim.Native.Nat.{ℕ, zero, suc, _+_, _*_, _≤_, _<_}
 use lib.Dec.{eqb, ltb}
 use lib.ListN.{length, getD, take, drop}
 use Rattle.sheet.specs.Line.{Line}
-use Rattle.sheet.specs.Sheet.{lines}
 use Rattle.model.specs.Decl.{position}
 use Rattle.meaning.specs.Program.{program, type-line}
 use Rattle.meaning.specs.Rows.{count-of}
-use Rattle.tables.specs.Tables.{decls-of, Tabled}
+use Rattle.tables.specs.Tables.{decls-of, TableOf}
 use Rattle.kids.specs.Nodes.{type-of, kid-of}
 use Rattle.arguments.specs.Params.{params-of}
 use Rattle.normal.specs.Nodes.{Node, node}
@@ -55,9 +53,9 @@ abbrev pub form-of : List Line → List ℕ → ℕ → List Node
 form-of ls f n = map node-of (form-words f (position (program ls) n))
 
 -- each stands within the list
-pub record Forms (b f : List ℕ) : Type 0 where
-  pub cells : 2 * decls-of (lines 6 b) ≤ length f
-  pub inside : (d : ℕ) → d < decls-of (lines 6 b) → getD f (2 * d) 0 + getD f (2 * d + 1) 0 ≤ length f
+pub record Forms (ls : List Line) (f : List ℕ) : Type 0 where
+  pub cells : 2 * decls-of ls ≤ length f
+  pub inside : (d : ℕ) → d < decls-of ls → getD f (2 * d) 0 + getD f (2 * d + 1) 0 ≤ length f
 
 -- ---- the words of a Y line's type in declaration d
 module _ (ls : List Line) (u f : List ℕ) (d : ℕ) (places : Bool) where
@@ -69,9 +67,9 @@ module _ (ls : List Line) (u f : List ℕ) (d : ℕ) (places : Bool) where
   kid-words y i = words (kid-of ls y i)
 
 -- what emission asks of its arguments
-pub record Asked (b t u f : List ℕ) (y d : ℕ) : Type 0 where
-  pub tabled : Tabled b t
-  pub states : length u ≤ 2 * decls-of (lines 6 b)
-  pub forms : Forms b f
-  pub type : y < count-of type-line (lines 6 b)
-  pub decl : d < decls-of (lines 6 b)
+pub record Asked (ls : List Line) (t u f : List ℕ) (y d : ℕ) : Type 0 where
+  pub tabled : TableOf ls t
+  pub states : length u ≤ 2 * decls-of ls
+  pub forms : Forms ls f
+  pub type : y < count-of type-line ls
+  pub decl : d < decls-of ls

@@ -3,42 +3,21 @@ use mathlib.Core.Logic.{_⊎_, inl, inr}
 use mathlib.Core.Path.{_≡_, refl, ap, ap₂, sym, _∙_}
 use mathlib.Core.List.{List, [], _∷_, _++_, map, map-append, append-assoc, append-nil}
 use mathlib.Core.Bool.{Bool, true, false}
-use Prim.Native.Nat.{ℕ, zero, suc, _+_, _-_, _*_, _%_, _≤_, _<_}
+use Prim.Native.Nat.{ℕ, zero, suc, _+_, _-_, _%_, _≤_, _<_}
 use native.Mathlib.Omega.{arith}
 use lib.Dec.{eqb, ltb}
-use lib.ListN.{length, getD, take, drop, length-append, length-drop, drop-of-length-le, List·getD-append, List·getD-eq-default}
+use lib.ListN.{length, drop, length-append, length-drop, drop-of-length-le, List·getD-append, List·getD-eq-default}
 use lib.Seq.{drop-append-le, getD-append-seam}
 use borrow.Author.Tests.{eqb-true, eqb-false, ltb-true, ltb-false}
-use Rattle.columns.specs.Column.{pick, _⇒_∥_}
+use Rattle.columns.specs.Column.{_⇒_∥_}
 use Rattle.sheet.specs.Line.{Line, number}
-use Rattle.sheet.specs.Sheet.{lines}
 use Rattle.sheet.specs.ListLaws.{Every, every-append}
-use Rattle.model.specs.Cty.{
-  Cty,
-  Ctys,
-  TUnit,
-  TAny,
-  TExn,
-  TVar,
-  TInt,
-  TFloat,
-  TConst,
-  TArrow,
-  TApp,
-  TTuple,
-  TBuf,
-  TRef,
-  TInline,
-  nil,
-  cons,
-  append,
-  lengths,
-}
+use Rattle.model.specs.Cty.{Cty, Ctys, TUnit, TAny, TExn, TVar, TInt, TFloat, TConst, TArrow, TApp, TTuple, TBuf, TRef, TInline, nil, cons, append, lengths}
 use Rattle.model.specs.Decl.{member, position}
 use Rattle.meaning.specs.Program.{type-line, program, tree, trees, list-of}
 use Rattle.meaning.specs.Rows.{count-of}
 use Rattle.model.specs.Resolve.{Unfold, gone, newtype, abbreviation, stays}
-use Rattle.refusals.specs.Rows.{Passed}
+use Rattle.declared.specs.Passed.{Passed}
 use Rattle.outcomes.specs.Answer.{parts, plain, listed}
 use Rattle.kids.specs.Nodes.{y-line, kind-of, type-of, kids-of, kid-of}
 use Rattle.kids.specs.NodesLaws.{node-at, var-type, app-type, plain-type, parts-of}
@@ -50,7 +29,7 @@ use Rattle.normal.specs.Nodes.{Node, node, spread, attached}
 use Rattle.normal.specs.Forms.{joined, argument, placed, named, variable, nodes, nodes-each}
 use Rattle.nodes.specs.Words.{word, node-of}
 use Rattle.nodes.specs.WordsLaws.{node-cut, word-grown, node-small}
-use Rattle.states.specs.States.{unfold-at, lay-of}
+use Rattle.states.specs.States.{lay-of}
 use Rattle.form_words.specs.Emit.{run, step, filled, grown, form-words, form-of, words, kid-words}
 
 -- ---- lists of lists
@@ -315,10 +294,7 @@ own-tree ts xs (suc (suc (suc (suc (suc (suc (suc (suc (suc (suc (suc (suc zero)
 own-tree ts xs (suc (suc (suc (suc (suc (suc (suc (suc (suc (suc (suc (suc (suc k))))))))))))) a b c h n3 n8 = absurd (omega arith)
 
 -- ---- a Y line's type
-module _ (b : List ℕ) (passed : Passed b) (u f : List ℕ) (d : ℕ) (places : Bool) (y : ℕ) (h : y < count-of type-line (lines 6 b)) where
-  abbrev ls : List Line
-  ls = lines 6 b
-
+module _ (ls : List Line) (passed : Passed ls) (u f : List ℕ) (d : ℕ) (places : Bool) (y : ℕ) (h : y < count-of type-line ls) where
   abbrev ps : List ℕ
   ps = params-of ls d
 
@@ -341,38 +317,38 @@ module _ (b : List ℕ) (passed : Passed b) (u f : List ℕ) (d : ℕ) (places :
       each [] = tt
       each (w ∷ ws) = (node-small w, each ws)
 
-  run-kids : (k : ℕ) → map word (joined (drop k (nodes-each (lay-of ls u) form ps ρ (parts-of b passed y h)))) ≡ run g k (kids-of ls y - k)
+  run-kids : (k : ℕ) → map word (joined (drop k (nodes-each (lay-of ls u) form ps ρ (parts-of ls passed y h)))) ≡ run g k (kids-of ls y - k)
   unfolding words
   run-kids k = run-parts (lay-of ls u) form ps ρ F k (kids-of ls y)
 
   -- a variable
   pub words-var : kind-of ls y ≡ 3 → words ls u f d places y ≡ word (variable (member (number (y-line ls y) 1) ps) (ρ (number (y-line ls y) 1))) ∷ []
   unfolding words nodes
-  words-var k = ap (λ (c : Cty). map word (nodes (lay-of ls u) form ps ρ c)) (var-type b passed y h k)
+  words-var k = ap (λ (c : Cty). map word (nodes (lay-of ls u) form ps ρ c)) (var-type ls passed y h k)
 
   -- neither a variable nor a name
   pub words-plain : (kind-of ls y ≡ 3 → ⊥) → (kind-of ls y ≡ 8 → ⊥) → words ls u f d places y ≡ run g 0 (kids-of ls y) ++ (word (y-node ls y) ∷ [])
   unfolding words y-node y-count y-own
   words-plain n3 n8 =
-      let p = plain-type b passed y h n3 n8 in
+      let p = plain-type ls passed y h n3 n8 in
       let e : kids-of ls y - 0 ≡ kids-of ls y = omega arith in
       ap (map word) (nodes-plain (lay-of ls u) form ps ρ (type-of ls y) (p .is-plain))
       ∙ (map-append word (joined (nodes-each (lay-of ls u) form ps ρ (parts (type-of ls y)))) (own-node (type-of ls y) ∷ [])
       ∙ ap₂ (λ (x : List ℕ) (z : Node). x ++ (word z ∷ []))
       (ap (λ (ts : Ctys). map word (joined (nodes-each (lay-of ls u) form ps ρ ts))) (p .has-parts) ∙ (run-kids 0 ∙ ap (run g 0) e))
-      (ap own-node (type-tree b passed y h) ∙ own-tree (trees ls) (types-of ls) (number (y-line ls y) 0) (number (y-line ls y) 1) (number (y-line ls y) 2) (number (y-line ls y) 3) (node-at b passed y h .known) n3 n8))
+      (ap own-node (type-tree ls passed y h) ∙ own-tree (trees ls) (types-of ls) (number (y-line ls y) 0) (number (y-line ls y) 1) (number (y-line ls y) 2) (number (y-line ls y) 3) (node-at ls passed y h .known) n3 n8))
 
   module _ (k8 : kind-of ls y ≡ 8) where
     abbrev n : ℕ
     n = number (y-line ls y) 1
 
     abbrev xss : List (List Node)
-    xss = nodes-each (lay-of ls u) form ps ρ (parts-of b passed y h)
+    xss = nodes-each (lay-of ls u) form ps ρ (parts-of ls passed y h)
 
     named-words : (l : Unfold) → lay-of ls u n ≡ l → words ls u f d places y ≡ map word (named n (form n) xss l)
     unfolding words nodes
     named-words l e =
-        ap (λ (c : Cty). map word (nodes (lay-of ls u) form ps ρ c)) (app-type b passed y h k8) ∙ ap (λ (x : Unfold). map word (named n (form n) xss x)) e
+        ap (λ (c : Cty). map word (nodes (lay-of ls u) form ps ρ c)) (app-type ls passed y h k8) ∙ ap (λ (x : Unfold). map word (named n (form n) xss x)) e
 
     count-kids : length xss ≡ kids-of ls y
     count-kids = length-lists (lay-of ls u) form ps ρ F (kids-of ls y)
@@ -395,7 +371,7 @@ module _ (b : List ℕ) (passed : Passed b) (u f : List ℕ) (d : ℕ) (places :
     unfolding placed words
     placed-words k =
         grown-attached (spread (argument xss) (form n)) (length (drop k xss)) (joined (drop k xss))
-        (spread-small (argument xss) (λ i. argument-small xss i (each-small (lay-of ls u) form ps ρ form-small (parts-of b passed y h))) (form n) (form-small n))
+        (spread-small (argument xss) (λ i. argument-small xss i (each-small (lay-of ls u) form ps ρ form-small (parts-of ls passed y h))) (form n) (form-small n))
         ∙ ap₂ (λ (x : List ℕ) (r : List ℕ). grown x (length (drop k xss)) r) (filled-spread xss g (kids-of ls y) (argument-parts (lay-of ls u) form ps ρ F (kids-of ls y)) (form-words f (position (program ls) n))) (run-kids k)
         ∙ ap (λ (m : ℕ). grown (filled g (kids-of ls y) (form-words f (position (program ls) n))) m (run g k (kids-of ls y - k))) (length-drop k xss ∙ ap (λ (m : ℕ). m - k) count-kids)
 
@@ -422,7 +398,7 @@ module _ (b : List ℕ) (passed : Passed b) (u f : List ℕ) (d : ℕ) (places :
         placed-words k
         ∙ (ap (λ (m : ℕ). grown (filled g (kids-of ls y) (form-words f (position (program ls) n))) m (run g k m)) e
         ∙ (ap (λ (l : List ℕ). grown l 0 []) t
-        ∙ (grown-none (spread (argument xss) (form n)) (spread-small (argument xss) (λ i. argument-small xss i (each-small (lay-of ls u) form ps ρ form-small (parts-of b passed y h))) (form n) (form-small n)) ∙ sym t)))
+        ∙ (grown-none (spread (argument xss) (form n)) (spread-small (argument xss) (λ i. argument-small xss i (each-small (lay-of ls u) form ps ρ form-small (parts-of ls passed y h))) (form n) (form-small n)) ∙ sym t)))
 
     pub words-placed : (k : ℕ) (qs : List ℕ) (c : Cty) → (lay-of ls u n ≡ newtype qs c) ⊎ (lay-of ls u n ≡ abbreviation qs c) → length qs ≡ k
         → words ls u f d places y ≡ map word (placed k (form n) xss)

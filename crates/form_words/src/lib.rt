@@ -1,7 +1,6 @@
 // The words that are put one at a time: of a type that has no parts, and of a node of a normal form, with the Y line of its argument.
 ghost use mathlib.Core.Path.{_≡_};
 ghost use Prim.Native.Nat.{_<_};
-ghost use Rattle.sheet.specs.Sheet.{lines};
 ghost use Rattle.meaning.specs.Program.{type-line};
 ghost use Rattle.meaning.specs.Rows.{count-of};
 ghost use Rattle.tables.specs.Tables as tables;
@@ -16,33 +15,33 @@ use nodes::own;
 use nodes::pack;
 
 // The word of a type that has no parts.
-pub fn leaf_word(s: &[u8], t: &[u32], y: usize, d: usize, places: bool) -> u64
-    requires { ⌜ tables.Tabled (now s) (now t) ⌝ }
-    requires { ⌜ (y < count-of type-line (lines 6 (now s))) × (d < tables.decls-of (lines 6 (now s))) ⌝ }
-    ensures { λ r. ⌜ r ≡ leaf (lines 6 (now (s .entry))) d places y ⌝ }
+pub fn leaf_word(t: &[u32], y: usize, d: usize, places: bool) -> u64
+    requires { ⌜ tables.Tabled (now t) ⌝ }
+    requires { ⌜ (y < count-of type-line (tables.lines-in (now t))) × (d < tables.decls-of (tables.lines-in (now t))) ⌝ }
+    ensures { λ r. ⌜ r ≡ leaf (tables.lines-in (now (t .entry))) d places y ⌝ }
 {
-    let k = tables::type_number(s, t, y, 0);
+    let k = tables::type_number(t, y, 0);
     if k == 3 {
-        let v = tables::type_number(s, t, y, 1);
-        return variable_word(s, t, d, places, v);
+        let v = tables::type_number(t, y, 1);
+        return variable_word(t, d, places, v);
     }
-    own_word(s, t, y)
+    own_word(t, y)
 }
 
 // The Y line of the argument for a word of a normal form; y where the word is no parameter, or one without an argument.
-pub fn argument_line(s: &[u8], t: &[u32], y: usize, w: u64) -> usize
-    requires { ⌜ tables.Tabled (now s) (now t) ⌝ }
-    requires { ⌜ y < count-of type-line (lines 6 (now s)) ⌝ }
-    ensures { λ r. ⌜ Argument (lines 6 (now (s .entry))) y w r ⌝ }
+pub fn argument_line(t: &[u32], y: usize, w: u64) -> usize
+    requires { ⌜ tables.Tabled (now t) ⌝ }
+    requires { ⌜ y < count-of type-line (tables.lines-in (now t)) ⌝ }
+    ensures { λ r. ⌜ Argument (tables.lines-in (now (t .entry))) y w r ⌝ }
 {
     if kind(w) != 3 {
         return y;
     }
     let i = own(w) as usize;
-    if i >= kids(s, t, y) {
+    if i >= kids(t, y) {
         return y;
     }
-    kid(s, t, y, i)
+    kid(t, y, i)
 }
 
 // A word of a normal form that no argument replaces.

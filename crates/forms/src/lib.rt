@@ -3,7 +3,6 @@
 ghost use mathlib.Core.Path.{_≡_};
 ghost use Prim.Native.Nat.{_+_, _*_, _-_, _≤_, _<_};
 ghost use lib.ListN.{length, take, drop};
-ghost use Rattle.sheet.specs.Sheet.{lines};
 ghost use Rattle.tables.specs.Tables as tables;
 ghost use Rattle.kids.specs.Nodes.{kids-of, kind-of};
 ghost use Rattle.node_words.specs.Put.{Put};
@@ -26,7 +25,6 @@ use nodes::pack;
 
 // The type of Y line y in declaration d, from place `at` on.
 pub fn emit(
-    s: &[u8],
     t: &[u32],
     u: &[u16],
     f: &[u64],
@@ -36,19 +34,18 @@ pub fn emit(
     out: &mut [u64],
     at: usize,
 ) -> usize
-    requires { ⌜ Asked (now s) (now t) (now u) (now f) y d × (at ≤ length (now out)) ⌝ }
-    ensures { λ r. ⌜ Put (words (lines 6 (now (s .entry))) (now (u .entry)) (now (f .entry)) d places y) (now (out .entry)) at r (now (out .exit)) ⌝ }
+    requires { ⌜ Asked (tables.lines-in (now t)) (now t) (now u) (now f) y d × (at ≤ length (now out)) ⌝ }
+    ensures { λ r. ⌜ Put (words (tables.lines-in (now (t .entry))) (now (u .entry)) (now (f .entry)) d places y) (now (out .entry)) at r (now (out .exit)) ⌝ }
 {
-    let k = tables::type_number(s, t, y, 0);
+    let k = tables::type_number(t, y, 0);
     if k < 7 {
-        return put(out, at, leaf_word(s, t, y, d, places));
+        return put(out, at, leaf_word(t, y, d, places));
     }
-    emit_tree(s, t, u, f, y, d, places, out, at)
+    emit_tree(t, u, f, y, d, places, out, at)
 }
 
 // A type that may have parts.
 fn emit_tree(
-    s: &[u8],
     t: &[u32],
     u: &[u16],
     f: &[u64],
@@ -58,24 +55,23 @@ fn emit_tree(
     out: &mut [u64],
     at: usize,
 ) -> usize
-    requires { ⌜ Asked (now s) (now t) (now u) (now f) y d × (at ≤ length (now out)) ⌝ }
-    requires { ⌜ 7 ≤ kind-of (lines 6 (now s)) y ⌝ }
-    ensures { λ r. ⌜ Put (words (lines 6 (now (s .entry))) (now (u .entry)) (now (f .entry)) d places y) (now (out .entry)) at r (now (out .exit)) ⌝ }
+    requires { ⌜ Asked (tables.lines-in (now t)) (now t) (now u) (now f) y d × (at ≤ length (now out)) ⌝ }
+    requires { ⌜ 7 ≤ kind-of (tables.lines-in (now t)) y ⌝ }
+    ensures { λ r. ⌜ Put (words (tables.lines-in (now (t .entry))) (now (u .entry)) (now (f .entry)) d places y) (now (out .entry)) at r (now (out .exit)) ⌝ }
 {
-    let k = tables::type_number(s, t, y, 0);
+    let k = tables::type_number(t, y, 0);
     if k == 8 {
-        return emit_name(s, t, u, f, y, d, places, out, at);
+        return emit_name(t, u, f, y, d, places, out, at);
     }
-    let r = emit_kids(s, t, u, f, y, d, places, 0, out, at);
+    let r = emit_kids(t, u, f, y, d, places, 0, out, at);
     if r > out.len() {
         return r;
     }
-    put(out, r, own_word(s, t, y))
+    put(out, r, own_word(t, y))
 }
 
 // A name with its arguments.
 fn emit_name(
-    s: &[u8],
     t: &[u32],
     u: &[u16],
     f: &[u64],
@@ -85,37 +81,36 @@ fn emit_name(
     out: &mut [u64],
     at: usize,
 ) -> usize
-    requires { ⌜ Asked (now s) (now t) (now u) (now f) y d × (at ≤ length (now out)) ⌝ }
-    requires { ⌜ kind-of (lines 6 (now s)) y ≡ 8 ⌝ }
-    ensures { λ r. ⌜ Put (words (lines 6 (now (s .entry))) (now (u .entry)) (now (f .entry)) d places y) (now (out .entry)) at r (now (out .exit)) ⌝ }
+    requires { ⌜ Asked (tables.lines-in (now t)) (now t) (now u) (now f) y d × (at ≤ length (now out)) ⌝ }
+    requires { ⌜ kind-of (tables.lines-in (now t)) y ≡ 8 ⌝ }
+    ensures { λ r. ⌜ Put (words (tables.lines-in (now (t .entry))) (now (u .entry)) (now (f .entry)) d places y) (now (out .entry)) at r (now (out .exit)) ⌝ }
 {
-    let n = tables::type_number(s, t, y, 1);
-    let m = tables::decl_of(s, t, n as usize);
+    let n = tables::type_number(t, y, 1);
+    let m = tables::decl_of(t, n as usize);
     let x = state(u, m);
     if x == 0 {
         return put(out, at, pack(0, 0, 0));
     }
     if x > 2 {
-        let r = emit_kids(s, t, u, f, y, d, places, 0, out, at);
+        let r = emit_kids(t, u, f, y, d, places, 0, out, at);
         if r > out.len() {
             return r;
         }
-        return put(out, r, pack(8, kids(s, t, y) as u32, n));
+        return put(out, r, pack(8, kids(t, y) as u32, n));
     }
-    let r = emit_form(s, t, u, f, y, d, places, m, out, at);
+    let r = emit_form(t, u, f, y, d, places, m, out, at);
     if r > out.len() {
         return r;
     }
-    let k = calls::params(s, t, m);
-    if kids(s, t, y) <= k {
+    let k = calls::params(t, m);
+    if kids(t, y) <= k {
         return r;
     }
-    emit_surplus(s, t, u, f, y, d, places, k, out, at, r)
+    emit_surplus(t, u, f, y, d, places, k, out, at, r)
 }
 
 // The arguments past the first k, attached to what stands from place `at` to place r, if that ends in a `TApp`.
 fn emit_surplus(
-    s: &[u8],
     t: &[u32],
     u: &[u16],
     f: &[u64],
@@ -127,9 +122,9 @@ fn emit_surplus(
     at: usize,
     r: usize,
 ) -> usize
-    requires { ⌜ Asked (now s) (now t) (now u) (now f) y d × (at ≤ r) × (r ≤ length (now out)) × (k ≤ kids-of (lines 6 (now s)) y) ⌝ }
-    requires { ⌜ kind-of (lines 6 (now s)) y ≡ 8 ⌝ }
-    ensures { λ e. ⌜ Put (grown (take (r - at) (drop at (now (out .entry)))) (kids-of (lines 6 (now (s .entry))) y - k) (run (kid-words (lines 6 (now (s .entry))) (now (u .entry)) (now (f .entry)) d places y) k (kids-of (lines 6 (now (s .entry))) y - k))) (now (out .entry)) at e (now (out .exit)) ⌝ }
+    requires { ⌜ Asked (tables.lines-in (now t)) (now t) (now u) (now f) y d × (at ≤ r) × (r ≤ length (now out)) × (k ≤ kids-of (tables.lines-in (now t)) y) ⌝ }
+    requires { ⌜ kind-of (tables.lines-in (now t)) y ≡ 8 ⌝ }
+    ensures { λ e. ⌜ Put (grown (take (r - at) (drop at (now (out .entry)))) (kids-of (tables.lines-in (now (t .entry))) y - k) (run (kid-words (tables.lines-in (now (t .entry))) (now (u .entry)) (now (f .entry)) d places y) k (kids-of (tables.lines-in (now (t .entry))) y - k))) (now (out .entry)) at e (now (out .exit)) ⌝ }
 {
     if r == at {
         return r;
@@ -138,8 +133,8 @@ fn emit_surplus(
     if kind(w) != 8 {
         return r;
     }
-    let n = kids(s, t, y) - k;
-    let e = emit_kids(s, t, u, f, y, d, places, k, out, r - 1);
+    let n = kids(t, y) - k;
+    let e = emit_kids(t, u, f, y, d, places, k, out, r - 1);
     if e > out.len() {
         return e;
     }
@@ -148,7 +143,6 @@ fn emit_surplus(
 
 // A normal form with the arguments put in.
 fn emit_form(
-    s: &[u8],
     t: &[u32],
     u: &[u16],
     f: &[u64],
@@ -159,8 +153,8 @@ fn emit_form(
     out: &mut [u64],
     at: usize,
 ) -> usize
-    requires { ⌜ Asked (now s) (now t) (now u) (now f) y d × (at ≤ length (now out)) × (m < tables.decls-of (lines 6 (now s))) ⌝ }
-    ensures { λ r. ⌜ Put (filled (kid-words (lines 6 (now (s .entry))) (now (u .entry)) (now (f .entry)) d places y) (kids-of (lines 6 (now (s .entry))) y) (form-words (now (f .entry)) m)) (now (out .entry)) at r (now (out .exit)) ⌝ }
+    requires { ⌜ Asked (tables.lines-in (now t)) (now t) (now u) (now f) y d × (at ≤ length (now out)) × (m < tables.decls-of (tables.lines-in (now t))) ⌝ }
+    ensures { λ r. ⌜ Put (filled (kid-words (tables.lines-in (now (t .entry))) (now (u .entry)) (now (f .entry)) d places y) (kids-of (tables.lines-in (now (t .entry))) y) (form-words (now (f .entry)) m)) (now (out .entry)) at r (now (out .exit)) ⌝ }
 {
     let start = f[2 * m] as usize;
     let n = f[2 * m + 1] as usize;
@@ -170,8 +164,8 @@ fn emit_form(
     let mut r = at;
     for i in 0..n {
         let w = f[start + i];
-        let p = argument_line(s, t, y, w);
-        let e = emit_node(s, t, u, f, y, d, places, w, p, last, from, end, out, r);
+        let p = argument_line(t, y, w);
+        let e = emit_node(t, u, f, y, d, places, w, p, last, from, end, out, r);
         if e > out.len() {
             return e;
         }
@@ -188,7 +182,6 @@ fn emit_form(
 // A word of a normal form: the argument for a parameter, of Y line p, or the word. Y line `last` stands from place `from` to place
 // `end` already, where it is below y.
 fn emit_node(
-    s: &[u8],
     t: &[u32],
     u: &[u16],
     f: &[u64],
@@ -203,19 +196,18 @@ fn emit_node(
     out: &mut [u64],
     at: usize,
 ) -> usize
-    requires { ⌜ Asked (now s) (now t) (now u) (now f) y d × (at ≤ length (now out)) × Argument (lines 6 (now s)) y w p ⌝ }
-    requires { ⌜ (last < y → Stands (words (lines 6 (now s)) (now u) (now f) d places last) (now out) from end at) ⌝ }
-    ensures { λ r. ⌜ Put (step (kid-words (lines 6 (now (s .entry))) (now (u .entry)) (now (f .entry)) d places y) (kids-of (lines 6 (now (s .entry))) y) w) (now (out .entry)) at r (now (out .exit)) ⌝ }
+    requires { ⌜ Asked (tables.lines-in (now t)) (now t) (now u) (now f) y d × (at ≤ length (now out)) × Argument (tables.lines-in (now t)) y w p ⌝ }
+    requires { ⌜ (last < y → Stands (words (tables.lines-in (now t)) (now u) (now f) d places last) (now out) from end at) ⌝ }
+    ensures { λ r. ⌜ Put (step (kid-words (tables.lines-in (now (t .entry))) (now (u .entry)) (now (f .entry)) d places y) (kids-of (tables.lines-in (now (t .entry))) y) w) (now (out .entry)) at r (now (out .exit)) ⌝ }
 {
     if p < y {
-        return emit_part(s, t, u, f, p, d, places, last, from, end, out, at);
+        return emit_part(t, u, f, p, d, places, last, from, end, out, at);
     }
     put(out, at, left_word(w))
 }
 
 // The type of Y line y, which stands from place `from` to place `end` already, where it is `last`.
 fn emit_part(
-    s: &[u8],
     t: &[u32],
     u: &[u16],
     f: &[u64],
@@ -228,23 +220,22 @@ fn emit_part(
     out: &mut [u64],
     at: usize,
 ) -> usize
-    requires { ⌜ Asked (now s) (now t) (now u) (now f) y d × (at ≤ length (now out)) ⌝ }
-    requires { ⌜ (last ≡ y → Stands (words (lines 6 (now s)) (now u) (now f) d places y) (now out) from end at) ⌝ }
-    ensures { λ r. ⌜ Put (words (lines 6 (now (s .entry))) (now (u .entry)) (now (f .entry)) d places y) (now (out .entry)) at r (now (out .exit)) ⌝ }
+    requires { ⌜ Asked (tables.lines-in (now t)) (now t) (now u) (now f) y d × (at ≤ length (now out)) ⌝ }
+    requires { ⌜ (last ≡ y → Stands (words (tables.lines-in (now t)) (now u) (now f) d places y) (now out) from end at) ⌝ }
+    ensures { λ r. ⌜ Put (words (tables.lines-in (now (t .entry))) (now (u .entry)) (now (f .entry)) d places y) (now (out .entry)) at r (now (out .exit)) ⌝ }
 {
     if last == y {
         return again(out, from, end, at);
     }
-    let k = tables::type_number(s, t, y, 0);
+    let k = tables::type_number(t, y, 0);
     if k < 7 {
-        return put(out, at, leaf_word(s, t, y, d, places));
+        return put(out, at, leaf_word(t, y, d, places));
     }
-    emit_tree(s, t, u, f, y, d, places, out, at)
+    emit_tree(t, u, f, y, d, places, out, at)
 }
 
 // The parts from part `from` on.
 fn emit_kids(
-    s: &[u8],
     t: &[u32],
     u: &[u16],
     f: &[u64],
@@ -255,16 +246,16 @@ fn emit_kids(
     out: &mut [u64],
     at: usize,
 ) -> usize
-    requires { ⌜ Asked (now s) (now t) (now u) (now f) y d × (at ≤ length (now out)) × (from ≤ kids-of (lines 6 (now s)) y) ⌝ }
-    ensures { λ r. ⌜ Put (run (kid-words (lines 6 (now (s .entry))) (now (u .entry)) (now (f .entry)) d places y) from (kids-of (lines 6 (now (s .entry))) y - from)) (now (out .entry)) at r (now (out .exit)) ⌝ }
+    requires { ⌜ Asked (tables.lines-in (now t)) (now t) (now u) (now f) y d × (at ≤ length (now out)) × (from ≤ kids-of (tables.lines-in (now t)) y) ⌝ }
+    ensures { λ r. ⌜ Put (run (kid-words (tables.lines-in (now (t .entry))) (now (u .entry)) (now (f .entry)) d places y) from (kids-of (tables.lines-in (now (t .entry))) y - from)) (now (out .entry)) at r (now (out .exit)) ⌝ }
 {
-    let n = kids(s, t, y);
+    let n = kids(t, y);
     let mut last = y;
     let mut start = at;
     let mut r = at;
     for i in from..n {
-        let p = kid(s, t, y, i);
-        let e = emit_part(s, t, u, f, p, d, places, last, start, r, out, r);
+        let p = kid(t, y, i);
+        let e = emit_part(t, u, f, p, d, places, last, start, r, out, r);
         if e > out.len() {
             return e;
         }

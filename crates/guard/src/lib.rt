@@ -1,6 +1,5 @@
 // The guard against cycles: `acyclic_candidates`. From a candidate the search goes on to the candidates that its payload names, also
 // through those that are dropped themselves.
-ghost use Rattle.sheet.specs.Sheet as sheet;
 ghost use Rattle.meaning.specs.Program as program;
 ghost use Rattle.meaning.specs.Rows as rows;
 ghost use Rattle.tables.specs.Tables as tables;
@@ -10,7 +9,6 @@ ghost use Rattle.guard.specs.Guard.{Lent, Guarded};
 
 // 1 for each declaration whose candidate reaches itself.
 pub fn dropped(
-    s: &[u8],
     t: &[u32],
     sets: &[u64],
     words: usize,
@@ -20,12 +18,12 @@ pub fn dropped(
     queue: &mut [u16],
     found: &mut [u8],
 )
-    requires { ⌜ tables.Tabled (now s) (now t) ⌝ }
-    requires { ⌜ Mentioned (sheet.lines 6 (now s)) words (now sets) (rows.count-of program.type-line (sheet.lines 6 (now s))) ⌝ }
-    requires { ⌜ Payloads (sheet.lines 6 (now s)) (now bodies) ⌝ }
-    requires { ⌜ Lent (tables.decls-of (sheet.lines 6 (now s))) words (now steps) (now marks) (now queue) (now found) ⌝ }
-    ensures { λ _. ⌜ Guarded (sheet.lines 6 (now (s .entry))) (now (found .exit)) ⌝ }
+    requires { ⌜ tables.Tabled (now t) ⌝ }
+    requires { ⌜ Mentioned (tables.lines-in (now t)) words (now sets) (rows.count-of program.type-line (tables.lines-in (now t))) ⌝ }
+    requires { ⌜ Payloads (tables.lines-in (now t)) (now bodies) ⌝ }
+    requires { ⌜ Lent (tables.decls-of (tables.lines-in (now t))) words (now steps) (now marks) (now queue) (now found) ⌝ }
+    ensures { λ _. ⌜ Guarded (tables.lines-in (now (t .entry))) (now (found .exit)) ⌝ }
 {
-    edges::edges(sets, words, tables::types(s, t), bodies, steps);
+    edges::edges(sets, words, tables::types(t), bodies, steps);
     loops::loops(steps, words, bodies.len(), marks, queue, found);
 }

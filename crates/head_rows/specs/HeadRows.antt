@@ -12,20 +12,23 @@ use borrow.Author.Tests.{lt-ltb, le-ltb, ltb-true, ltb-false}
 use Rattle.columns.specs.Column.{pick}
 use Rattle.sheet.specs.Format.{Format}
 use Rattle.sheet.specs.Line.{Line}
-use Rattle.sheet.specs.Sheet.{first, count, lines}
-use Rattle.sheet.specs.SheetLaws.{length-lines}
+use Rattle.sheet.specs.Sheet.{first}
 use Rattle.sheet.specs.FirstLaws.{first-place, place-unique, first-le, first-holds, first-before}
 use Rattle.model.specs.Decl.{Decl}
-use Rattle.model.specs.Run.{layouts-of, returns, decl-fault}
+use Rattle.model.specs.Run.{layouts-of, returns, decl-fault, resolves, lay, layout-of-decl}
 use Rattle.meaning.specs.Program.{is-head, program}
 use Rattle.meaning.specs.Rows.{line-at, heads-before}
-use Rattle.answer.specs.declared.Refusal.{Refusal}
 use Rattle.answer.specs.declared.Refusal.the-variants.{Accepted, Refused}
-use Rattle.answer.specs.Answer.{Row, line-row, at-head, row8, fault-at, row9-10, program-rows, refusal}
+use Rattle.answer.specs.Answer.{Row, line-row, at-head, row8, fault-at, row9-10, refusal}
 use Rattle.order.specs.StepLaws.{heads-before-step, heads-before-mono}
 use Rattle.limits.specs.Limits.{start}
 use Rattle.limits.specs.LimitsLaws.{start-past, start-within, start-head, start-counts}
 use Rattle.tables.specs.Tables.{decls-of}
+use Rattle.sheet.specs.ListLaws.{Every}
+use Rattle.locality.specs.Laws.Fuel.{NoReturn}
+use Rattle.model_laws.specs.Resolve.{Resolved}
+use Rattle.answer.specs.Laws.Left.{lines-no-return, lines-resolved}
+use Rattle.answer.specs.Laws.Answer.{accepted-clear}
 
 -- a row by the first number i at which its test holds, and whether that is below its bound
 row-told : (row : Row) (rs : List Row) (i : ℕ) (c : Bool) → first (row .test) (row .bound) ≡ i → ltb i (row .bound) ≡ c → refusal (row ∷ rs) ≡ pick c (Refused (row .code i) (row .place i)) (refusal rs)
@@ -122,26 +125,27 @@ module _ (ls : List Line) where
 unfoldable pub faulty : Format → List Decl → ℕ → Bool
 faulty f ds k = not (eqb (decl-fault (f .nodes) (f .fuel) ds (layouts-of ds) k) 0)
 
-module _ (f : Format) (b : List ℕ) where
-  abbrev ls : List Line
-  ls = lines (f .columns) b
+-- row 8; rows 9 and 10, which share one pass over the lines where declarations begin
+abbrev pub returns-row : List Line → Row
+returns-row ls = line-row 8 (length ls) (row8 (program ls) ls)
 
+abbrev pub faults-row : Format → List Line → Row
+faults-row f ls = record { bound = length ls; test = row9-10 f (program ls) ls; code = fault-at f (program ls) ls; place = λ i. i }
+
+module _ (ls : List Line) where
   abbrev ds : List Decl
-  ds = program (lines (f .columns) b)
+  ds = program ls
 
   -- Row 8, with the rows behind it.
-  pub row8-refusal : (rs : List Row) (r : ℕ) → r ≡ first (returns ds (layouts-of ds)) (decls-of ls)
-      → refusal (line-row 8 (count (f .columns) b) (row8 ds ls) ∷ rs) ≡ pick (ltb r (decls-of ls)) (Refused 8 (start ls r)) (refusal rs)
+  pub row8-refusal : (rs : List Row) (r : ℕ) → r ≡ first (returns ds (layouts-of ds)) (decls-of ls) → refusal (returns-row ls ∷ rs) ≡ pick (ltb r (decls-of ls)) (Refused 8 (start ls r)) (refusal rs)
   unfolding row8
-  row8-refusal rs r q = head-refusal ls (returns ds (layouts-of ds)) (count (f .columns) b) (length-lines (f .columns) b) (λ i. 8) rs r q
+  row8-refusal rs r q = head-refusal ls (returns ds (layouts-of ds)) (length ls) refl (λ i. 8) rs r q
 
   -- Rows 9 and 10.
-  pub fault-refusal : (rs : List Row) (r : ℕ) → r ≡ first (faulty f ds) (decls-of ls)
-      → refusal (record { bound = count (f .columns) b; test = row9-10 f ds ls; code = fault-at f ds ls; place = λ i. i } ∷ rs)
-      ≡ pick (ltb r (decls-of ls)) (Refused (decl-fault (f .nodes) (f .fuel) ds (layouts-of ds) r) (start ls r)) (refusal rs)
+  pub fault-refusal : (f : Format) (rs : List Row) (r : ℕ) → r ≡ first (faulty f ds) (decls-of ls)
+      → refusal (faults-row f ls ∷ rs) ≡ pick (ltb r (decls-of ls)) (Refused (decl-fault (f .nodes) (f .fuel) ds (layouts-of ds) r) (start ls r)) (refusal rs)
   unfolding row9-10 faulty fault-at
-  fault-refusal rs r q =
-      head-refusal ls (faulty f ds) (count (f .columns) b) (length-lines (f .columns) b) (fault-at f ds ls) rs r q ∙ go (ltb r (decls-of ls)) refl
+  fault-refusal f rs r q = head-refusal ls (faulty f ds) (length ls) refl (fault-at f ds ls) rs r q ∙ go (ltb r (decls-of ls)) refl
     where
       go : (c : Bool) → ltb r (decls-of ls) ≡ c
           → pick c (Refused (decl-fault (f .nodes) (f .fuel) ds (layouts-of ds) (heads-before ls (start ls r))) (start ls r)) (refusal rs)
@@ -149,11 +153,15 @@ module _ (f : Format) (b : List ℕ) where
       go true e = rw (heads-at ls r (ltb-true r (decls-of ls) e))
       go false e = refl
 
-  -- Rows 8 to 10: by the first declaration that returns to itself and, where none does, the first that meets a fault.
-  pub program-refusal : (r e : ℕ) → r ≡ first (returns ds (layouts-of ds)) (decls-of ls) → e ≡ first (faulty f ds) (decls-of ls)
-      → refusal (program-rows f b)
-      ≡ pick (ltb r (decls-of ls)) (Refused 8 (start ls r)) (pick (ltb e (decls-of ls)) (Refused (decl-fault (f .nodes) (f .fuel) ds (layouts-of ds) e) (start ls e)) Accepted)
-  unfolding program-rows refusal
-  program-refusal r e q w =
-      row8-refusal (record { bound = count (f .columns) b; test = row9-10 f ds ls; code = fault-at f ds ls; place = λ i. i } ∷ []) r q
-      ∙ ap (λ (x : Refusal). pick (ltb r (decls-of ls)) (Refused 8 (start ls r)) x) (fault-refusal [] e w)
+-- ---- lines to which none of them applies
+-- nothing returns to itself, and every type that is resolved resolves without fault and is small
+pub record Resolvable (f : Format) (ls : List Line) : Type 0 where
+  pub no-return : NoReturn (program ls)
+  pub resolved : (i : ℕ) → i < length (program ls) → Every (Resolved (f .nodes) (lay (program ls)) (f .fuel)) (resolves (layout-of-decl (program ls) i))
+
+pub resolvable : (f : Format) (ls : List Line) → refusal (returns-row ls ∷ []) ≡ Accepted → refusal (faults-row f ls ∷ []) ≡ Accepted → Resolvable f ls
+resolvable f ls r e =
+    record {
+      no-return = lines-no-return ls (accepted-clear (returns-row ls ∷ []) r .0);
+      resolved = lines-resolved f ls (accepted-clear (faults-row f ls ∷ []) e .0);
+    }

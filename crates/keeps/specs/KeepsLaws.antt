@@ -4,33 +4,32 @@ use mathlib.Core.List.{List, [], _∷_, _++_, map, append-nil}
 use mathlib.Core.Bool.{Bool, true, false, not}
 use Prim.Native.Nat.{ℕ, zero, suc, _+_, _-_, _≤_, _<_}
 use native.Mathlib.Omega.{arith}
-use lib.Dec.{eqb, ltb}
+use lib.Dec.{eqb}
 use lib.ListN.{length, getD, set, length-map, length-set}
 use lib.Seq.{getD-set-same, getD-set-other}
-use borrow.Author.Tests.{eqb-true, eqb-false, ltb-true, ltb-false}
-use Rattle.columns.specs.Column.{pick, _⇒_∥_}
+use borrow.Author.Tests.{eqb-true, eqb-false}
+use Rattle.columns.specs.Column.{_⇒_∥_}
 use Rattle.sheet.specs.Line.{Line, bad, number}
-use Rattle.sheet.specs.Sheet.{lines}
 use Rattle.sheet.specs.ListLaws.{length-nil}
-use Rattle.model.specs.Cty.{Cty, TUnit}
-use Rattle.model.specs.Decl.{table, Field, Ctor, Body, TAbstract, TAbbrev, TRecord, TVariant, Dtype, Origin, here, imported, Decl, dtype-at, origin-at, ctors-of, CtorLayout, close-field, close-body, close-fields, bit}
+use Rattle.model.specs.Cty.{Cty}
+use Rattle.model.specs.Decl.{table, Ctor, TAbstract, TAbbrev, TRecord, TVariant, here, ctors-of, close-field, close-body, close-fields, bit}
 use Rattle.model.specs.Erasure.{cty-erased, marked, erasure-fixpoint}
 use Rattle.model.specs.Layout.{layouts-of-ctors, slots, ctor-layout, ctor-layouts}
 use Rattle.meaning.specs.Output.{all-slots}
-use Rattle.meaning.specs.Program.{type-line, param-line, ctor-line, field-line, import-line, is, select, before, Group, groups, trees, type-at, field-of, ctor-of, body-of, dtype-of, keeps, keeps-of, ctor-layouts-by, info-of, verdict-of, program}
+use Rattle.meaning.specs.Program.{type-line, param-line, ctor-line, field-line, import-line, is, select, before, Group, groups, trees, type-at, field-of, ctor-of, body-of, dtype-of, keeps, keeps-of, ctor-layouts-by, info-of, program}
 use Rattle.meaning.specs.Rows.{count-of}
 use Rattle.model_laws.specs.Lists.{getD-map}
 use Rattle.meaning.specs.Laws.Program.{Whole}
 use Rattle.model_laws.specs.Rounds.{cases-eq}
 use Rattle.limits.specs.Limits.{counts-of}
-use Rattle.refusals.specs.Rows.{Passed}
-use Rattle.refusals.specs.RowsLaws.{passed-kept}
+use Rattle.declared.specs.Passed.{Passed}
+use Rattle.declared.specs.PassedLaws.{passed-kept}
 use Rattle.tables.specs.Tables.{nth, group, head-line, decls-of, first-of}
 use Rattle.declared.specs.DeclLaws.{first-next, nth-in, dtype-is, origin-local, origin-import, whole-at}
 use Rattle.declared.specs.BodyLaws.{close-erased, closed, fields-of, ctor-fields}
 use Rattle.marks.specs.Marks.{type-erased}
 use Rattle.bodies.specs.Bodies.{field-type}
-use Rattle.bodies.specs.BodiesLaws.{first-rises, first-le, field-types, fields-few, types-few}
+use Rattle.bodies.specs.BodiesLaws.{first-rises}
 use Rattle.keeps.specs.Keeps.{slots-of, slots-at, erased-at, Erased, field-kept, Kept, Slotted}
 
 -- ---- slots of lines
@@ -120,59 +119,59 @@ module _ (er : ℕ → Bool) (ps : List ℕ) (ts : List Cty) (n kind last : ℕ)
       go false false false a c d = let p = eqb-false kind 1 a in let q = eqb-false kind 2 c in let r = eqb-false kind 3 d in rw (none-there (omega arith))
 
 -- ---- slots of a declaration
-module _ (b : List ℕ) (p : Passed b) (d : ℕ) (h : d < decls-of (lines 6 b)) where
-  w : Whole (group (lines 6 b) d)
-  w = whole-at b p d h
+module _ (ls : List Line) (p : Passed ls) (d : ℕ) (h : d < decls-of ls) where
+  w : Whole (group ls d)
+  w = whole-at ls p d h
 
   er : ℕ → Bool
-  er = marked (program (lines 6 b)) (erasure-fixpoint (program (lines 6 b)) .marks)
+  er = marked (program ls) (erasure-fixpoint (program ls) .marks)
 
   ps : List ℕ
-  ps = map (λ l. number l 0) (select param-line (group (lines 6 b) d .rest))
+  ps = map (λ l. number l 0) (select param-line (group ls d .rest))
 
   fl : List Line
-  fl = select field-line (group (lines 6 b) d .rest)
+  fl = select field-line (group ls d .rest)
 
-  slots-here : is import-line (head-line (lines 6 b) d) ≡ false → slots-at (program (lines 6 b)) d ≡ local-slots er ps (trees (lines 6 b)) fl
+  slots-here : is import-line (head-line ls d) ≡ false → slots-at (program ls) d ≡ local-slots er ps (trees ls) fl
   unfolding slots-of ctor-layouts close-fields dtype-of er ps fl
   slots-here e =
-      rw (origin-local (lines 6 b) d h e, dtype-is (lines 6 b) d h)
-      (body-slots er ps (trees (lines 6 b)) (number (head-line (lines 6 b) d) 0) (number (head-line (lines 6 b) d) 2) (number (head-line (lines 6 b) d) 4) (group (lines 6 b) d .rest) (λ l. w .bare l .0) (w .kinds) (w .ctors-first))
+      rw (origin-local ls d h e, dtype-is ls d h)
+      (body-slots er ps (trees ls) (number (head-line ls d) 0) (number (head-line ls d) 2) (number (head-line ls d) 4) (group ls d .rest) (λ l. w .bare l .0) (w .kinds) (w .ctors-first))
 
-  slots-import : is import-line (head-line (lines 6 b) d) ≡ true → slots-at (program (lines 6 b)) d ≡ kept-slots fl
+  slots-import : is import-line (head-line ls d) ≡ true → slots-at (program ls) d ≡ kept-slots fl
   unfolding slots-of info-of close-fields dtype-of fl ps
   slots-import e =
-      rw (origin-import (lines 6 b) d h e)
-      (body-keeps er ps (trees (lines 6 b)) (number (head-line (lines 6 b) d) 0) (number (head-line (lines 6 b) d) 2) (number (head-line (lines 6 b) d) 4) (group (lines 6 b) d .rest) (λ l. w .bare l .0) (w .kinds) (w .ctors-first))
+      rw (origin-import ls d h e)
+      (body-keeps er ps (trees ls) (number (head-line ls d) 0) (number (head-line ls d) 2) (number (head-line ls d) 4) (group ls d .rest) (λ l. w .bare l .0) (w .kinds) (w .ctors-first))
 
-  nth-field : (j : ℕ) → j < length fl → getD fl j bad ≡ nth field-line (lines 6 b) (first-of field-line (lines 6 b) d + j)
+  nth-field : (j : ℕ) → j < length fl → getD fl j bad ≡ nth field-line ls (first-of field-line ls d + j)
   unfolding fl
-  nth-field j l = sym (nth-in (lines 6 b) d h field-line refl refl j l)
+  nth-field j l = sym (nth-in ls d h field-line refl refl j l)
 
-  pub slots-length : length (slots-at (program (lines 6 b)) d) ≡ count-of field-line (group (lines 6 b) d .rest)
+  pub slots-length : length (slots-at (program ls) d) ≡ count-of field-line (group ls d .rest)
   unfolding local-slots kept-slots fl
-  slots-length = go (is import-line (head-line (lines 6 b) d)) refl
+  slots-length = go (is import-line (head-line ls d)) refl
     where
-      go : (c : Bool) → is import-line (head-line (lines 6 b) d) ≡ c → length (slots-at (program (lines 6 b)) d) ≡ count-of field-line (group (lines 6 b) d .rest)
-      go true e = ap length (slots-import e) ∙ length-map (select field-line (group (lines 6 b) d .rest)) (λ l. not (eqb (number l 2) 0))
-      go false e = ap length (slots-here e) ∙ length-map (select field-line (group (lines 6 b) d .rest)) (λ l. not (cty-erased er (type-at (trees (lines 6 b)) (number l 1))))
+      go : (c : Bool) → is import-line (head-line ls d) ≡ c → length (slots-at (program ls) d) ≡ count-of field-line (group ls d .rest)
+      go true e = ap length (slots-import e) ∙ length-map (select field-line (group ls d .rest)) (λ l. not (eqb (number l 2) 0))
+      go false e = ap length (slots-here e) ∙ length-map (select field-line (group ls d .rest)) (λ l. not (cty-erased er (type-at (trees ls) (number l 1))))
 
-  pub slot-is : (j : ℕ) → j < length (slots-at (program (lines 6 b)) d) → getD (slots-at (program (lines 6 b)) d) j false ≡ field-kept (lines 6 b) (first-of field-line (lines 6 b) d + j) (is import-line (head-line (lines 6 b) d))
+  pub slot-is : (j : ℕ) → j < length (slots-at (program ls) d) → getD (slots-at (program ls) d) j false ≡ field-kept ls (first-of field-line ls d + j) (is import-line (head-line ls d))
   unfolding local-slots kept-slots fl type-erased er
-  slot-is j l = go (is import-line (head-line (lines 6 b) d)) refl
+  slot-is j l = go (is import-line (head-line ls d)) refl
     where
-      k : j < length (select field-line (group (lines 6 b) d .rest))
+      k : j < length (select field-line (group ls d .rest))
       k = omega (arith, slots-length)
 
-      go : (c : Bool) → is import-line (head-line (lines 6 b) d) ≡ c → getD (slots-at (program (lines 6 b)) d) j false ≡ field-kept (lines 6 b) (first-of field-line (lines 6 b) d + j) c
+      go : (c : Bool) → is import-line (head-line ls d) ≡ c → getD (slots-at (program ls) d) j false ≡ field-kept ls (first-of field-line ls d + j) c
       go true e =
           ap (λ (r : List Bool). getD r j false) (slots-import e)
           ∙ getD-map (λ l. not (eqb (number l 2) 0)) fl j false bad k
           ∙ ap (λ (m : Line). not (eqb (number m 2) 0)) (nth-field j k)
       go false e =
           ap (λ (r : List Bool). getD r j false) (slots-here e)
-          ∙ getD-map (λ l. not (cty-erased er (type-at (trees (lines 6 b)) (number l 1)))) fl j false bad k
-          ∙ ap (λ (m : Line). not (cty-erased er (type-at (trees (lines 6 b)) (number m 1)))) (nth-field j k)
+          ∙ getD-map (λ l. not (cty-erased er (type-at (trees ls) (number l 1)))) fl j false bad k
+          ∙ ap (λ (m : Line). not (cty-erased er (type-at (trees ls) (number m 1)))) (nth-field j k)
 
 -- ---- the table
 not-bit : (v : Bool) → eqb (bit v) 0 ≡ not v
@@ -225,15 +224,15 @@ partly-all ls keep d f h q =
 pub kept-none : (ls : List Line) (keep : List ℕ) → count-of field-line ls ≤ length keep → Kept ls keep 0
 kept-none ls keep h = record { size = h; fields = λ d a. absurd (omega arith) }
 
-pub kept-slotted : (b : List ℕ) → Passed b → (keep : List ℕ) → Kept (lines 6 b) keep (decls-of (lines 6 b)) → Slotted (lines 6 b) keep
-kept-slotted b p keep k =
+pub kept-slotted : (ls : List Line) → Passed ls → (keep : List ℕ) → Kept ls keep (decls-of ls) → Slotted ls keep
+kept-slotted ls p keep k =
     record {
-      sized = λ d h. rw (slots-length b p d h) (sym (first-next (lines 6 b) d h field-line refl refl));
+      sized = λ d h. rw (slots-length ls p d h) (sym (first-next ls d h field-line refl refl));
       slots = λ d h j l.
-          k .fields d h h (first-of field-line (lines 6 b) d + j) (omega arith) (omega (arith, slots-length b p d h, first-next (lines 6 b) d h field-line refl refl))
-          ∙ ap bit (sym (slot-is b p d h j l));
+          k .fields d h h (first-of field-line ls d + j) (omega arith) (omega (arith, slots-length ls p d h, first-next ls d h field-line refl refl))
+          ∙ ap bit (sym (slot-is ls p d h j l));
     }
 
-pub decls-few : (b : List ℕ) → Passed b → decls-of (lines 6 b) ≤ 96
+pub decls-few : (ls : List Line) → Passed ls → decls-of ls ≤ 96
 unfolding counts-of
-decls-few b p = passed-kept b p .decls
+decls-few ls p = passed-kept ls p .decls

@@ -3,7 +3,6 @@
 ghost use mathlib.Core.Path.{_≡_};
 ghost use Prim.Native.Nat.{suc, _≤_, _<_};
 ghost use lib.ListN.{length};
-ghost use Rattle.sheet.specs.Sheet as sheet;
 ghost use Rattle.model.specs.Decl as decls;
 ghost use Rattle.meaning.specs.Program as program;
 ghost use Rattle.meaning.specs.Rows as rows;
@@ -17,44 +16,44 @@ fn bit(b: bool) -> u8
 }
 
 // Field f of an imported or a local declaration.
-fn is_kept(s: &[u8], t: &[u32], node: &[u8], f: usize, import: bool) -> bool
-    requires { ⌜ tables.Tabled (now s) (now t) ⌝ }
-    requires { ⌜ (f < rows.count-of program.field-line (sheet.lines 6 (now s))) × keeps.Erased (sheet.lines 6 (now s)) (now node) ⌝ }
-    ensures { λ r. ⌜ r ≡ keeps.field-kept (sheet.lines 6 (now (s .entry))) f import ⌝ }
+fn is_kept(t: &[u32], node: &[u8], f: usize, import: bool) -> bool
+    requires { ⌜ tables.Tabled (now t) ⌝ }
+    requires { ⌜ (f < rows.count-of program.field-line (tables.lines-in (now t))) × keeps.Erased (tables.lines-in (now t)) (now node) ⌝ }
+    ensures { λ r. ⌜ r ≡ keeps.field-kept (tables.lines-in (now (t .entry))) f import ⌝ }
 {
     if import {
-        return tables::field_number(s, t, f, 2) != 0;
+        return tables::field_number(t, f, 2) != 0;
     }
-    let y = tables::field_number(s, t, f, 1) as usize;
+    let y = tables::field_number(t, f, 1) as usize;
     node[y] == 0
 }
 
 // The fields of declaration d.
-fn put_fields(s: &[u8], t: &[u32], node: &[u8], keep: &mut [u8], d: usize)
-    requires { ⌜ tables.Tabled (now s) (now t) ⌝ }
-    requires { ⌜ (d < tables.decls-of (sheet.lines 6 (now s))) × keeps.Erased (sheet.lines 6 (now s)) (now node) ⌝ }
-    requires { ⌜ keeps.Kept (sheet.lines 6 (now s)) (now keep) d ⌝ }
-    ensures { λ _. ⌜ keeps.Kept (sheet.lines 6 (now (s .entry))) (now (keep .exit)) (suc d) ⌝ }
+fn put_fields(t: &[u32], node: &[u8], keep: &mut [u8], d: usize)
+    requires { ⌜ tables.Tabled (now t) ⌝ }
+    requires { ⌜ (d < tables.decls-of (tables.lines-in (now t))) × keeps.Erased (tables.lines-in (now t)) (now node) ⌝ }
+    requires { ⌜ keeps.Kept (tables.lines-in (now t)) (now keep) d ⌝ }
+    ensures { λ _. ⌜ keeps.Kept (tables.lines-in (now (t .entry))) (now (keep .exit)) (suc d) ⌝ }
 {
-    let end = tables::first_field(s, t, d + 1);
-    let import = tables::is_import(s, t, d);
-    let mut f = tables::first_field(s, t, d);
+    let end = tables::first_field(t, d + 1);
+    let import = tables::is_import(t, d);
+    let mut f = tables::first_field(t, d);
     while f < end {
-        keep[f] = bit(is_kept(s, t, node, f, import));
+        keep[f] = bit(is_kept(t, node, f, import));
         f += 1;
     }
 }
 
 // The fields of every declaration.
-pub fn keep_fields(s: &[u8], t: &[u32], node: &[u8], keep: &mut [u8])
-    requires { ⌜ tables.Tabled (now s) (now t) ⌝ }
-    requires { ⌜ keeps.Erased (sheet.lines 6 (now s)) (now node) × (rows.count-of program.field-line (sheet.lines 6 (now s)) ≤ length (now keep)) ⌝ }
-    ensures { λ _. ⌜ keeps.Slotted (sheet.lines 6 (now (s .entry))) (now (keep .exit)) ⌝ }
+pub fn keep_fields(t: &[u32], node: &[u8], keep: &mut [u8])
+    requires { ⌜ tables.Tabled (now t) ⌝ }
+    requires { ⌜ keeps.Erased (tables.lines-in (now t)) (now node) × (rows.count-of program.field-line (tables.lines-in (now t)) ≤ length (now keep)) ⌝ }
+    ensures { λ _. ⌜ keeps.Slotted (tables.lines-in (now (t .entry))) (now (keep .exit)) ⌝ }
 {
-    let n = tables::decls(s, t);
+    let n = tables::decls(t);
     let mut d = 0;
     while d < n {
-        put_fields(s, t, node, keep, d);
+        put_fields(t, node, keep, d);
         d += 1;
     }
 }

@@ -11,7 +11,6 @@ use lib.Seq.{getD-append-add}
 use borrow.Author.Tests.{eqb-true, ne-eqb}
 use Rattle.columns.specs.Column.{pick, _⇒_∥_}
 use Rattle.sheet.specs.Line.{Line, bad, number}
-use Rattle.sheet.specs.Sheet.{lines}
 use Rattle.model.specs.Cty.{Cty}
 use Rattle.model.specs.Decl.{table, Field, Ctor, TAbstract, TAbbrev, TRecord, TVariant, Origin, here, imported, dtype-at, origin-at, ctors-of, CtorLayout, close-field, close-body, close-fields, bit}
 use Rattle.model.specs.Erasure.{marked, erasure-fixpoint}
@@ -20,14 +19,14 @@ use Rattle.meaning.specs.Output.{all-slots}
 use Rattle.meaning.specs.Program.{param-line, ctor-line, field-line, import-line, is, select, before, Group, groups, trees, type-at, field-of, ctor-of, body-of, dtype-of, keeps, keeps-of, ctor-layouts-by, info-of, program}
 use Rattle.meaning.specs.Rows.{count-of}
 use Rattle.meaning.specs.Laws.Program.{Whole, AllCounted}
-use Rattle.refusals.specs.Rows.{Passed}
+use Rattle.declared.specs.Passed.{Passed}
 use Rattle.tables.specs.Tables.{nth, group, head-line, decls-of, first-of}
 use Rattle.declared.specs.DeclLaws.{first-next, nth-in, dtype-is, origin-local, origin-import, whole-at}
-use Rattle.declared.specs.BodyLaws as body
 use Rattle.declared.specs.BodyLaws.{length-groups-of, fields-of}
 use Rattle.arguments.specs.Params.{params-from, params-of}
 use Rattle.keeps.specs.Keeps.{slots-of, slots-at, Slotted}
 use Rattle.kept.specs.Kept.{ctors-of-decl, ctors-at, kept-ctor, body-kind, body-last, field-at, ctor-fields, fields-by, ctors-by, ctors-kept}
+use Rattle.declared.specs.BodyLaws as body
 
 -- ---- a list that stands in a sequence from place f on
 pub record Stands {A : Type 0} (z : A) (g : ℕ → A) (f : ℕ) (xs : List A) : Type 0 where
@@ -267,59 +266,59 @@ length-ctors-by ls keep ps c f zero = refl
 length-ctors-by ls keep ps c f (suc k) = ap suc (length-ctors-by ls keep ps (suc c) (f + ctor-fields ls c) k)
 
 -- ---- a declaration
-module _ (b : List ℕ) (p : Passed b) (keep : List ℕ) (k : Slotted (lines 6 b) keep) (d : ℕ) (h : d < decls-of (lines 6 b)) where
-  w : Whole (group (lines 6 b) d)
-  w = whole-at b p d h
+module _ (ls : List Line) (p : Passed ls) (keep : List ℕ) (k : Slotted ls keep) (d : ℕ) (h : d < decls-of ls) where
+  w : Whole (group ls d)
+  w = whole-at ls p d h
 
-  slots-stand : Stands false (keep-at keep) (first-of field-line (lines 6 b) d) (all-slots (ctors-at (program (lines 6 b)) d))
+  slots-stand : Stands false (keep-at keep) (first-of field-line ls d) (all-slots (ctors-at (program ls) d))
   unfolding keep-at
   slots-stand =
-      rw (slots-are (lines 6 b) d h)
-      (record { there = λ j l. sym (ap (λ (x : ℕ). eqb x 1) (k .slots d h j l) ∙ bit-one (getD (slots-at (program (lines 6 b)) d) j false)) })
+      rw (slots-are ls d h)
+      (record { there = λ j l. sym (ap (λ (x : ℕ). eqb x 1) (k .slots d h j l) ∙ bit-one (getD (slots-at (program ls) d) j false)) })
 
   -- what is kept by lines, where these are what is kept by types
   by-made : (q : List Line → List Bool) → ((r : List Line) → length (q r) ≡ count-of field-line r)
-      → ctors-at (program (lines 6 b)) d ≡ made q (trees (lines 6 b)) (params-of (lines 6 b) d) (number (head-line (lines 6 b) d) 0) (body-kind (lines 6 b) d) (group (lines 6 b) d .rest)
-      → map kept-ctor (ctors-at (program (lines 6 b)) d) ≡ ctors-kept (lines 6 b) keep d
+      → ctors-at (program ls) d ≡ made q (trees ls) (params-of ls d) (number (head-line ls d) 0) (body-kind ls d) (group ls d .rest)
+      → map kept-ctor (ctors-at (program ls) d) ≡ ctors-kept ls keep d
   unfolding ctors-kept
   by-made q full e =
       ap (map kept-ctor) e
-      ∙ made-kept (lines 6 b) keep (params-of (lines 6 b) d) q full (number (head-line (lines 6 b) d) 0) (body-kind (lines 6 b) d) (body-last (lines 6 b) d) (group (lines 6 b) d .rest)
-      (first-of ctor-line (lines 6 b) d) (first-of field-line (lines 6 b) d) (λ z. w .fields z .0) (w .ctors) (w .ctors-first) (w .counted)
-      (lines-stand (lines 6 b) d h ctor-line refl refl) (lines-stand (lines 6 b) d h field-line refl refl) (rw e at slots-stand)
+      ∙ made-kept ls keep (params-of ls d) q full (number (head-line ls d) 0) (body-kind ls d) (body-last ls d) (group ls d .rest)
+      (first-of ctor-line ls d) (first-of field-line ls d) (λ z. w .fields z .0) (w .ctors) (w .ctors-first) (w .counted)
+      (lines-stand ls d h ctor-line refl refl) (lines-stand ls d h field-line refl refl) (rw e at slots-stand)
 
   er : ℕ → Bool
-  er = marked (program (lines 6 b)) (erasure-fixpoint (program (lines 6 b)) .marks)
+  er = marked (program ls) (erasure-fixpoint (program ls) .marks)
 
   -- The constructors of a declaration, with the fields that they keep, are those of its lines.
-  pub ctors-are : map kept-ctor (ctors-at (program (lines 6 b)) d) ≡ ctors-kept (lines 6 b) keep d
+  pub ctors-are : map kept-ctor (ctors-at (program ls) d) ≡ ctors-kept ls keep d
   unfolding ctors-of-decl ctor-layouts info-of close-fields dtype-of er
-  ctors-are = go (is import-line (head-line (lines 6 b) d)) refl
+  ctors-are = go (is import-line (head-line ls d)) refl
     where
-      go : (c : Bool) → is import-line (head-line (lines 6 b) d) ≡ c → map kept-ctor (ctors-at (program (lines 6 b)) d) ≡ ctors-kept (lines 6 b) keep d
+      go : (c : Bool) → is import-line (head-line ls d) ≡ c → map kept-ctor (ctors-at (program ls) d) ≡ ctors-kept ls keep d
       go true e =
           by-made keeps keeps-full
-          (rw (origin-import (lines 6 b) d h e, params-lines (lines 6 b) d h)
-          (made-import er (trees (lines 6 b)) (params-of (lines 6 b) d) (number (head-line (lines 6 b) d) 0) (body-kind (lines 6 b) d) (body-last (lines 6 b) d) (group (lines 6 b) d .rest)))
+          (rw (origin-import ls d h e, params-lines ls d h)
+          (made-import er (trees ls) (params-of ls d) (number (head-line ls d) 0) (body-kind ls d) (body-last ls d) (group ls d .rest)))
       go false e =
-          by-made (local er (trees (lines 6 b)) (params-of (lines 6 b) d)) (local-full er (trees (lines 6 b)) (params-of (lines 6 b) d))
-          (rw (origin-local (lines 6 b) d h e, dtype-is (lines 6 b) d h, params-lines (lines 6 b) d h)
-          (made-local er (trees (lines 6 b)) (params-of (lines 6 b) d) (number (head-line (lines 6 b) d) 0) (body-kind (lines 6 b) d) (body-last (lines 6 b) d) (group (lines 6 b) d .rest)))
+          by-made (local er (trees ls) (params-of ls d)) (local-full er (trees ls) (params-of ls d))
+          (rw (origin-local ls d h e, dtype-is ls d h, params-lines ls d h)
+          (made-local er (trees ls) (params-of ls d) (number (head-line ls d) 0) (body-kind ls d) (body-last ls d) (group ls d .rest)))
 
   -- as many
-  pub ctors-count : length (ctors-at (program (lines 6 b)) d) ≡ length (ctors-kept (lines 6 b) keep d)
-  ctors-count = sym (length-map (ctors-at (program (lines 6 b)) d) kept-ctor) ∙ ap length ctors-are
+  pub ctors-count : length (ctors-at (program ls) d) ≡ length (ctors-kept ls keep d)
+  ctors-count = sym (length-map (ctors-at (program ls) d) kept-ctor) ∙ ap length ctors-are
 
-  pub count-bare : body-kind (lines 6 b) d ≤ 1 → length (ctors-at (program (lines 6 b)) d) ≡ 0
-  count-bare e = ctors-count ∙ ap length (kept-bare (lines 6 b) keep d e)
+  pub count-bare : body-kind ls d ≤ 1 → length (ctors-at (program ls) d) ≡ 0
+  count-bare e = ctors-count ∙ ap length (kept-bare ls keep d e)
 
-  pub count-record : body-kind (lines 6 b) d ≡ 2 → length (ctors-at (program (lines 6 b)) d) ≡ 1
-  count-record e = ctors-count ∙ ap length (kept-record (lines 6 b) keep d e)
+  pub count-record : body-kind ls d ≡ 2 → length (ctors-at (program ls) d) ≡ 1
+  count-record e = ctors-count ∙ ap length (kept-record ls keep d e)
 
-  pub count-variant : body-kind (lines 6 b) d ≡ 3 → length (ctors-at (program (lines 6 b)) d) ≡ body-last (lines 6 b) d
+  pub count-variant : body-kind ls d ≡ 3 → length (ctors-at (program ls) d) ≡ body-last ls d
   count-variant e =
-      ctors-count ∙ ap length (kept-variant (lines 6 b) keep d e)
-      ∙ length-ctors-by (lines 6 b) keep (params-of (lines 6 b) d) (first-of ctor-line (lines 6 b) d) (first-of field-line (lines 6 b) d) (body-last (lines 6 b) d)
+      ctors-count ∙ ap length (kept-variant ls keep d e)
+      ∙ length-ctors-by ls keep (params-of ls d) (first-of ctor-line ls d) (first-of field-line ls d) (body-last ls d)
 
 -- ---- how many fields a declaration has
 sum-fields : (ls : List Line) (gs : List Group) (c : ℕ) → AllCounted gs → Stands bad (nth ctor-line ls) c (map (λ (g : Group). g .head) gs) → length (fields-of gs) ≡ fields-in ls c (length gs)
@@ -331,19 +330,19 @@ sum-fields ls (g ∷ gs) c u t =
     let i = sum-fields ls gs (suc c) (u .1) (stands-tail bad (nth ctor-line ls) c (g .head) (map (λ (x : Group). x .head) gs) t) in
     length-append (select field-line (g .rest)) (fields-of gs) ∙ ap₂ _+_ m i
 
-module _ (b : List ℕ) (p : Passed b) (d : ℕ) (h : d < decls-of (lines 6 b)) where
-  pub total-record : body-kind (lines 6 b) d ≡ 2 → first-of field-line (lines 6 b) (suc d) ≡ first-of field-line (lines 6 b) d + body-last (lines 6 b) d
-  total-record e = first-next (lines 6 b) d h field-line refl refl ∙ ap (λ (n : ℕ). first-of field-line (lines 6 b) d + n) (whole-at b p d h .fields e .0)
+module _ (ls : List Line) (p : Passed ls) (d : ℕ) (h : d < decls-of ls) where
+  pub total-record : body-kind ls d ≡ 2 → first-of field-line ls (suc d) ≡ first-of field-line ls d + body-last ls d
+  total-record e = first-next ls d h field-line refl refl ∙ ap (λ (n : ℕ). first-of field-line ls d + n) (whole-at ls p d h .fields e .0)
 
-  pub total-variant : body-kind (lines 6 b) d ≡ 3 → first-of field-line (lines 6 b) (suc d) ≡ first-of field-line (lines 6 b) d + fields-in (lines 6 b) (first-of ctor-line (lines 6 b) d) (body-last (lines 6 b) d)
+  pub total-variant : body-kind ls d ≡ 3 → first-of field-line ls (suc d) ≡ first-of field-line ls d + fields-in ls (first-of ctor-line ls d) (body-last ls d)
   total-variant e =
-      let v = whole-at b p d h in
-      let r : List Line = group (lines 6 b) d .rest in
-      first-next (lines 6 b) d h field-line refl refl
-      ∙ ap (λ (n : ℕ). first-of field-line (lines 6 b) d + n)
+      let v = whole-at ls p d h in
+      let r : List Line = group ls d .rest in
+      first-next ls d h field-line refl refl
+      ∙ ap (λ (n : ℕ). first-of field-line ls d + n)
       (ap length (body.ctor-fields r (v .ctors-first e))
-      ∙ sum-fields (lines 6 b) (groups (is ctor-line) r) (first-of ctor-line (lines 6 b) d) (v .counted e) (rw heads-of (lines-stand (lines 6 b) d h ctor-line refl refl))
-      ∙ ap (fields-in (lines 6 b) (first-of ctor-line (lines 6 b) d)) (length-groups-of ctor-line r ∙ v .ctors e))
+      ∙ sum-fields ls (groups (is ctor-line) r) (first-of ctor-line ls d) (v .counted e) (rw heads-of (lines-stand ls d h ctor-line refl refl))
+      ∙ ap (fields-in ls (first-of ctor-line ls d)) (length-groups-of ctor-line r ∙ v .ctors e))
 
-  pub total-bare : body-kind (lines 6 b) d ≤ 1 → first-of field-line (lines 6 b) (suc d) ≡ first-of field-line (lines 6 b) d
-  total-bare e = first-next (lines 6 b) d h field-line refl refl ∙ omega (arith, whole-at b p d h .bare e .0)
+  pub total-bare : body-kind ls d ≤ 1 → first-of field-line ls (suc d) ≡ first-of field-line ls d
+  total-bare e = first-next ls d h field-line refl refl ∙ omega (arith, whole-at ls p d h .bare e .0)

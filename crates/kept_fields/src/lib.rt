@@ -5,7 +5,6 @@ use bodies::Ruled;
 ghost use mathlib.Core.Path.{_≡_};
 ghost use Prim.Native.Nat.{_≤_, _<_};
 ghost use lib.ListN.{length};
-ghost use Rattle.sheet.specs.Sheet as sheet;
 ghost use Rattle.tables.specs.Tables as tables;
 ghost use Rattle.marks.specs.Marks as marks;
 ghost use Rattle.bodies.specs.Bodies as bodies;
@@ -18,7 +17,6 @@ fn higher(a: usize, b: usize) -> usize
 
 // The first field from field `from` on that is kept, or `end`.
 fn first_kept(
-    s: &[u8],
     t: &[u32],
     decl: &[u8],
     node: &mut [u8],
@@ -27,17 +25,17 @@ fn first_kept(
     end: usize,
     right: usize,
 ) -> Field
-    requires { ⌜ tables.Tabled (now s) (now t) ⌝ }
-    requires { ⌜ length (now decl) ≡ tables.decls-of (sheet.lines 6 (now s)) ⌝ }
-    requires { ⌜ (from ≤ end) × bodies.Below (sheet.lines 6 (now s)) end ⌝ }
-    requires { ⌜ marks.Marks (sheet.lines 6 (now s)) (marks.marks-of (now decl)) (now node) (now member) right ⌝ }
-    ensures { λ r. ⌜ bodies.Found (sheet.lines 6 (now (s .entry))) (marks.marks-of (now (decl .entry))) (now (node .exit)) (now (member .exit)) from end r ⌝ }
+    requires { ⌜ tables.Tabled (now t) ⌝ }
+    requires { ⌜ length (now decl) ≡ tables.decls-of (tables.lines-in (now t)) ⌝ }
+    requires { ⌜ (from ≤ end) × bodies.Below (tables.lines-in (now t)) end ⌝ }
+    requires { ⌜ marks.Marks (tables.lines-in (now t)) (marks.marks-of (now decl)) (now node) (now member) right ⌝ }
+    ensures { λ r. ⌜ bodies.Found (tables.lines-in (now (t .entry))) (marks.marks-of (now (decl .entry))) (now (node .exit)) (now (member .exit)) from end r ⌝ }
 {
     let mut f = from;
     let mut low = right;
     while f < end {
-        let y = tables::field_number(s, t, f, 1) as usize;
-        low = marks::mark_types(s, t, decl, node, member, low, y + 1);
+        let y = tables::field_number(t, f, 1) as usize;
+        low = marks::mark_types(t, decl, node, member, low, y + 1);
         if node[y] == 0 {
             return Field {
                 number: f,
@@ -54,7 +52,6 @@ fn first_kept(
 
 // The fields of declaration d are all erased.
 pub fn fields_erased(
-    s: &[u8],
     t: &[u32],
     decl: &[u8],
     node: &mut [u8],
@@ -64,20 +61,20 @@ pub fn fields_erased(
     d: usize,
     right: usize,
 ) -> Ruled
-    requires { ⌜ tables.Tabled (now s) (now t) ⌝ }
-    requires { ⌜ (d < tables.decls-of (sheet.lines 6 (now s))) × bodies.ByFields (sheet.lines 6 (now s)) d ⌝ }
-    requires { ⌜ bodies.State (sheet.lines 6 (now s)) (now decl) (now node) (now member) (now field) (now wait) right ⌝ }
-    ensures { λ r. ⌜ bodies.Ruling (sheet.lines 6 (now (s .entry))) (now (decl .entry)) (now (node .exit)) (now (member .exit)) (now (field .exit)) (now (wait .exit)) d r ⌝ }
+    requires { ⌜ tables.Tabled (now t) ⌝ }
+    requires { ⌜ (d < tables.decls-of (tables.lines-in (now t))) × bodies.ByFields (tables.lines-in (now t)) d ⌝ }
+    requires { ⌜ bodies.State (tables.lines-in (now t)) (now decl) (now node) (now member) (now field) (now wait) right ⌝ }
+    ensures { λ r. ⌜ bodies.Ruling (tables.lines-in (now (t .entry))) (now (decl .entry)) (now (node .exit)) (now (member .exit)) (now (field .exit)) (now (wait .exit)) d r ⌝ }
 {
-    let first = tables::first_field(s, t, d);
-    let end = tables::first_field(s, t, d + 1);
+    let first = tables::first_field(t, d);
+    let end = tables::first_field(t, d + 1);
     let from = higher(first, field[d] as usize);
-    let r = first_kept(s, t, decl, node, member, from, end, right);
+    let r = first_kept(t, decl, node, member, from, end, right);
     let f = r.number;
     let low = r.right;
     if f < end {
         field[d] = f as u16;
-        wait[d] = tables::field_number(s, t, f, 1) as u16;
+        wait[d] = tables::field_number(t, f, 1) as u16;
         return Ruled {
             erased: false,
             right: low,

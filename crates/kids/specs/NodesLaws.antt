@@ -5,25 +5,23 @@ use mathlib.Core.List.{List, [], _∷_, _++_, map, append-assoc}
 use mathlib.Core.Bool.{Bool, true, false, _&&_, not}
 use Prim.Native.Nat.{ℕ, zero, suc, _+_, _≤_, _<_}
 use native.Mathlib.Omega.{arith}
-use native.Mathlib.Numerals.{add-one}
 use lib.Dec.{eqb, leb, ltb}
 use lib.ListN.{length, getD, take, length-append, length-map}
 use lib.Seq.{getD-take, getD-append-seam, take-append-seam}
-use borrow.Author.Tests.{eqb-true, eqb-false, eq-eqb, ne-eqb, leb-true, leb-false, le-leb, ltb-true, ltb-false, not-true, not-false}
+use borrow.Author.Tests.{eqb-true, eqb-false, ne-eqb, leb-true, leb-false, le-leb, ltb-true, ltb-false, not-true, not-false}
 use Rattle.columns.specs.Column.{pick, _⇒_∥_}
 use Rattle.sheet.specs.Line.{Line, bad, letter, number}
-use Rattle.sheet.specs.Sheet.{first, lines, count}
+use Rattle.sheet.specs.Sheet.{first}
 use Rattle.sheet.specs.FirstLaws.{first-before}
-use Rattle.sheet.specs.SheetLaws.{length-lines}
 use Rattle.model.specs.Cty.{Cty, Ctys, TUnit, TAny, TExn, TVar, TInt, TFloat, TConst, TArrow, TApp, TTuple, TBuf, TRef, TInline, nil, cons, append}
 use Rattle.meaning.specs.Program.{name-line, arg-line, type-line, is, select, list-of, tree, trees-after, trees}
 use Rattle.meaning.specs.Rows.{count-of, count-before, line-at, some-below, zeros-from, is-list, good-type, good-numbers, row5}
 use Rattle.model_laws.specs.Lists.{getD-map}
 use Rattle.meaning.specs.Laws.Written.{trees-after-later}
 use Rattle.limits.specs.Limits.{counts-of}
-use Rattle.refusals.specs.Rows.{Passed}
-use Rattle.refusals.specs.RowsLaws.{passed-kept}
-use Rattle.tables.specs.Tables.{nth, Tabled}
+use Rattle.declared.specs.Passed.{Passed}
+use Rattle.declared.specs.PassedLaws.{passed-kept}
+use Rattle.tables.specs.Tables.{nth}
 use Rattle.outcomes.specs.Answer.{parts, plain, listed}
 use Rattle.kids.specs.Nodes.{y-line, kind-of, arg-of, type-of, kids-of, kid-of, Node}
 
@@ -101,16 +99,13 @@ listing xs y i k h = go (eqb k 0) refl h
               ltb-true (getD xs (i + j) 0) y (not-false (ltb (getD xs (i + j) 0) y) (first-before test k j (omega (arith, ltb-false (first test k) k n))));
         }
 
-module _ (b : List ℕ) (passed : Passed b) where
-  abbrev ls : List Line
-  ls = lines 6 b
-
+module _ (ls : List Line) (passed : Passed ls) where
   type-good : (y : ℕ) → y < count-of type-line ls → good-type (count-of name-line ls) (arg-types ls) y (y-line ls y) ≡ true
   unfolding good-numbers row5
   type-good y h =
       let r : Lettered type-line ls y = lettered type-line ls y h in
       let i : ℕ = r .spot in
-      let q : row5 ls i ≡ false = first-before (row5 ls) (count 6 b) i (omega (arith, passed .in-range, length-lines 6 b, r .within)) in
+      let q : row5 ls i ≡ false = first-before (row5 ls) (length ls) i (omega (arith, passed .in-range, r .within)) in
       let e : letter (line-at ls i) ≡ type-line = eqb-true (letter (line-at ls i)) type-line (r .lettered) in
       let g : good-numbers ls i ≡ true = not-false (good-numbers ls i) q in
       ap₂ (λ (z : ℕ) (l : Line). good-type (count-of name-line ls) (arg-types ls) z l) (sym (r .earlier)) (sym (r .line)) ∙ (rw e at g)
@@ -314,9 +309,9 @@ listed-two : (f : ℕ → Cty) → listed f 2 ≡ cons (f 0) (cons (f 1) nil)
 unfolding listed append
 listed-two f = refl
 
-module _ (b : List ℕ) (passed : Passed b) (y : ℕ) (h : y < count-of type-line (lines 6 b)) where
+module _ (ls : List Line) (passed : Passed ls) (y : ℕ) (h : y < count-of type-line ls) where
   abbrev all : List Line
-  all = lines 6 b
+  all = ls
 
   abbrev line : Line
   line = y-line all y
@@ -336,7 +331,7 @@ module _ (b : List ℕ) (passed : Passed b) (y : ℕ) (h : y < count-of type-lin
   low n q = getD-take y (trees all) n TUnit q
 
   kid-type : (i : ℕ) → i < kids-of all y → getD lows (kid-of all y i) TUnit ≡ type-of all (kid-of all y i)
-  kid-type i q = low (kid-of all y i) (node-at b passed y h .lower i q)
+  kid-type i q = low (kid-of all y i) (node-at ls passed y h .lower i q)
 
   pub var-type : kind-of all y ≡ 3 → type-of all y ≡ TVar (number line 1)
   unfolding tree
@@ -367,7 +362,7 @@ module _ (b : List ℕ) (passed : Passed b) (y : ℕ) (h : y < count-of type-lin
 
   pub app-type : kind-of all y ≡ 8 → type-of all y ≡ TApp (number line 1) parts-of
   unfolding tree
-  app-type k = read ∙ (rw k refl ∙ ap (TApp (number line 1)) (list-parts (number line 2) (number line 3) (kids-8 all y k) (kid-8 all y k) (node-at b passed y h .listed8 k)))
+  app-type k = read ∙ (rw k refl ∙ ap (TApp (number line 1)) (list-parts (number line 2) (number line 3) (kids-8 all y k) (kid-8 all y k) (node-at ls passed y h .listed8 k)))
 
   -- of every other kind
   pub record Plain : Type 0 where
@@ -389,11 +384,11 @@ module _ (b : List ℕ) (passed : Passed b) (y : ℕ) (h : y < count-of type-lin
       at 5 (λ k. leaf 5 (TFloat (number line 1)) k refl refl refl refl (read ∙ rw k refl) refl refl) (λ m5.
       at 6 (λ k. leaf 6 (TConst (number line 1)) k refl refl refl refl (read ∙ rw k refl) refl refl) (λ m6.
       at 7 (λ k. plainly (TArrow (getD lows (number line 1) TUnit) (number line 2) (getD lows (number line 3) TUnit)) (read ∙ rw k refl) refl (two-parts k)) (λ m7.
-      at 9 (λ k. plainly (TTuple (list-of lows (arg-types all) (number line 1) (number line 2))) (read ∙ rw k refl) refl (list-parts (number line 1) (number line 2) (kids-9 all y k) (kid-9 all y k) (node-at b passed y h .listed9 k))) (λ m9.
+      at 9 (λ k. plainly (TTuple (list-of lows (arg-types all) (number line 1) (number line 2))) (read ∙ rw k refl) refl (list-parts (number line 1) (number line 2) (kids-9 all y k) (kid-9 all y k) (node-at ls passed y h .listed9 k))) (λ m9.
       at 10 (λ k. plainly (TBuf (getD lows (number line 1) TUnit)) (read ∙ rw k refl) refl (one-part (number line 1) (kids-one all y 10 refl refl refl refl k) (kid-one all y 10 refl refl refl refl k))) (λ m10.
       at 11 (λ k. plainly (TRef (number line 1) (getD lows (number line 2) TUnit)) (read ∙ rw k refl) refl (one-part (number line 2) (kids-one all y 11 refl refl refl refl k) (kid-11 all y k))) (λ m11.
       at 12 (λ k. plainly (TInline (getD lows (number line 1) TUnit)) (read ∙ rw k refl) refl (one-part (number line 1) (kids-one all y 12 refl refl refl refl k) (kid-one all y 12 refl refl refl refl k))) (λ m12.
-      let k : kind-of all y ≡ 0 = least (kind-of all y) (node-at b passed y h .known) m1 m2 n3 m4 m5 m6 m7 n8 m9 m10 m11 m12 in
+      let k : kind-of all y ≡ 0 = least (kind-of all y) (node-at ls passed y h .known) m1 m2 n3 m4 m5 m6 m7 n8 m9 m10 m11 m12 in
       leaf 0 TUnit k refl refl refl refl (read ∙ rw k refl) refl refl))))))))))
     where
       at : (n : ℕ) → (kind-of all y ≡ n → Plain) → ((kind-of all y ≡ n → ⊥) → Plain) → Plain
@@ -405,20 +400,20 @@ module _ (b : List ℕ) (passed : Passed b) (y : ℕ) (h : y < count-of type-lin
 
   -- ---- for the code
   pub list8-within : kind-of all y ≡ 8 → (i : ℕ) → i < kids-of all y → number line 2 + i < count-of arg-line all
-  list8-within k i q = omega (arith, node-at b passed y h .listed8 k, kids-8 all y k)
+  list8-within k i q = omega (arith, node-at ls passed y h .listed8 k, kids-8 all y k)
 
   pub list9-within : kind-of all y ≡ 9 → (i : ℕ) → i < kids-of all y → number line 1 + i < count-of arg-line all
-  list9-within k i q = omega (arith, node-at b passed y h .listed9 k, kids-9 all y k)
+  list9-within k i q = omega (arith, node-at ls passed y h .listed9 k, kids-9 all y k)
 
 -- the limits (FORMAT, section 2)
-module _ (b : List ℕ) (passed : Passed b) where
-  pub args-few : count-of arg-line (lines 6 b) ≤ 512
+module _ (ls : List Line) (passed : Passed ls) where
+  pub args-few : count-of arg-line ls ≤ 512
   unfolding counts-of
-  args-few = passed-kept b passed .args
+  args-few = passed-kept ls passed .args
 
-  pub types-few : count-of type-line (lines 6 b) ≤ 1024
+  pub types-few : count-of type-line ls ≤ 1024
   unfolding counts-of
-  types-few = passed-kept b passed .types
+  types-few = passed-kept ls passed .types
 
 pub seven : (k : ℕ) → k < 10 → (k ≡ 7 → ⊥) → (k ≡ 8 → ⊥) → (k ≡ 9 → ⊥) → k ≤ 6
 seven k h m7 m8 m9 = omega arith

@@ -4,58 +4,57 @@ ghost use Prim.Native.Nat.{_<_};
 ghost use lib.Dec.{eqb};
 ghost use Rattle.columns.specs.Column.{pick};
 ghost use Rattle.sheet.specs.Line as line;
-ghost use Rattle.sheet.specs.Sheet as sheet;
 ghost use Rattle.meaning.specs.Program as program;
 ghost use Rattle.meaning.specs.Rows as rows;
 ghost use Rattle.tables.specs.Tables as tables;
 ghost use Rattle.kids.specs.Nodes as nodes;
 
 // How many parts the type of Y line y has.
-pub fn kids(s: &[u8], t: &[u32], y: usize) -> usize
-    requires { ⌜ tables.Tabled (now s) (now t) ⌝ }
-    requires { ⌜ y < rows.count-of program.type-line (sheet.lines 6 (now s)) ⌝ }
-    ensures { λ r. ⌜ r ≡ nodes.kids-of (sheet.lines 6 (now (s .entry))) y ⌝ }
+pub fn kids(t: &[u32], y: usize) -> usize
+    requires { ⌜ tables.Tabled (now t) ⌝ }
+    requires { ⌜ y < rows.count-of program.type-line (tables.lines-in (now t)) ⌝ }
+    ensures { λ r. ⌜ r ≡ nodes.kids-of (tables.lines-in (now (t .entry))) y ⌝ }
 {
-    let kind = tables::type_number(s, t, y, 0);
+    let kind = tables::type_number(t, y, 0);
     match kind {
         7 => 2,
-        8 => tables::type_number(s, t, y, 3) as usize,
-        9 => tables::type_number(s, t, y, 2) as usize,
+        8 => tables::type_number(t, y, 3) as usize,
+        9 => tables::type_number(t, y, 2) as usize,
         10..=12 => 1,
         _ => 0,
     }
 }
 
 // The Y line of its part i.
-pub fn kid(s: &[u8], t: &[u32], y: usize, i: usize) -> usize
-    requires { ⌜ tables.Tabled (now s) (now t) ⌝ }
-    requires { ⌜ (y < rows.count-of program.type-line (sheet.lines 6 (now s))) × (i < nodes.kids-of (sheet.lines 6 (now s)) y) ⌝ }
-    ensures { λ r. ⌜ r ≡ nodes.kid-of (sheet.lines 6 (now (s .entry))) y i ⌝ }
+pub fn kid(t: &[u32], y: usize, i: usize) -> usize
+    requires { ⌜ tables.Tabled (now t) ⌝ }
+    requires { ⌜ (y < rows.count-of program.type-line (tables.lines-in (now t))) × (i < nodes.kids-of (tables.lines-in (now t)) y) ⌝ }
+    ensures { λ r. ⌜ r ≡ nodes.kid-of (tables.lines-in (now (t .entry))) y i ⌝ }
 {
-    let kind = tables::type_number(s, t, y, 0);
+    let kind = tables::type_number(t, y, 0);
     match kind {
-        7 => arrow_kid(s, t, y, i),
+        7 => arrow_kid(t, y, i),
         8 => {
-            let first = tables::type_number(s, t, y, 2) as usize;
-            tables::arg(s, t, first + i)
+            let first = tables::type_number(t, y, 2) as usize;
+            tables::arg(t, first + i)
         }
         9 => {
-            let first = tables::type_number(s, t, y, 1) as usize;
-            tables::arg(s, t, first + i)
+            let first = tables::type_number(t, y, 1) as usize;
+            tables::arg(t, first + i)
         }
-        11 => tables::type_number(s, t, y, 2) as usize,
-        _ => tables::type_number(s, t, y, 1) as usize,
+        11 => tables::type_number(t, y, 2) as usize,
+        _ => tables::type_number(t, y, 1) as usize,
     }
 }
 
 // The two parts of an arrow.
-fn arrow_kid(s: &[u8], t: &[u32], y: usize, i: usize) -> usize
-    requires { ⌜ tables.Tabled (now s) (now t) ⌝ }
-    requires { ⌜ y < rows.count-of program.type-line (sheet.lines 6 (now s)) ⌝ }
-    ensures { λ r. ⌜ r ≡ line.number (nodes.y-line (sheet.lines 6 (now (s .entry))) y) (pick (eqb i 0) 1 3) ⌝ }
+fn arrow_kid(t: &[u32], y: usize, i: usize) -> usize
+    requires { ⌜ tables.Tabled (now t) ⌝ }
+    requires { ⌜ y < rows.count-of program.type-line (tables.lines-in (now t)) ⌝ }
+    ensures { λ r. ⌜ r ≡ line.number (nodes.y-line (tables.lines-in (now (t .entry))) y) (pick (eqb i 0) 1 3) ⌝ }
 {
     if i == 0 {
-        return tables::type_number(s, t, y, 1) as usize;
+        return tables::type_number(t, y, 1) as usize;
     }
-    tables::type_number(s, t, y, 3) as usize
+    tables::type_number(t, y, 3) as usize
 }

@@ -5,7 +5,6 @@ use mathlib.Core.Bool.{Bool, false}
 use Prim.Native.Nat.{ℕ, _≤_, _<_}
 use lib.ListN.{length}
 use Rattle.sheet.specs.Line.{Line}
-use Rattle.model.specs.Decl as decl
 use Rattle.model.specs.Erasure.{erasure-fixpoint}
 use Rattle.model.specs.Layout.{newtype-of, candidates-of, dropped, collapse}
 use Rattle.meaning.specs.Program.{field-line, program}
@@ -18,6 +17,7 @@ use Rattle.layouts.specs.Layouts.{layout-told}
 use Rattle.newtypes.specs.Newtypes.{ctor-told}
 use Rattle.candidates.specs.Candidates.{candidate-of, Fields}
 use Rattle.guard.specs.Guard.{Guarded}
+use Rattle.model.specs.Decl as decl
 
 -- whether the guard drops declaration d, under the marks of the rounds
 abbrev pub dropped-of : List Line → ℕ → Bool

@@ -7,7 +7,6 @@ use native.Mathlib.Omega.{arith}
 use lib.ListN.{getD}
 use borrow.Author.Tests.{lt-ltb, le-ltb}
 use Rattle.sheet.specs.Line.{Line}
-use Rattle.model.specs.Decl as decl
 use Rattle.model.specs.Decl.{close, L-erased, L-newtype, L-struct, L-abbrev, L-opaque, bit}
 use Rattle.model.specs.Layout.{newtype-of, collapse}
 use Rattle.meaning.specs.Program.{field-line, program}
@@ -16,7 +15,6 @@ use Rattle.tables.specs.Tables.{decls-of}
 use Rattle.kids.specs.Nodes.{type-of}
 use Rattle.arguments.specs.Params.{params-of}
 use Rattle.kept.specs.Kept.{ctors-at, body-last}
-use Rattle.layouts.specs.declared.Layout.{Layout}
 use Rattle.layouts.specs.declared.Layout.the-variants.{Erased, Newtype, Struct, Abbreviation, Opaque}
 use Rattle.layouts.specs.Layouts.{newtype-told, layout-told}
 use Rattle.newtypes.specs.declared.Only.{Only}
@@ -24,6 +22,7 @@ use Rattle.newtypes.specs.declared.Only.the-variants.{Field, Nothing}
 use Rattle.newtypes.specs.Newtypes.{ctor-told, only-told}
 use Rattle.candidates.specs.Candidates.{no-field, field-told}
 use Rattle.laying.specs.Chosen.{dropped-of, Screened, collapsed, kept-one, newtype, Chosen}
+use Rattle.model.specs.Decl as decl
 
 -- ---- a layout that is no newtype, and one that is
 module _ (ls : List Line) (d : ℕ) (m : decl.Layout) where

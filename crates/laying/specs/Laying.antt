@@ -5,18 +5,17 @@ use mathlib.Core.Bool.{false}
 use Prim.Native.Nat.{ℕ, _<_}
 use lib.ListN.{length, getD}
 use Rattle.sheet.specs.Line.{Line}
-use Rattle.model.specs.Decl as decl
 use Rattle.model.specs.Erasure.{erasure-fixpoint}
 use Rattle.model.specs.Layout.{layout-of-body}
 use Rattle.model.specs.Run.{layout-of-decl}
 use Rattle.meaning.specs.Program.{program}
 use Rattle.tables.specs.Tables.{decls-of}
 use Rattle.kept.specs.Kept.{ctors-at}
-use Rattle.layouts.specs.declared.Layout.{Layout}
 use Rattle.layouts.specs.declared.Verdict.{Verdict}
 use Rattle.layouts.specs.Layouts.{no-verdict}
 use Rattle.candidates.specs.Candidates.{candidate-of}
 use Rattle.laying.specs.Chosen.{dropped-of, Chosen}
+use Rattle.model.specs.Decl as decl
 
 -- declaration d by its body, where it is not erased
 abbrev pub of-body : List Line → ℕ → decl.Layout

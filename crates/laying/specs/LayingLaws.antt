@@ -11,8 +11,6 @@ use lib.Seq.{getD-set-same, getD-set-other}
 use borrow.Author.Tests.{ne-eqb}
 use Rattle.columns.specs.Column.{_⇒_∥_}
 use Rattle.sheet.specs.Line.{Line, number}
-use Rattle.sheet.specs.Sheet.{lines}
-use Rattle.model.specs.Decl as decl
 use Rattle.model.specs.Decl.{close, close-body, close-fields, TAbstract, TAbbrev, TRecord, TVariant, CtorLayout, NewtypeLayout, L-opaque, here, dtype-at}
 use Rattle.model.specs.Erasure.{erasure-fixpoint}
 use Rattle.model.specs.Layout.{collapse, layout-of-body, layout-of}
@@ -23,8 +21,8 @@ use Rattle.model_laws.specs.Run.{import-layout}
 use Rattle.meaning.specs.Program.{import-line, verdict-line, is, trees, body-of, dtype-of, abbreviated, layout-by, info-of, program}
 use Rattle.meaning.specs.Laws.Program.{length-program}
 use Rattle.limits.specs.Limits.{counts-of}
-use Rattle.refusals.specs.Rows.{Passed}
-use Rattle.refusals.specs.RowsLaws.{passed-kept}
+use Rattle.declared.specs.Passed.{Passed}
+use Rattle.declared.specs.PassedLaws.{passed-kept}
 use Rattle.tables.specs.Tables.{nth, group, head-line, decls-of}
 use Rattle.declared.specs.DeclLaws.{dtype-is, origin-local, origin-import, verdict-is}
 use Rattle.marks.specs.Marks.{marks-of}
@@ -41,6 +39,7 @@ use Rattle.candidates.specs.Candidates.{candidate-of}
 use Rattle.laying.specs.Chosen.{dropped-of, collapsed, kept-one, Chosen}
 use Rattle.laying.specs.ChosenLaws.{erased-chosen, struct-chosen, abbrev-chosen, opaque-chosen}
 use Rattle.laying.specs.Laying.{of-body, Partly}
+use Rattle.model.specs.Decl as decl
 
 -- ---- by the body
 module _ (ls : List Line) (d : ℕ) (h : d < decls-of ls) where
@@ -101,42 +100,42 @@ module _ (ls : List Line) (d : ℕ) (h : d < decls-of ls) where
       local-kept l k c = rw (local-is, mark-is, ne-eqb (getD decl d 0) 1 k) c
 
 -- ---- an import
-module _ (b : List ℕ) (p : Passed b) (d : ℕ) (h : d < decls-of (lines 6 b)) (imp : is import-line (head-line (lines 6 b) d) ≡ true) where
-  import-is : layout-of-decl (program (lines 6 b)) d ≡ layout-by (number (nth verdict-line (lines 6 b) d) 1) (dtype-at (program (lines 6 b)) d .dt-body) (ctors-at (program (lines 6 b)) d)
+module _ (ls : List Line) (p : Passed ls) (d : ℕ) (h : d < decls-of ls) (imp : is import-line (head-line ls d) ≡ true) where
+  import-is : layout-of-decl (program ls) d ≡ layout-by (number (nth verdict-line ls d) 1) (dtype-at (program ls) d .dt-body) (ctors-at (program ls) d)
   unfolding ctors-of-decl info-of
   import-is =
-      import-layout (program (lines 6 b)) d _ (rw (length-program (lines 6 b)) h) (origin-import (lines 6 b) d h imp)
-      ∙ rw (verdict-is b p d h, dtype-is (lines 6 b) d h, origin-import (lines 6 b) d h imp)
+      import-layout (program ls) d _ (rw (length-program ls) h) (origin-import ls d h imp)
+      ∙ rw (verdict-is ls p d h, dtype-is ls d h, origin-import ls d h imp)
 
-  module _ (n : ℕ) (is : n ≡ number (nth verdict-line (lines 6 b) d) 1) where
-    pub import-erased : n ≡ 0 → Chosen (lines 6 b) d (layout-of-decl (program (lines 6 b)) d) Erased
+  module _ (n : ℕ) (is : n ≡ number (nth verdict-line ls d) 1) where
+    pub import-erased : n ≡ 0 → Chosen ls d (layout-of-decl (program ls) d) Erased
     unfolding layout-by
-    import-erased e = erased-chosen (lines 6 b) d _ (import-is ∙ rw (← is, e))
+    import-erased e = erased-chosen ls d _ (import-is ∙ rw (← is, e))
 
-    pub import-newtype : (l : Layout) → n ≡ 1 → Chosen (lines 6 b) d (kept-one (lines 6 b) d) l → Chosen (lines 6 b) d (layout-of-decl (program (lines 6 b)) d) l
+    pub import-newtype : (l : Layout) → n ≡ 1 → Chosen ls d (kept-one ls d) l → Chosen ls d (layout-of-decl (program ls) d) l
     unfolding layout-by
     import-newtype l e c = rw (import-is, ← is, e) c
 
-    pub import-struct : n ≡ 2 → Chosen (lines 6 b) d (layout-of-decl (program (lines 6 b)) d) Struct
+    pub import-struct : n ≡ 2 → Chosen ls d (layout-of-decl (program ls) d) Struct
     unfolding layout-by
-    import-struct e = struct-chosen (lines 6 b) d _ (import-is ∙ rw (← is, e))
+    import-struct e = struct-chosen ls d _ (import-is ∙ rw (← is, e))
 
-    pub import-abbrev : n ≡ 3 → body-kind (lines 6 b) d ≡ 1 → Chosen (lines 6 b) d (layout-of-decl (program (lines 6 b)) d) Abbreviation
+    pub import-abbrev : n ≡ 3 → body-kind ls d ≡ 1 → Chosen ls d (layout-of-decl (program ls) d) Abbreviation
     unfolding layout-by
-    import-abbrev e k = abbrev-chosen (lines 6 b) d _ (import-is ∙ rw (← is, e, abbrev-body (lines 6 b) d h k))
+    import-abbrev e k = abbrev-chosen ls d _ (import-is ∙ rw (← is, e, abbrev-body ls d h k))
 
-    pub import-plain : n ≡ 3 → (body-kind (lines 6 b) d ≡ 1 → ⊥) → Chosen (lines 6 b) d (layout-of-decl (program (lines 6 b)) d) Opaque
+    pub import-plain : n ≡ 3 → (body-kind ls d ≡ 1 → ⊥) → Chosen ls d (layout-of-decl (program ls) d) Opaque
     unfolding layout-by
-    import-plain e k = opaque-chosen (lines 6 b) d _ (import-is ∙ rw (← is, e, plain-body (lines 6 b) d h k))
+    import-plain e k = opaque-chosen ls d _ (import-is ∙ rw (← is, e, plain-body ls d h k))
 
-    pub import-opaque : (n ≡ 0 → ⊥) → (n ≡ 1 → ⊥) → (n ≡ 2 → ⊥) → (n ≡ 3 → ⊥) → Chosen (lines 6 b) d (layout-of-decl (program (lines 6 b)) d) Opaque
+    pub import-opaque : (n ≡ 0 → ⊥) → (n ≡ 1 → ⊥) → (n ≡ 2 → ⊥) → (n ≡ 3 → ⊥) → Chosen ls d (layout-of-decl (program ls) d) Opaque
     unfolding layout-by
-    import-opaque n0 n1 n2 n3 = opaque-chosen (lines 6 b) d _ (import-is ∙ rw (← is, ne-eqb n 0 n0, ne-eqb n 1 n1, ne-eqb n 2 n2, ne-eqb n 3 n3))
+    import-opaque n0 n1 n2 n3 = opaque-chosen ls d _ (import-is ∙ rw (← is, ne-eqb n 0 n0, ne-eqb n 1 n1, ne-eqb n 2 n2, ne-eqb n 3 n3))
 
 -- ---- one declaration after the other
-pub decls-few : (b : List ℕ) → Passed b → decls-of (lines 6 b) ≤ 96
+pub decls-few : (ls : List Line) → Passed ls → decls-of ls ≤ 96
 unfolding counts-of
-decls-few b p = passed-kept b p .decls
+decls-few ls p = passed-kept ls p .decls
 
 pub partly-none : (ls : List Line) (vs : List Verdict) → length vs ≡ 96 → Partly ls vs 0
 partly-none ls vs e = record { long = e; marks = λ d l. absurd (omega arith); chosen = λ d l. absurd (omega arith) }

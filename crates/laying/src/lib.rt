@@ -8,7 +8,6 @@ ghost use mathlib.Core.Path.{_≡_};
 ghost use mathlib.Core.Bool.{true};
 ghost use Prim.Native.Nat.{_≤_, _<_};
 ghost use lib.ListN.{length};
-ghost use Rattle.sheet.specs.Sheet as sheet;
 ghost use Rattle.model.specs.Run as run;
 ghost use Rattle.meaning.specs.Program as program;
 ghost use Rattle.meaning.specs.Rows as rows;
@@ -20,41 +19,41 @@ ghost use Rattle.laying.specs.Chosen as chosen;
 ghost use Rattle.laying.specs.Laying as laying;
 
 // A local type that is not erased, by its body.
-fn by_body(s: &[u8], t: &[u32], fields: &[u16], found: &[u8], d: usize) -> Layout
-    requires { ⌜ tables.Tabled (now s) (now t) ⌝ }
-    requires { ⌜ d < tables.decls-of (sheet.lines 6 (now s)) ⌝ }
-    requires { ⌜ chosen.Screened (sheet.lines 6 (now s)) (now fields) (now found) ⌝ }
-    ensures { λ r. ⌜ chosen.Chosen (sheet.lines 6 (now (s .entry))) d (laying.of-body (sheet.lines 6 (now (s .entry))) d) r ⌝ }
+fn by_body(t: &[u32], fields: &[u16], found: &[u8], d: usize) -> Layout
+    requires { ⌜ tables.Tabled (now t) ⌝ }
+    requires { ⌜ d < tables.decls-of (tables.lines-in (now t)) ⌝ }
+    requires { ⌜ chosen.Screened (tables.lines-in (now t)) (now fields) (now found) ⌝ }
+    ensures { λ r. ⌜ chosen.Chosen (tables.lines-in (now (t .entry))) d (laying.of-body (tables.lines-in (now (t .entry))) d) r ⌝ }
 {
-    let kind = tables::decl_number(s, t, d, 2);
+    let kind = tables::decl_number(t, d, 2);
     if kind == 0 {
         return Layout::Opaque;
     }
     if kind == 1 {
         return Layout::Abbreviation;
     }
-    collapses::collapse(s, t, fields, found, d)
+    collapses::collapse(t, fields, found, d)
 }
 
 // An import, by its V line.
-fn by_verdict(s: &[u8], t: &[u32], keep: &[u8], d: usize) -> Layout
-    requires { ⌜ tables.Tabled (now s) (now t) ⌝ }
-    requires { ⌜ (d < tables.decls-of (sheet.lines 6 (now s))) × (program.is program.import-line (tables.head-line (sheet.lines 6 (now s)) d) ≡ true) ⌝ }
-    requires { ⌜ keeps.Slotted (sheet.lines 6 (now s)) (now keep) × (rows.count-of program.field-line (sheet.lines 6 (now s)) ≤ length (now keep)) ⌝ }
-    ensures { λ r. ⌜ chosen.Chosen (sheet.lines 6 (now (s .entry))) d (run.layout-of-decl (program.program (sheet.lines 6 (now (s .entry)))) d) r ⌝ }
+fn by_verdict(t: &[u32], keep: &[u8], d: usize) -> Layout
+    requires { ⌜ tables.Tabled (now t) ⌝ }
+    requires { ⌜ (d < tables.decls-of (tables.lines-in (now t))) × (program.is program.import-line (tables.head-line (tables.lines-in (now t)) d) ≡ true) ⌝ }
+    requires { ⌜ keeps.Slotted (tables.lines-in (now t)) (now keep) × (rows.count-of program.field-line (tables.lines-in (now t)) ≤ length (now keep)) ⌝ }
+    ensures { λ r. ⌜ chosen.Chosen (tables.lines-in (now (t .entry))) d (run.layout-of-decl (program.program (tables.lines-in (now (t .entry)))) d) r ⌝ }
 {
-    let n = tables::verdict_number(s, t, d, 1);
+    let n = tables::verdict_number(t, d, 1);
     if n == 0 {
         return Layout::Erased;
     }
     if n == 1 {
-        return collapses::by_kept(s, t, keep, d);
+        return collapses::by_kept(t, keep, d);
     }
     if n == 2 {
         return Layout::Struct;
     }
     if n == 3 {
-        if tables::decl_number(s, t, d, 2) == 1 {
+        if tables::decl_number(t, d, 2) == 1 {
             return Layout::Abbreviation;
         }
     }
@@ -62,33 +61,24 @@ fn by_verdict(s: &[u8], t: &[u32], keep: &[u8], d: usize) -> Layout
 }
 
 // The layout of declaration d.
-fn layout_of(
-    s: &[u8],
-    t: &[u32],
-    decl: &[u8],
-    keep: &[u8],
-    fields: &[u16],
-    found: &[u8],
-    d: usize,
-) -> Layout
-    requires { ⌜ tables.Tabled (now s) (now t) ⌝ }
-    requires { ⌜ d < tables.decls-of (sheet.lines 6 (now s)) ⌝ }
-    requires { ⌜ candidates.Ruled (sheet.lines 6 (now s)) (now decl) (now keep) ⌝ }
-    requires { ⌜ chosen.Screened (sheet.lines 6 (now s)) (now fields) (now found) ⌝ }
-    ensures { λ r. ⌜ chosen.Chosen (sheet.lines 6 (now (s .entry))) d (run.layout-of-decl (program.program (sheet.lines 6 (now (s .entry)))) d) r ⌝ }
+fn layout_of(t: &[u32], decl: &[u8], keep: &[u8], fields: &[u16], found: &[u8], d: usize) -> Layout
+    requires { ⌜ tables.Tabled (now t) ⌝ }
+    requires { ⌜ d < tables.decls-of (tables.lines-in (now t)) ⌝ }
+    requires { ⌜ candidates.Ruled (tables.lines-in (now t)) (now decl) (now keep) ⌝ }
+    requires { ⌜ chosen.Screened (tables.lines-in (now t)) (now fields) (now found) ⌝ }
+    ensures { λ r. ⌜ chosen.Chosen (tables.lines-in (now (t .entry))) d (run.layout-of-decl (program.program (tables.lines-in (now (t .entry)))) d) r ⌝ }
 {
-    if tables::is_import(s, t, d) {
-        return by_verdict(s, t, keep, d);
+    if tables::is_import(t, d) {
+        return by_verdict(t, keep, d);
     }
     if decl[d] == 1 {
         return Layout::Erased;
     }
-    by_body(s, t, fields, found, d)
+    by_body(t, fields, found, d)
 }
 
 // The verdicts on all declarations, one after the other.
 fn lay_out(
-    s: &[u8],
     t: &[u32],
     decl: &[u8],
     keep: &[u8],
@@ -96,15 +86,15 @@ fn lay_out(
     found: &[u8],
     blank: [Verdict; 96],
 ) -> [Verdict; 96]
-    requires { ⌜ tables.Tabled (now s) (now t) ⌝ }
-    requires { ⌜ candidates.Ruled (sheet.lines 6 (now s)) (now decl) (now keep) ⌝ }
-    requires { ⌜ chosen.Screened (sheet.lines 6 (now s)) (now fields) (now found) ⌝ }
+    requires { ⌜ tables.Tabled (now t) ⌝ }
+    requires { ⌜ candidates.Ruled (tables.lines-in (now t)) (now decl) (now keep) ⌝ }
+    requires { ⌜ chosen.Screened (tables.lines-in (now t)) (now fields) (now found) ⌝ }
     requires { ⌜ length blank ≡ 96 ⌝ }
-    ensures { λ r. ⌜ layouts.Laid (sheet.lines 6 (now (s .entry))) r ⌝ }
+    ensures { λ r. ⌜ layouts.Laid (tables.lines-in (now (t .entry))) r ⌝ }
 {
     let mut verdicts = blank;
     for d in 0..decl.len() {
-        let l = layout_of(s, t, decl, keep, fields, found, d);
+        let l = layout_of(t, decl, keep, fields, found, d);
         verdicts[d] = Verdict {
             erased: decl[d] == 1,
             layout: l,
@@ -126,17 +116,16 @@ fn blank() -> [Verdict; 96]
 
 // The verdict on every declaration.
 pub fn compute_layouts(
-    s: &[u8],
     t: &[u32],
     decl: &[u8],
     keep: &[u8],
     fields: &[u16],
     found: &[u8],
 ) -> [Verdict; 96]
-    requires { ⌜ tables.Tabled (now s) (now t) ⌝ }
-    requires { ⌜ candidates.Ruled (sheet.lines 6 (now s)) (now decl) (now keep) ⌝ }
-    requires { ⌜ chosen.Screened (sheet.lines 6 (now s)) (now fields) (now found) ⌝ }
-    ensures { λ r. ⌜ layouts.Laid (sheet.lines 6 (now (s .entry))) r ⌝ }
+    requires { ⌜ tables.Tabled (now t) ⌝ }
+    requires { ⌜ candidates.Ruled (tables.lines-in (now t)) (now decl) (now keep) ⌝ }
+    requires { ⌜ chosen.Screened (tables.lines-in (now t)) (now fields) (now found) ⌝ }
+    ensures { λ r. ⌜ layouts.Laid (tables.lines-in (now (t .entry))) r ⌝ }
 {
-    lay_out(s, t, decl, keep, fields, found, blank())
+    lay_out(t, decl, keep, fields, found, blank())
 }

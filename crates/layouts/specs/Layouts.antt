@@ -6,7 +6,6 @@ use Prim.Native.Nat.{ℕ, _-_, _<_}
 use lib.ListN.{length, getD}
 use Rattle.sheet.specs.Line.{Line, number}
 use Rattle.model.specs.Cty.{uninline}
-use Rattle.model.specs.Decl as decl
 use Rattle.model.specs.Decl.{NewtypeLayout, L-erased, L-newtype, L-struct, L-abbrev, L-opaque, close}
 use Rattle.model.specs.Erasure.{erasure-fixpoint}
 use Rattle.model.specs.Run.{layout-of-decl}
@@ -19,6 +18,7 @@ use Rattle.kept.specs.Kept.{ctors-at, body-last, field-type}
 use Rattle.layouts.specs.declared.Layout.{Layout}
 use Rattle.layouts.specs.declared.Layout.the-variants.{Erased, Newtype, Struct, Abbreviation, Opaque}
 use Rattle.layouts.specs.declared.Verdict.{Verdict}
+use Rattle.model.specs.Decl as decl
 
 -- the number of a layout (FORMAT, section 2)
 abbrev pub number-of : Layout → ℕ

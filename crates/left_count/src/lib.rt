@@ -6,7 +6,7 @@ ghost use lib.ListN.{length};
 ghost use Rattle.sheet.specs.Sheet.{lines};
 ghost use Rattle.meaning.specs.Program.{field-line};
 ghost use Rattle.meaning.specs.Rows.{count-of};
-ghost use Rattle.tables.specs.Tables.{decls-of};
+ghost use Rattle.tables.specs.Tables.{decls-of, lines-in};
 ghost use Rattle.states.specs.States.{state, resolves-of};
 ghost use Rattle.lefts.specs.Lefts.{Ready, Flagged, Counted};
 ghost use Rattle.lefts.specs.BodyLaws.{left-body, body-lines};
@@ -19,7 +19,6 @@ use lefts::Count;
 
 // The types of declaration d, and the lines of its body.
 fn count_body(
-    s: &[u8],
     t: &[u32],
     u: &[u16],
     f: &[u64],
@@ -28,31 +27,30 @@ fn count_body(
     d: usize,
     c: Count,
 ) -> Count
-    requires { ⌜ Ready (now s) (now t) (now u) (now f) (now keep) × (d < decls-of (lines 6 (now s))) × (count-of field-line (lines 6 (now s)) ≤ length (now keep)) ⌝ }
+    requires { ⌜ Ready (lines-in (now t)) (now t) (now u) (now f) (now keep) × (d < decls-of (lines-in (now t))) × (count-of field-line (lines-in (now t)) ≤ length (now keep)) ⌝ }
     requires { ⌜ (state (now u) d ≡ 0 → ⊥) × (c .room ≡ true) × (c .args ≤ 400000000) × (c .types ≤ 400000000) × (c .lines ≤ 700000000) ⌝ }
-    ensures { λ r. ⌜ Added (lines 6 (now (s .entry))) d (resolves-of (lines 6 (now (s .entry))) (now (u .entry)) (now (keep .entry)) d) (body-lines (left-body (lines 6 (now (s .entry))) (now (u .entry)) (now (keep .entry)) d)) (length (now (scratch .entry))) c r ⌝ }
+    ensures { λ r. ⌜ Added (lines-in (now (t .entry))) d (resolves-of (lines-in (now (t .entry))) (now (u .entry)) (now (keep .entry)) d) (body-lines (left-body (lines-in (now (t .entry))) (now (u .entry)) (now (keep .entry)) d)) (length (now (scratch .entry))) c r ⌝ }
 {
     if node_words::state(u, d) == 1 {
         let y = u[2 * d + 1] as usize;
-        return count_type(s, t, u, f, scratch, y, d, c);
+        return count_type(t, u, f, scratch, y, d, c);
     }
-    let k = tables::decl_number(s, t, d, 2);
+    let k = tables::decl_number(t, d, 2);
     if k == 0 {
         return c;
     }
-    let n = tables::decl_number(s, t, d, 4) as usize;
+    let n = tables::decl_number(t, d, 4) as usize;
     if k == 1 {
-        return count_type(s, t, u, f, scratch, n, d, c);
+        return count_type(t, u, f, scratch, n, d, c);
     }
     if k == 2 {
-        return count_fields(s, t, u, f, keep, scratch, d, c);
+        return count_fields(t, u, f, keep, scratch, d, c);
     }
-    count_fields(s, t, u, f, keep, scratch, d, add_lines(c, n))
+    count_fields(t, u, f, keep, scratch, d, add_lines(c, n))
 }
 
 // Declaration d, if it leaves one.
 fn count_decl(
-    s: &[u8],
     t: &[u32],
     u: &[u16],
     f: &[u64],
@@ -62,20 +60,19 @@ fn count_decl(
     d: usize,
     c: Count,
 ) -> Count
-    requires { ⌜ Ready (now s) (now t) (now u) (now f) (now keep) × (d < decls-of (lines 6 (now s))) × (count-of field-line (lines 6 (now s)) ≤ length (now keep)) × Flagged (now s) (now left) ⌝ }
+    requires { ⌜ Ready (lines-in (now t)) (now t) (now u) (now f) (now keep) × (d < decls-of (lines-in (now t))) × (count-of field-line (lines-in (now t)) ≤ length (now keep)) × Flagged (lines-in (now t)) (now left) ⌝ }
     requires { ⌜ (c .room ≡ true) × (c .args ≤ 400000000) × (c .types ≤ 400000000) × (c .lines ≤ 600000000) ⌝ }
-    ensures { λ r. ⌜ Added (lines 6 (now (s .entry))) d (decl-types (lines 6 (now (s .entry))) (now (u .entry)) (now (keep .entry)) (now (left .entry)) d) (decl-count (lines 6 (now (s .entry))) (now (u .entry)) (now (keep .entry)) (now (left .entry)) d) (length (now (scratch .entry))) c r ⌝ }
+    ensures { λ r. ⌜ Added (lines-in (now (t .entry))) d (decl-types (lines-in (now (t .entry))) (now (u .entry)) (now (keep .entry)) (now (left .entry)) d) (decl-count (lines-in (now (t .entry))) (now (u .entry)) (now (keep .entry)) (now (left .entry)) d) (length (now (scratch .entry))) c r ⌝ }
 {
     if left[d] == 0 {
         return c;
     }
-    let n = calls::params(s, t, d);
-    count_body(s, t, u, f, keep, scratch, d, add_lines(c, n + 2))
+    let n = calls::params(t, d);
+    count_body(t, u, f, keep, scratch, d, add_lines(c, n + 2))
 }
 
 // All declarations; no room where the scratch is too short for a type.
 pub fn count(
-    s: &[u8],
     t: &[u32],
     u: &[u16],
     f: &[u64],
@@ -83,10 +80,10 @@ pub fn count(
     left: &[u8],
     scratch: &mut [u64],
 ) -> Count
-    requires { ⌜ Ready (now s) (now t) (now u) (now f) (now keep) × (count-of field-line (lines 6 (now s)) ≤ length (now keep)) × Flagged (now s) (now left) ⌝ }
-    ensures { λ r. ⌜ Counted (now (s .entry)) (now (u .entry)) (now (keep .entry)) (length (now (scratch .entry))) r × Few r ⌝ }
+    requires { ⌜ Ready (lines-in (now t)) (now t) (now u) (now f) (now keep) × (count-of field-line (lines-in (now t)) ≤ length (now keep)) × Flagged (lines-in (now t)) (now left) ⌝ }
+    ensures { λ r. ⌜ Counted (lines-in (now (t .entry))) (now (u .entry)) (now (keep .entry)) (length (now (scratch .entry))) r × Few r ⌝ }
 {
-    let n = tables::decls(s, t);
+    let n = tables::decls(t);
     let mut c = Count {
         room: true,
         args: 0,
@@ -94,7 +91,7 @@ pub fn count(
         lines: 0,
     };
     for d in 0..n {
-        c = count_decl(s, t, u, f, keep, left, scratch, d, c);
+        c = count_decl(t, u, f, keep, left, scratch, d, c);
         if !c.room {
             return c;
         }

@@ -1,9 +1,7 @@
 -- The constructors that are left of a declaration, by its C and F lines. Assumes nothing.
-use mathlib.Core.Path.{_≡_}
-use mathlib.Core.List.{List, [], _∷_, map}
+use mathlib.Core.List.{List, map}
 use Prim.Native.Nat.{ℕ, _+_, _≤_}
 use Rattle.sheet.specs.Line.{Line}
-use Rattle.sheet.specs.Sheet.{lines}
 use Rattle.model.specs.Decl.{Ctor}
 use Rattle.meaning.specs.Program.{ctor-line}
 use Rattle.meaning.specs.Rows.{count-of}
@@ -25,6 +23,6 @@ abbrev pub left-ctors : List Line → List ℕ → ℕ → ℕ → ℕ → ℕ �
 left-ctors ls keep d c i k = map (ctor-left ls) (ctors-by ls keep (params-of ls d) c i k)
 
 -- The k C lines from line c on of declaration d can be written with their fields, from F line i on.
-pub record Ctors (b t u f keep : List ℕ) (d c i k n : ℕ) : Type 0 where
-  pub inside : c + k ≤ count-of ctor-line (lines 6 b)
-  pub fields : Fields b t u f keep d i (i + fields-in (lines 6 b) c k) n
+pub record Ctors (ls : List Line) (t u f keep : List ℕ) (d c i k n : ℕ) : Type 0 where
+  pub inside : c + k ≤ count-of ctor-line ls
+  pub fields : Fields ls t u f keep d i (i + fields-in ls c k) n

@@ -1,15 +1,14 @@
 -- The lines of constructors, one after the other. Assumes nothing.
-use mathlib.Core.Path.{_≡_, refl, ap, ap₂, sym, _∙_}
+use mathlib.Core.Path.{_≡_, refl, ap, sym, _∙_}
 use mathlib.Core.List.{List, [], _∷_, _++_, map, map-append, append-assoc, append-nil}
-use Prim.Native.Nat.{ℕ, zero, suc, _+_, _*_, _-_, _≤_, _<_}
+use Prim.Native.Nat.{ℕ, zero, suc, _+_, _-_, _≤_, _<_}
 use native.Mathlib.Omega.{arith}
 use native.Mathlib.Numerals.{add-one}
-use lib.ListN.{length, length-append, length-map}
+use lib.ListN.{length, length-map}
 use Rattle.sheet.specs.Line.{Line, row}
 use Rattle.sheet.specs.Sheet.{lines}
-use Rattle.sheet.specs.SheetLaws.{length-lines}
 use Rattle.model.specs.Decl.{Ctor}
-use Rattle.meaning.specs.Program.{ctor-line, field-line}
+use Rattle.meaning.specs.Program.{ctor-line}
 use Rattle.meaning.specs.Rows.{count-of}
 use Rattle.meaning.specs.Output.{Written, Lines, field-lines, ctor-lines}
 use Rattle.meaning.specs.Laws.Output.{grows-args, grows-types, ctor-adds}
@@ -18,7 +17,7 @@ use Rattle.arguments.specs.Params.{params-of}
 use Rattle.kept.specs.Kept.{ctor-name, ctor-fields, fields-by, ctors-by}
 use Rattle.kept.specs.KeptLaws.{fields-in}
 use Rattle.places.specs.declared.Place.{Place}
-use Rattle.places.specs.Places.{Writing, one, more, seq, Growing, Room, Writes}
+use Rattle.places.specs.Places.{Writing, one, seq, Growing, Room, Writes}
 use Rattle.places.specs.PlacesLaws.{writes-none, writes-as, room-as, room-first, room-rest, writes-seq}
 use Rattle.left_fields.specs.Fields.{left-of, left-fields, kept-count, Fields}
 use Rattle.left_fields.specs.FieldsLaws.{growing-fields, count-fields, part-fields}
@@ -70,8 +69,8 @@ module _ (ls : List Line) (keep ps : List ℕ) where
       rw e (ap (λ (r : List Ctor). record { ct-name = ctor-name ls c; ct-fields = fields-by ls keep ps i (ctor-fields ls c) } ∷ r) (ctors-more (suc c) (i + ctor-fields ls c) k n ∙ rw (a, f)))
 
 -- no more lines of a letter than bytes
-pub letters-fit : (x : ℕ) (b : List ℕ) → count-of x (lines 6 b) ≤ length b
-letters-fit x b = omega (arith, count-of-le x (lines 6 b), length-lines 6 b)
+pub letters-fit : (x : ℕ) (ls : List Line) → count-of x ls ≤ length ls
+letters-fit x ls = omega (arith, count-of-le x ls)
 
 -- ---- one constructor
 abbrev pub ctor-row : ℕ → ℕ → Line
@@ -155,20 +154,17 @@ unfolding fields-in
 fields-in-start ls c i = omega arith
 
 -- the F lines of one of them
-module _ (b t u f keep : List ℕ) (d c i k n : ℕ) (r : Ctors b t u f keep d c i k n) (m : ℕ) (h : m < k) (j : ℕ) (e : j ≡ i + fields-in (lines 6 b) c m) where
-  pub ctor-inside : c + m < count-of ctor-line (lines 6 b)
-  ctor-inside = omega (arith, r .inside)
+module _ (ls : List Line) (t u f keep : List ℕ) (d c i k n : ℕ) (r : Ctors ls t u f keep d c i k n) (m : ℕ) (h : m < k) (j : ℕ) (e : j ≡ i + fields-in ls c m) where
+  pub ctor-next : j + ctor-fields ls (c + m) ≡ i + fields-in ls c (m + 1)
+  ctor-next = rw (add-one m) (omega (arith, fields-in-last ls c m))
 
-  pub ctor-next : j + ctor-fields (lines 6 b) (c + m) ≡ i + fields-in (lines 6 b) c (m + 1)
-  ctor-next = rw (add-one m) (omega (arith, fields-in-last (lines 6 b) c m))
-
-  ctor-end : j + ctor-fields (lines 6 b) (c + m) ≤ i + fields-in (lines 6 b) c k
+  ctor-end : j + ctor-fields ls (c + m) ≤ i + fields-in ls c k
   ctor-end =
       let z : m + 1 + (k - (m + 1)) ≡ k = omega arith in
-      omega (arith, ctor-next, ap (fields-in (lines 6 b) c) z, fields-in-more (lines 6 b) c (m + 1) (k - (m + 1)))
+      omega (arith, ctor-next, ap (fields-in ls c) z, fields-in-more ls c (m + 1) (k - (m + 1)))
 
-  pub ctor-given : (l : ℕ) → l ≡ n → Fields b t u f keep d j (j + ctor-fields (lines 6 b) (c + m)) l
-  ctor-given l g = part-fields b t u f keep d i (i + fields-in (lines 6 b) c k) n j (j + ctor-fields (lines 6 b) (c + m)) l (omega arith) ctor-end g (r .fields)
+  pub ctor-given : (l : ℕ) → l ≡ n → Fields ls t u f keep d j (j + ctor-fields ls (c + m)) l
+  ctor-given l g = part-fields ls t u f keep d i (i + fields-in ls c k) n j (j + ctor-fields ls (c + m)) l (omega arith) ctor-end g (r .fields)
 
-  pub ctor-few : j + ctor-fields (lines 6 b) (c + m) ≤ length keep
+  pub ctor-few : j + ctor-fields ls (c + m) ≤ length keep
   ctor-few = omega (arith, ctor-end, r .fields .inside, r .fields .long)

@@ -10,6 +10,7 @@ ghost use Rattle.meaning.specs.Output.{ctor-lines};
 ghost use Rattle.kept.specs.Kept.{ctor-fields};
 ghost use Rattle.places.specs.Places.{Room, Writes};
 ghost use Rattle.left_fields.specs.Fields.{Fields};
+ghost use Rattle.tables.specs.Tables.{lines-in};
 ghost use Rattle.left_ctors.specs.Ctors.{left-ctor, left-ctors, Ctors};
 use left_fields::count_kept;
 use left_fields::put_fields;
@@ -18,7 +19,6 @@ use places::put_line;
 
 // C line c of declaration d with its kept fields, whose F lines begin with line i.
 fn put_ctor(
-    s: &[u8],
     t: &[u32],
     u: &[u16],
     f: &[u64],
@@ -31,20 +31,19 @@ fn put_ctor(
     d: usize,
     p: Place,
 ) -> Place
-    requires { ⌜ Fields (now s) (now t) (now u) (now f) (now keep) d i (i + ctor-fields (lines 6 (now s)) c) (length (now scratch)) × (c < count-of ctor-line (lines 6 (now s))) ⌝ }
-    requires { ⌜ (length (now scratch) ≤ length (now stack)) × Room (ctor-lines (left-ctor (lines 6 (now s)) (now keep) d c i ∷ [])) p (now out) ⌝ }
-    ensures { λ r. ⌜ Writes (ctor-lines (left-ctor (lines 6 (now (s .entry))) (now (keep .entry)) d c i ∷ [])) p r (now (out .entry)) (now (out .exit)) ⌝ }
+    requires { ⌜ Fields (lines-in (now t)) (now t) (now u) (now f) (now keep) d i (i + ctor-fields (lines-in (now t)) c) (length (now scratch)) × (c < count-of ctor-line (lines-in (now t))) ⌝ }
+    requires { ⌜ (length (now scratch) ≤ length (now stack)) × Room (ctor-lines (left-ctor (lines-in (now t)) (now keep) d c i ∷ [])) p (now out) ⌝ }
+    ensures { λ r. ⌜ Writes (ctor-lines (left-ctor (lines-in (now (t .entry))) (now (keep .entry)) d c i ∷ [])) p r (now (out .entry)) (now (out .exit)) ⌝ }
 {
-    let n = tables::ctor_number(s, t, c, 1) as usize;
-    let name = tables::ctor_number(s, t, c, 0);
+    let n = tables::ctor_number(t, c, 1) as usize;
+    let name = tables::ctor_number(t, c, 0);
     let m = count_kept(keep, i, n);
     let q = put_line(out, b'C', [name, m as u32, 0, 0, 0], p);
-    put_fields(s, t, u, f, keep, scratch, stack, out, i, n, d, q)
+    put_fields(t, u, f, keep, scratch, stack, out, i, n, d, q)
 }
 
 // The k C lines from line c on, whose F lines begin with line i.
 pub fn put_ctors(
-    s: &[u8],
     t: &[u32],
     u: &[u16],
     f: &[u64],
@@ -58,15 +57,15 @@ pub fn put_ctors(
     d: usize,
     p: Place,
 ) -> Place
-    requires { ⌜ Ctors (now s) (now t) (now u) (now f) (now keep) d c i k (length (now scratch)) ⌝ }
-    requires { ⌜ (length (now scratch) ≤ length (now stack)) × Room (ctor-lines (left-ctors (lines 6 (now s)) (now keep) d c i k)) p (now out) ⌝ }
-    ensures { λ r. ⌜ Writes (ctor-lines (left-ctors (lines 6 (now (s .entry))) (now (keep .entry)) d c i k)) p r (now (out .entry)) (now (out .exit)) ⌝ }
+    requires { ⌜ Ctors (lines-in (now t)) (now t) (now u) (now f) (now keep) d c i k (length (now scratch)) ⌝ }
+    requires { ⌜ (length (now scratch) ≤ length (now stack)) × Room (ctor-lines (left-ctors (lines-in (now t)) (now keep) d c i k)) p (now out) ⌝ }
+    ensures { λ r. ⌜ Writes (ctor-lines (left-ctors (lines-in (now (t .entry))) (now (keep .entry)) d c i k)) p r (now (out .entry)) (now (out .exit)) ⌝ }
 {
     let mut q = p;
     let mut j = i;
     for m in 0..k {
-        q = put_ctor(s, t, u, f, keep, scratch, stack, out, c + m, j, d, q);
-        j += tables::ctor_number(s, t, c + m, 1) as usize;
+        q = put_ctor(t, u, f, keep, scratch, stack, out, c + m, j, d, q);
+        j += tables::ctor_number(t, c + m, 1) as usize;
     }
     q
 }

@@ -1,16 +1,15 @@
 -- The declaration that is left of a declaration, by its lines and cells. Assumes nothing.
 use mathlib.Core.Path.{_≡_}
-use mathlib.Core.List.{List, [], _∷_, List·Memᴰ}
-use Prim.Native.Nat.{ℕ, _+_, _*_, _≤_, _<_}
+use mathlib.Core.List.{List, List·Memᴰ}
+use Prim.Native.Nat.{ℕ, _*_, _≤_, _<_}
 use lib.ListN.{length}
 use Rattle.sheet.specs.Line.{Line}
-use Rattle.sheet.specs.Sheet.{lines}
 use Rattle.model.specs.Cty.{Cty}
 use Rattle.model.specs.Decl.{Field, Ctor, Dtype}
 use Rattle.meaning.specs.Program.{field-line}
 use Rattle.meaning.specs.Rows.{count-of}
 use Rattle.meaning.specs.Output.{field-lines, ctor-lines, decl-lines}
-use Rattle.tables.specs.Tables.{decls-of, Tabled}
+use Rattle.tables.specs.Tables.{decls-of, TableOf}
 use Rattle.states.specs.States.{state, resolves-of}
 use Rattle.lefts.specs.BodyLaws.{left-body}
 use Rattle.places.specs.Places.{Writing, typed, seq, Typed}
@@ -35,10 +34,10 @@ abbrev pub varied : List Line → ℕ → List Ctor → Writing
 varied ls d cs = framed ls d 3 (length cs) (ctor-lines cs)
 
 -- Declaration d is left, and its types can be written, with at most n nodes.
-pub record Given (b t u f keep : List ℕ) (d n : ℕ) : Type 0 where
-  pub tabled : Tabled b t
-  pub decl : d < decls-of (lines 6 b)
-  pub states : length u ≡ 2 * decls-of (lines 6 b)
-  pub long : count-of field-line (lines 6 b) ≤ length keep
+pub record Given (ls : List Line) (t u f keep : List ℕ) (d n : ℕ) : Type 0 where
+  pub tabled : TableOf ls t
+  pub decl : d < decls-of ls
+  pub states : length u ≡ 2 * decls-of ls
+  pub long : count-of field-line ls ≤ length keep
   pub stays : state u d ≡ 0 → ⊥
-  pub types : (y : ℕ) → List·Memᴰ y (resolves-of (lines 6 b) u keep d) → Typed b t u f y d n
+  pub types : (y : ℕ) → List·Memᴰ y (resolves-of ls u keep d) → Typed ls t u f y d n

@@ -1,6 +1,6 @@
 -- The lines of a declaration that is left, part by part. Assumes nothing.
 use mathlib.Core.Path.{_≡_, refl, ap, ap₂, sym, _∙_, subst}
-use mathlib.Core.List.{List, [], _∷_, _++_, map, List·Memᴰ, List·Memᴰ·head, List·Memᴰ·tail}
+use mathlib.Core.List.{List, _∷_, List·Memᴰ, List·Memᴰ·head, List·Memᴰ·tail}
 use mathlib.Core.Bool.{Bool, true, false}
 use Prim.Native.Nat.{ℕ, zero, suc, _+_, _*_, _-_, _≤_, _<_}
 use native.Mathlib.Omega.{arith}
@@ -10,34 +10,30 @@ use lib.Dec.{eqb}
 use lib.ListN.{length, getD, length-map}
 use Rattle.columns.specs.Column.{pick}
 use Rattle.sheet.specs.Line.{Line}
-use Rattle.sheet.specs.Sheet.{lines}
 use Rattle.sheet.specs.ListLaws.{getD-within}
 use Rattle.model.specs.Cty.{Cty}
-use Rattle.model.specs.Decl.{Field, Ctor, Body, TAbstract, TAbbrev, TRecord, TVariant}
+use Rattle.model.specs.Decl.{Body, TAbstract, TAbbrev, TRecord, TVariant}
 use Rattle.meaning.specs.Program.{ctor-line, field-line}
-use Rattle.meaning.specs.Rows.{count-of}
 use Rattle.meaning.specs.Output.{Written, field-lines, ctor-lines, decl-frame, decl-lines}
-use Rattle.meaning.specs.Laws.Program.{Whole}
 use Rattle.limits.specs.Limits.{start}
-use Rattle.tables.specs.Tables.{first-of, decls-of, Tabled}
+use Rattle.tables.specs.Tables.{first-of}
 use Rattle.declared.specs.DeclLaws.{first-next, whole-at}
 use Rattle.arguments.specs.Params.{params-of}
 use Rattle.arguments.specs.ParamsLaws.{count-before-le}
-use Rattle.kept.specs.Kept.{body-kind, body-last, field-type, ctor-fields, fields-by, ctors-by}
+use Rattle.kept.specs.Kept.{body-kind, body-last, field-type, fields-by, ctors-by}
 use Rattle.kept.specs.KeptLaws.{fields-in, length-ctors-by, total-record, total-variant}
 use Rattle.states.specs.States.{state, body-of, kept-types, resolves-of}
 use Rattle.lefts.specs.Lefts.{left-type}
 use Rattle.lefts.specs.BodyLaws.{left-body}
 use Rattle.places.specs.declared.Place.{Place}
-use Rattle.places.specs.Places.{Writing, none, typed, seq, Growing, Room, Writes, Typed}
-use Rattle.places.specs.PlacesLaws.{growing-none, growing-seq, growing-typed, writes-as, room-as, room-first, room-rest, writes-seq}
+use Rattle.places.specs.Places.{Writing, typed, Growing, Room, Writes, Typed}
+use Rattle.places.specs.PlacesLaws.{writes-as, room-as, room-first, room-rest, writes-seq}
 use Rattle.left_fields.specs.Fields.{left-of, left-fields, kept-count, Fields}
-use Rattle.left_fields.specs.FieldsLaws.{growing-fields, count-fields, type-number}
+use Rattle.left_fields.specs.FieldsLaws.{count-fields, type-number}
 use Rattle.left_ctors.specs.Ctors.{ctor-left, left-ctors, Ctors}
-use Rattle.left_ctors.specs.CtorsLaws.{growing-ctors}
 use Rattle.left_heads.specs.Heads.{by-last, decl-with, framed, bare}
-use Rattle.left_heads.specs.HeadsLaws.{growing-framed, room-last, writes-last}
-use Rattle.left_decls.specs.Decls.{left-decl, left-writing, abbreviated, recorded, varied, Given}
+use Rattle.left_heads.specs.HeadsLaws.{room-last, writes-last}
+use Rattle.left_decls.specs.Decls.{left-writing, abbreviated, recorded, varied, Given}
 
 -- ---- an abbreviation
 module _ (ls : List Line) (d : ℕ) (c : Cty) (p q : Place) (out mid : List ℕ) (r : Room (abbreviated ls d c) p out) where
@@ -185,25 +181,22 @@ kept-member ls keep i (suc n) j h k e = at (eqb i j) refl (λ a c. kept-member l
     at true q r = let g : i ≡ j = eqb-true i j q in rw (g, e) (List·Memᴰ·head refl)
     at false q r = let g = eqb-false i j q in skip (eqb (getD keep i 0) 1) (r (omega arith) (omega arith))
 
-module _ (b t u f keep : List ℕ) (d n : ℕ) (g : Given b t u f keep d n) where
-  abbrev ls : List Line
-  ls = lines 6 b
-
+module _ (ls : List Line) (t u f keep : List ℕ) (d n : ℕ) (g : Given ls t u f keep d n) where
   pub state-is : getD u (2 * d) 0 ≡ state u d
   state-is = getD-within u (2 * d) 0 3 (omega (arith, g .states, g .decl))
 
-  pub given-newtype : state u d ≡ 1 → Typed b t u f (body-of u d) d n
+  pub given-newtype : state u d ≡ 1 → Typed ls t u f (body-of u d) d n
   unfolding resolves-of
   given-newtype e = g .types (body-of u d) (rw (ne-eqb (state u d) 0 (g .stays), eq-eqb (state u d) 1 e) (List·Memᴰ·head refl))
 
   module _ (m : state u d ≡ 1 → ⊥) where
-    pub given-abbrev : body-kind ls d ≡ 1 → Typed b t u f (body-last ls d) d n
+    pub given-abbrev : body-kind ls d ≡ 1 → Typed ls t u f (body-last ls d) d n
     unfolding resolves-of
     given-abbrev e =
         g .types (body-last ls d)
         (rw (ne-eqb (state u d) 0 (g .stays), ne-eqb (state u d) 1 m, ne-eqb (body-kind ls d) 0 (λ k. omega arith), eq-eqb (body-kind ls d) 1 e) (List·Memᴰ·head refl))
 
-    fields-given : (e : ℕ) → 2 ≤ body-kind ls d → first-of field-line ls (suc d) ≡ e → Fields b t u f keep d (first-of field-line ls d) e n
+    fields-given : (e : ℕ) → 2 ≤ body-kind ls d → first-of field-line ls (suc d) ≡ e → Fields ls t u f keep d (first-of field-line ls d) e n
     unfolding resolves-of
     fields-given e k q =
         record {
@@ -215,12 +208,12 @@ module _ (b t u f keep : List ℕ) (d n : ℕ) (g : Given b t u f keep d n) wher
               (kept-member ls keep (first-of field-line ls d) (first-of field-line ls (suc d) - first-of field-line ls d) j a (omega arith) o));
         }
 
-    pub given-record : body-kind ls d ≡ 2 → Fields b t u f keep d (first-of field-line ls d) (first-of field-line ls d + body-last ls d) n
-    given-record e = fields-given (first-of field-line ls d + body-last ls d) (omega arith) (total-record b (g .tabled .passed) d (g .decl) e)
+    pub given-record : body-kind ls d ≡ 2 → Fields ls t u f keep d (first-of field-line ls d) (first-of field-line ls d + body-last ls d) n
+    given-record e = fields-given (first-of field-line ls d + body-last ls d) (omega arith) (total-record ls (g .tabled .passed) d (g .decl) e)
 
-    pub given-variant : body-kind ls d ≡ 3 → Ctors b t u f keep d (first-of ctor-line ls d) (first-of field-line ls d) (body-last ls d) n
+    pub given-variant : body-kind ls d ≡ 3 → Ctors ls t u f keep d (first-of ctor-line ls d) (first-of field-line ls d) (body-last ls d) n
     given-variant e =
         record {
-          inside = omega (arith, count-before-le ctor-line ls (start ls (suc d)), first-next ls d (g .decl) ctor-line refl refl, whole-at b (g .tabled .passed) d (g .decl) .ctors e);
-          fields = fields-given (first-of field-line ls d + fields-in ls (first-of ctor-line ls d) (body-last ls d)) (omega arith) (total-variant b (g .tabled .passed) d (g .decl) e);
+          inside = omega (arith, count-before-le ctor-line ls (start ls (suc d)), first-next ls d (g .decl) ctor-line refl refl, whole-at ls (g .tabled .passed) d (g .decl) .ctors e);
+          fields = fields-given (first-of field-line ls d + fields-in ls (first-of ctor-line ls d) (body-last ls d)) (omega arith) (total-variant ls (g .tabled .passed) d (g .decl) e);
         }

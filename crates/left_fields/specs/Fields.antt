@@ -1,18 +1,17 @@
 -- The fields that are left of a declaration, by its F lines. Assumes nothing.
 use mathlib.Core.Path.{_≡_}
-use mathlib.Core.List.{List, [], _∷_, map}
+use mathlib.Core.List.{List, map}
 use Prim.Native.Nat.{ℕ, zero, suc, _+_, _≤_, _<_}
 use lib.Dec.{eqb}
 use lib.ListN.{length, getD}
 use Rattle.columns.specs.Column.{pick}
 use Rattle.sheet.specs.Line.{Line}
-use Rattle.sheet.specs.Sheet.{lines}
 use Rattle.model.specs.Decl.{Field}
 use Rattle.model.specs.Resolve.{resolve}
 use Rattle.model.specs.Run.{resolved-field, lay}
 use Rattle.meaning.specs.Program.{field-line, program}
 use Rattle.meaning.specs.Rows.{count-of}
-use Rattle.tables.specs.Tables.{Tabled}
+use Rattle.tables.specs.Tables.{TableOf}
 use Rattle.arguments.specs.Params.{params-of}
 use Rattle.kept.specs.Kept.{field-type, field-at, fields-by}
 use Rattle.places.specs.Places.{Typed}
@@ -35,8 +34,8 @@ kept-count keep i zero = 0
 kept-count keep i (suc n) = pick (eqb (getD keep (i + n) 0) 1) (suc (kept-count keep i n)) (kept-count keep i n)
 
 -- The F lines from line i to line e of declaration d can be written, with types of at most n nodes.
-pub record Fields (b t u f keep : List ℕ) (d i e n : ℕ) : Type 0 where
-  pub tabled : Tabled b t
-  pub inside : e ≤ count-of field-line (lines 6 b)
-  pub long : count-of field-line (lines 6 b) ≤ length keep
-  pub types : (j : ℕ) → i ≤ j → j < e → getD keep j 0 ≡ 1 → Typed b t u f (field-type (lines 6 b) j) d n
+pub record Fields (ls : List Line) (t u f keep : List ℕ) (d i e n : ℕ) : Type 0 where
+  pub tabled : TableOf ls t
+  pub inside : e ≤ count-of field-line ls
+  pub long : count-of field-line ls ≤ length keep
+  pub types : (j : ℕ) → i ≤ j → j < e → getD keep j 0 ≡ 1 → Typed ls t u f (field-type ls j) d n

@@ -1,13 +1,13 @@
 -- The lines of fields, one after the other. Assumes nothing.
-use mathlib.Core.Path.{_≡_, refl, ap, ap₂, sym, _∙_, subst}
+use mathlib.Core.Path.{_≡_, refl, ap, ap₂, sym, _∙_}
 use mathlib.Core.List.{List, [], _∷_, _++_, map, map-append, append-assoc, append-nil}
 use mathlib.Core.Bool.{Bool, true, false}
-use Prim.Native.Nat.{ℕ, zero, suc, _+_, _*_, _-_, _≤_, _<_}
+use Prim.Native.Nat.{ℕ, zero, suc, _+_, _-_, _≤_, _<_}
 use native.Mathlib.Omega.{arith}
 use native.Mathlib.Numerals.{add-one}
-use borrow.Author.Tests.{eq-eqb, ne-eqb}
+use borrow.Author.Tests.{ne-eqb}
 use lib.Dec.{eqb}
-use lib.ListN.{length, getD, length-append, length-map}
+use lib.ListN.{length, getD, length-append}
 use Rattle.columns.specs.Column.{pick}
 use Rattle.sheet.specs.Line.{Line, row, number}
 use Rattle.sheet.specs.Sheet.{lines}
@@ -15,17 +15,15 @@ use Rattle.model.specs.Cty.{Cty}
 use Rattle.model.specs.Decl.{Field}
 use Rattle.model.specs.Run.{resolved-field}
 use Rattle.meaning.specs.Program.{field-line}
-use Rattle.meaning.specs.Rows.{count-of}
 use Rattle.meaning.specs.Output.{Written, last, emit, Lines, field-lines}
 use Rattle.meaning.specs.Laws.Output.{grows-args, grows-types, field-adds, emit-adds}
-use Rattle.bodies.specs.BodiesLaws.{fields-few}
 use Rattle.tables.specs.Tables.{nth}
 use Rattle.arguments.specs.Params.{params-of}
 use Rattle.kept.specs.Kept.{field-type, field-at, fields-by}
 use Rattle.lefts.specs.Lefts.{left-type}
 use Rattle.places.specs.declared.Place.{Place}
-use Rattle.places.specs.Places.{Writing, none, one, numbered, typed, more, seq, Growing, Room, Writes, Typed}
-use Rattle.places.specs.PlacesLaws.{growing-numbered, inside-now, writes-none, writes-as, room-as, room-first, room-rest, writes-seq, room-numbered, writes-numbered, growing-typed}
+use Rattle.places.specs.Places.{Writing, one, numbered, typed, seq, Growing, Room, Writes}
+use Rattle.places.specs.PlacesLaws.{growing-numbered, writes-none, writes-as, room-as, room-first, room-rest, writes-seq, room-numbered, writes-numbered}
 use Rattle.left_fields.specs.Fields.{left-of, left-field, left-fields, kept-count, Fields}
 
 -- ---- one after the other
@@ -98,8 +96,8 @@ unfolding kept-count
 count-no keep i n e = rw (add-one n, ne-eqb (getD keep (i + n) 0) 1 e)
 
 -- ---- one field
-pub part-fields : (b t u f keep : List ℕ) (d i e n j m l : ℕ) → i ≤ j → m ≤ e → l ≡ n → Fields b t u f keep d i e n → Fields b t u f keep d j m l
-part-fields b t u f keep d i e n j m l h k g r =
+pub part-fields : (ls : List Line) (t u f keep : List ℕ) (d i e n j m l : ℕ) → i ≤ j → m ≤ e → l ≡ n → Fields ls t u f keep d i e n → Fields ls t u f keep d j m l
+part-fields ls t u f keep d i e n j m l h k g r =
     record { tabled = r .tabled; inside = omega (arith, r .inside); long = r .long; types = λ x a c o. rw g (r .types x (omega arith) (omega arith) o) }
 
 -- the F line of a field whose type was written last

@@ -9,6 +9,7 @@ ghost use Rattle.meaning.specs.Rows.{count-of};
 ghost use Rattle.meaning.specs.Output.{field-lines};
 ghost use Rattle.kept.specs.Kept.{field-type};
 ghost use Rattle.places.specs.Places.{Room, Writes, Typed};
+ghost use Rattle.tables.specs.Tables.{lines-in};
 ghost use Rattle.left_fields.specs.Fields.{left-field, left-fields, kept-count, Fields};
 use places::Place;
 use places::put_line;
@@ -16,7 +17,6 @@ use places::put_type;
 
 // F line i of declaration d with its type.
 fn put_field(
-    s: &[u8],
     t: &[u32],
     u: &[u16],
     f: &[u64],
@@ -27,20 +27,19 @@ fn put_field(
     d: usize,
     p: Place,
 ) -> Place
-    requires { ⌜ Typed (now s) (now t) (now u) (now f) (field-type (lines 6 (now s)) i) d (length (now scratch)) × (i < count-of field-line (lines 6 (now s))) ⌝ }
-    requires { ⌜ (length (now scratch) ≤ length (now stack)) × Room (field-lines (left-field (lines 6 (now s)) d i ∷ [])) p (now out) ⌝ }
-    ensures { λ r. ⌜ Writes (field-lines (left-field (lines 6 (now (s .entry))) d i ∷ [])) p r (now (out .entry)) (now (out .exit)) ⌝ }
+    requires { ⌜ Typed (lines-in (now t)) (now t) (now u) (now f) (field-type (lines-in (now t)) i) d (length (now scratch)) × (i < count-of field-line (lines-in (now t))) ⌝ }
+    requires { ⌜ (length (now scratch) ≤ length (now stack)) × Room (field-lines (left-field (lines-in (now t)) d i ∷ [])) p (now out) ⌝ }
+    ensures { λ r. ⌜ Writes (field-lines (left-field (lines-in (now (t .entry))) d i ∷ [])) p r (now (out .entry)) (now (out .exit)) ⌝ }
 {
-    let y = tables::field_number(s, t, i, 1) as usize;
-    let q = put_type(s, t, u, f, scratch, stack, out, y, d, p);
-    let name = tables::field_number(s, t, i, 0);
+    let y = tables::field_number(t, i, 1) as usize;
+    let q = put_type(t, u, f, scratch, stack, out, y, d, p);
+    let name = tables::field_number(t, i, 0);
     let n = (q.types - 1) as u32;
     put_line(out, b'F', [name, n, 0, 0, 0], q)
 }
 
 // F line i, if it is kept.
 fn put_kept(
-    s: &[u8],
     t: &[u32],
     u: &[u16],
     f: &[u64],
@@ -52,19 +51,18 @@ fn put_kept(
     d: usize,
     p: Place,
 ) -> Place
-    requires { ⌜ Fields (now s) (now t) (now u) (now f) (now keep) d i (i + 1) (length (now scratch)) ⌝ }
-    requires { ⌜ (length (now scratch) ≤ length (now stack)) × Room (field-lines (left-fields (lines 6 (now s)) (now keep) d i 1)) p (now out) ⌝ }
-    ensures { λ r. ⌜ Writes (field-lines (left-fields (lines 6 (now (s .entry))) (now (keep .entry)) d i 1)) p r (now (out .entry)) (now (out .exit)) ⌝ }
+    requires { ⌜ Fields (lines-in (now t)) (now t) (now u) (now f) (now keep) d i (i + 1) (length (now scratch)) ⌝ }
+    requires { ⌜ (length (now scratch) ≤ length (now stack)) × Room (field-lines (left-fields (lines-in (now t)) (now keep) d i 1)) p (now out) ⌝ }
+    ensures { λ r. ⌜ Writes (field-lines (left-fields (lines-in (now (t .entry))) (now (keep .entry)) d i 1)) p r (now (out .entry)) (now (out .exit)) ⌝ }
 {
     if keep[i] != 1 {
         return p;
     }
-    put_field(s, t, u, f, scratch, stack, out, i, d, p)
+    put_field(t, u, f, scratch, stack, out, i, d, p)
 }
 
 // The kept ones of the n F lines from line i on.
 pub fn put_fields(
-    s: &[u8],
     t: &[u32],
     u: &[u16],
     f: &[u64],
@@ -77,13 +75,13 @@ pub fn put_fields(
     d: usize,
     p: Place,
 ) -> Place
-    requires { ⌜ Fields (now s) (now t) (now u) (now f) (now keep) d i (i + n) (length (now scratch)) ⌝ }
-    requires { ⌜ (length (now scratch) ≤ length (now stack)) × Room (field-lines (left-fields (lines 6 (now s)) (now keep) d i n)) p (now out) ⌝ }
-    ensures { λ r. ⌜ Writes (field-lines (left-fields (lines 6 (now (s .entry))) (now (keep .entry)) d i n)) p r (now (out .entry)) (now (out .exit)) ⌝ }
+    requires { ⌜ Fields (lines-in (now t)) (now t) (now u) (now f) (now keep) d i (i + n) (length (now scratch)) ⌝ }
+    requires { ⌜ (length (now scratch) ≤ length (now stack)) × Room (field-lines (left-fields (lines-in (now t)) (now keep) d i n)) p (now out) ⌝ }
+    ensures { λ r. ⌜ Writes (field-lines (left-fields (lines-in (now (t .entry))) (now (keep .entry)) d i n)) p r (now (out .entry)) (now (out .exit)) ⌝ }
 {
     let mut q = p;
     for j in 0..n {
-        q = put_kept(s, t, u, f, keep, scratch, stack, out, i + j, d, q);
+        q = put_kept(t, u, f, keep, scratch, stack, out, i + j, d, q);
     }
     q
 }

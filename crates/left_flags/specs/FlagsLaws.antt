@@ -1,58 +1,28 @@
 -- The flag of a declaration is whether `rw_decl` leaves one. Assumes nothing.
 use mathlib.Core.Path.{_≡_, refl, ap, ap₂, sym, _∙_, subst}
 use mathlib.Core.List.{List, [], _∷_, _++_, map, List·Memᴰ, List·Memᴰ·head, List·Memᴰ·tail}
-use mathlib.Core.Bool.{Bool, true, false, _&&_, _||_, not}
-use mathlib.Core.Option.{Option, none, some}
-use Prim.Native.Nat.{ℕ, zero, suc, _+_, _-_, _*_, _≤_, _<_}
+use mathlib.Core.Bool.{Bool, true, false, _&&_, _||_}
+use mathlib.Core.Option.{none, some}
+use Prim.Native.Nat.{ℕ, zero, suc, _+_, _-_, _≤_, _<_}
 use native.Mathlib.Omega.{arith}
 use native.Mathlib.Numerals.{add-one}
 use lib.Dec.{eqb}
-use lib.ListN.{length, getD, take, drop, set, length-take, length-drop, length-set}
+use lib.ListN.{length, getD, take, drop, set, length-drop}
 use lib.Seq.{getD-take, getD-drop, length-take-le, getD-set-same, getD-set-other}
 use borrow.Author.Tests.{eqb-true, eqb-false, eq-eqb, ne-eqb}
 use Rattle.columns.specs.Column.{pick}
-use Rattle.sheet.specs.Format.{base}
-use Rattle.sheet.specs.FormatLaws.{base-ample}
 use Rattle.sheet.specs.Line.{Line, number}
-use Rattle.sheet.specs.Sheet.{count, lines}
-use Rattle.sheet.specs.SheetLaws.{length-lines}
-use Rattle.sheet.specs.FirstLaws.{none-first}
-use Rattle.sheet.specs.ListLaws.{same-test, contrary, false-true}
-use Rattle.model.specs.Cty.{
-  Cty,
-  Ctys,
-  TUnit,
-  TAny,
-  TExn,
-  TVar,
-  TInt,
-  TFloat,
-  TConst,
-  TArrow,
-  TApp,
-  TTuple,
-  TBuf,
-  TRef,
-  TInline,
-  nil,
-  cons,
-  walk,
-  walks,
-  gather,
-  gathers,
-  names-of-cty,
-  cty-vars,
-}
-use Rattle.model.specs.Decl.{TAbbrev, Dtype, bit, Layout, L-erased, L-newtype, L-struct, L-abbrev, L-opaque, Decl, dtype-at, position, member}
-use Rattle.model.specs.Resolve.{Unfold, gone, newtype, abbreviation, stays, resolve}
+use Rattle.sheet.specs.ListLaws.{same-test, false-true}
+use Rattle.model.specs.Cty.{Cty, Ctys, TUnit, TAny, TExn, TVar, TInt, TFloat, TConst, TArrow, TApp, TTuple, TBuf, TRef, TInline, nil, cons, walk, walks, gather, gathers, names-of-cty, cty-vars}
+use Rattle.model.specs.Decl.{TAbbrev, Dtype, Layout, L-erased, L-newtype, L-struct, L-abbrev, L-opaque, Decl, dtype-at, position, member}
+use Rattle.model.specs.Resolve.{newtype, stays, resolve}
 use Rattle.model.specs.Run.{all-in, collapsed-abbrev, rw-decl, lay, layout-of-decl, left-at, with-body}
 use Rattle.model_laws.specs.Cty.{all-names}
 use Rattle.model_laws.specs.Names.{position-distinct}
 use Rattle.model_laws.specs.Resolve.{Stays, Unfolds}
 use Rattle.meaning.specs.Program.{program, param-line}
-use Rattle.meaning.specs.Rows.{row6}
 use Rattle.meaning.specs.Laws.Program.{length-program}
-use Rattle.answer.specs.Laws.Pass.{distinct-program}
+use Rattle.declared.specs.PassedLaws.{distinct-names}
 use Rattle.namesets.specs.NamesLaws.{member-append, member-iff}
 use Rattle.tables.specs.Tables.{nth, decls-of}
 use Rattle.arguments.specs.Params.{params-from, params-of}
@@ -63,8 +33,8 @@ use Rattle.normal.specs.Nodes.{Node, node, post, posts}
 use Rattle.normal.specs.Forms.{place, renamed}
 use Rattle.nodes.specs.Words.{node-of}
 use Rattle.form_words.specs.Emit.{form-words, Forms}
-use Rattle.lefts.specs.Lefts.{Ready, is-left, left-type, Flagged}
-use Rattle.lefts.specs.ReadyLaws.{accepted-all, room-verdict, room-left, listed-of, body-resolved, ready-form-nodes}
+use Rattle.lefts.specs.Lefts.{Ready, is-left, left-type}
+use Rattle.lefts.specs.ReadyLaws.{listed-of, body-resolved, ready-form-nodes}
 use Rattle.left_flags.specs.Flags.{is-var, has-var, has-all, leaves}
 
 -- ---- a variable among nodes
@@ -148,10 +118,7 @@ collapsed-left d c e = rw e (go (all-in (d .dt-params) (cty-vars c)))
     go true = refl
     go false = refl
 
-module _ (b t u f keep : List ℕ) (ready : Ready b t u f keep) (d : ℕ) (below : d < decls-of (lines 6 b)) where
-  abbrev ls : List Line
-  ls = lines 6 b
-
+module _ (ls : List Line) (t u f keep : List ℕ) (ready : Ready ls t u f keep) (d : ℕ) (below : d < decls-of ls) where
   abbrev ds : List Decl
   ds = program ls
 
@@ -171,12 +138,12 @@ module _ (b t u f keep : List ℕ) (ready : Ready b t u f keep) (d : ℕ) (below
       R = left-type ls d (body-of u d)
 
       place-is : position ds n ≡ d
-      place-is = position-distinct ds (distinct-program ls (λ i h. none-first (row6 ls) (count 6 b) (ready .tabled .passed .distinct) i (omega (arith, length-lines 6 b)))) d (omega (arith, length-program ls))
+      place-is = position-distinct ds (distinct-names ls (ready .tabled .passed)) d (omega (arith, length-program ls))
 
       go : (c : Bool) → member n (names-of-cty R) ≡ c → c ≡ false
       go false e = refl
       go true e =
-          let k : lay ds n ≡ stays = all-names (Stays (lay ds)) R (body-resolved b u keep (ready .tabled .passed) (ready .settled) (ready .accepted) (listed-of b u keep (ready .tabled .passed) (ready .slotted) (ready .settled)) d (omega arith, omega arith) .normal) n (member-iff n (names-of-cty R) .0 e) in
+          let k : lay ds n ≡ stays = all-names (Stays (lay ds)) R (body-resolved ls u keep (ready .tabled .passed) (ready .settled) (ready .resolvable) (listed-of ls u keep (ready .tabled .passed) (ready .slotted) (ready .settled)) d (omega arith, omega arith) .normal) n (member-iff n (names-of-cty R) .0 e) in
           let q : closed (unfold-at ls u (position ds n)) ≡ stays = sym (ready .settled .names n) ∙ k in
           absurd (subst Unfolds (sym (ap (λ (j : ℕ). closed (unfold-at ls u j)) place-is ∙ ap closed (unfolded x)) ∙ q) tt)
 
@@ -184,7 +151,7 @@ module _ (b t u f keep : List ℕ) (ready : Ready b t u f keep) (d : ℕ) (below
   newtyped x =
       let ps : List ℕ = params-of ls d in
       let R : Cty = left-type ls d (body-of u d) in
-      ap (has-all ps ps) (ready-form-nodes b t u f keep ready d (omega arith, omega arith))
+      ap (has-all ps ps) (ready-form-nodes ls t u f keep ready d (omega arith, omega arith))
       ∙ (all-post ps ps R (λ v m. member-iff v ps .1 m)
       ∙ sym (collapsed-left (dtype-at ds d) R (not-named x) ∙ ap (λ (l : List ℕ). all-in l (cty-vars R)) (params-are ls d below)))
 
@@ -201,8 +168,8 @@ module _ (b t u f keep : List ℕ) (ready : Ready b t u f keep) (d : ℕ) (below
       go L-opaque s = rw (s .0)
 
 -- ---- the code
-pub ready-forms : (b t u f keep : List ℕ) → Ready b t u f keep → Forms b f
-ready-forms b t u f keep r = record { cells = omega (arith, r .forms .head, r .forms .room); inside = λ e q. omega (arith, r .forms .cells e q, r .forms .room) }
+pub ready-forms : (ls : List Line) (t u f keep : List ℕ) → Ready ls t u f keep → Forms ls f
+ready-forms ls t u f keep r = record { cells = omega (arith, r .forms .head, r .forms .room); inside = λ e q. omega (arith, r .forms .cells e q, r .forms .room) }
 
 -- a node of a list is one, or none is
 has-at : (i : ℕ) (xs : List ℕ) (k : ℕ) → k < length xs → is-var i (node-of (getD xs k 0)) ≡ true → has-var i (map node-of xs) ≡ true

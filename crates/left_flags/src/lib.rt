@@ -3,7 +3,6 @@ ghost use mathlib.Core.Path.{_≡_};
 ghost use mathlib.Core.List.{map};
 ghost use Prim.Native.Nat.{_+_, _*_, _≤_, _<_};
 ghost use lib.ListN.{length, take, drop};
-ghost use Rattle.sheet.specs.Sheet.{lines};
 ghost use Rattle.model.specs.Decl as decls;
 ghost use Rattle.tables.specs.Tables as tables;
 ghost use Rattle.arguments.specs.Params.{params-of};
@@ -40,16 +39,16 @@ fn has_variable(f: &[u64], start: usize, n: usize, i: usize) -> bool
 }
 
 // Each parameter of declaration d occurs in its normal form.
-fn has_params(s: &[u8], t: &[u32], f: &[u64], d: usize) -> bool
-    requires { ⌜ tables.Tabled (now s) (now t) × Forms (now s) (now f) × (d < tables.decls-of (lines 6 (now s))) ⌝ }
-    ensures { λ r. ⌜ r ≡ has-all (params-of (lines 6 (now (s .entry))) d) (params-of (lines 6 (now (s .entry))) d) (map node-of (form-words (now (f .entry)) d)) ⌝ }
+fn has_params(t: &[u32], f: &[u64], d: usize) -> bool
+    requires { ⌜ tables.Tabled (now t) × Forms (tables.lines-in (now t)) (now f) × (d < tables.decls-of (tables.lines-in (now t))) ⌝ }
+    ensures { λ r. ⌜ r ≡ has-all (params-of (tables.lines-in (now (t .entry))) d) (params-of (tables.lines-in (now (t .entry))) d) (map node-of (form-words (now (f .entry)) d)) ⌝ }
 {
     let start = f[2 * d] as usize;
     let n = f[2 * d + 1] as usize;
-    let end = tables::first_param(s, t, d + 1);
-    let mut p = tables::first_param(s, t, d);
+    let end = tables::first_param(t, d + 1);
+    let mut p = tables::first_param(t, d);
     while p < end {
-        let i = place_of(s, t, d, tables::param(s, t, p));
+        let i = place_of(t, d, tables::param(t, p));
         if !has_variable(f, start, n, i) {
             return false;
         }
@@ -59,9 +58,9 @@ fn has_params(s: &[u8], t: &[u32], f: &[u64], d: usize) -> bool
 }
 
 // Declaration d leaves a declaration.
-fn is_left(s: &[u8], t: &[u32], u: &[u16], f: &[u64], d: usize) -> bool
-    requires { ⌜ tables.Tabled (now s) (now t) × Forms (now s) (now f) × (d < tables.decls-of (lines 6 (now s))) ⌝ }
-    ensures { λ r. ⌜ r ≡ leaves (lines 6 (now (s .entry))) (now (u .entry)) (now (f .entry)) d ⌝ }
+fn is_left(t: &[u32], u: &[u16], f: &[u64], d: usize) -> bool
+    requires { ⌜ tables.Tabled (now t) × Forms (tables.lines-in (now t)) (now f) × (d < tables.decls-of (tables.lines-in (now t))) ⌝ }
+    ensures { λ r. ⌜ r ≡ leaves (tables.lines-in (now (t .entry))) (now (u .entry)) (now (f .entry)) d ⌝ }
 {
     let x = state(u, d);
     if x == 0 {
@@ -70,7 +69,7 @@ fn is_left(s: &[u8], t: &[u32], u: &[u16], f: &[u64], d: usize) -> bool
     if x != 1 {
         return true;
     }
-    has_params(s, t, f, d)
+    has_params(t, f, d)
 }
 
 fn bit(b: bool) -> u8
@@ -80,12 +79,12 @@ fn bit(b: bool) -> u8
 }
 
 // A cell for each declaration: 1 where it leaves one.
-pub fn flags(s: &[u8], t: &[u32], u: &[u16], f: &[u64], keep: &[u8], left: &mut [u8])
-    requires { ⌜ Ready (now s) (now t) (now u) (now f) (now keep) × (tables.decls-of (lines 6 (now s)) ≤ length (now left)) ⌝ }
-    ensures { λ _. ⌜ Flagged (now (s .entry)) (now (left .exit)) ⌝ }
+pub fn flags(t: &[u32], u: &[u16], f: &[u64], keep: &[u8], left: &mut [u8])
+    requires { ⌜ Ready (tables.lines-in (now t)) (now t) (now u) (now f) (now keep) × (tables.decls-of (tables.lines-in (now t)) ≤ length (now left)) ⌝ }
+    ensures { λ _. ⌜ Flagged (tables.lines-in (now (t .entry))) (now (left .exit)) ⌝ }
 {
-    let n = tables::decls(s, t);
+    let n = tables::decls(t);
     for d in 0..n {
-        left[d] = bit(is_left(s, t, u, f, d));
+        left[d] = bit(is_left(t, u, f, d));
     }
 }

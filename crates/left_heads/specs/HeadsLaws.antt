@@ -1,30 +1,25 @@
 -- The lines around a body, one after the other. Assumes nothing.
-use mathlib.Core.Path.{_≡_, refl, ap, ap₂, sym, _∙_, subst}
-use mathlib.Core.List.{List, [], _∷_, _++_, map, map-append, append-assoc, append-nil}
-use Prim.Native.Nat.{ℕ, zero, suc, _+_, _*_, _-_, _^_, _≤_, _<_}
+use mathlib.Core.Path.{_≡_, ap, ap₂, sym, _∙_, subst}
+use mathlib.Core.List.{List, [], _∷_, _++_, map, map-append}
+use Prim.Native.Nat.{ℕ, zero, suc, _+_, _-_, _≤_, _<_}
 use native.Mathlib.Omega.{arith}
-use native.Mathlib.Numerals.{add-one}
-use lib.ListN.{length, length-map}
-use Rattle.sheet.specs.Line.{Line, row, number, bad, isBad}
-use Rattle.sheet.specs.LineLaws.{Fits}
-use Rattle.sheet.specs.ListLaws.{Every, every-at}
-use Rattle.sheet.specs.FirstLaws.{none-first}
-use Rattle.sheet.specs.Sheet.{lines, line, count, row2}
-use Rattle.sheet.specs.SheetLaws.{fit-lines}
-use Rattle.refusals.specs.Rows.{Passed}
-use Rattle.meaning.specs.Laws.Output.{every-select, number-fits}
-use Rattle.meaning.specs.Program.{param-line, select}
+use lib.ListN.{length}
+use Rattle.sheet.specs.Line.{Line, row, number}
+use Rattle.sheet.specs.Sheet.{lines}
+use Rattle.declared.specs.Passed.{Passed}
+use Rattle.meaning.specs.Program.{param-line}
 use Rattle.meaning.specs.Rows.{count-of}
-use Rattle.meaning.specs.Output.{Written, last, Lines}
+use Rattle.meaning.specs.Output.{Written, last}
 use Rattle.limits.specs.Limits.{start}
 use Rattle.tables.specs.Tables.{nth, head-line, first-of}
 use Rattle.arguments.specs.Params.{params-from, params-of}
 use Rattle.arguments.specs.ParamsLaws.{count-before-le}
 use Rattle.calls.specs.CallsLaws.{params-length}
 use Rattle.places.specs.declared.Place.{Place}
-use Rattle.places.specs.Places.{Writing, none, one, more, seq, Growing, At, Inside, Room, Writes}
-use Rattle.places.specs.PlacesLaws.{growing-none, growing-one, growing-seq, writes-none, writes-as, room-as, room-first, room-rest, writes-seq}
-use Rattle.left_heads.specs.Heads.{fixed, by-last, param-row, verdict-row, decl-row, head-rows, framed, bare}
+use Rattle.places.specs.Places.{Writing, one, more, seq, Growing, At, Inside, Room, Writes}
+use Rattle.places.specs.PlacesLaws.{growing-one, growing-seq, writes-none, writes-as, room-as, room-first, room-rest, writes-seq}
+use Rattle.left_heads.specs.Heads.{fixed, by-last, param-row, verdict-row, head-rows, framed}
+use Rattle.declared.specs.PassedLaws.{nth-small}
 
 pub growing-fixed : (ms : List Line) → Growing (fixed ms)
 growing-fixed ms w = (omega arith, omega arith)
@@ -107,16 +102,8 @@ module _ (ls : List Line) (d n : ℕ) (e : n ≡ length (params-of ls d)) where
   params-all i g = ap₂ (λ (x y : ℕ). params-from ls x y) g count-is
 
 -- names are small numbers
-module _ (b : List ℕ) (passed : Passed b) where
-  fits : Every (Fits 6) (select param-line (lines 6 b))
-  unfolding row2
-  fits = every-select (Fits 6) param-line (lines 6 b) (fit-lines 6 b (none-first (λ i. isBad (line 6 b i)) (count 6 b) (passed .no-bad)))
-
-  pub param-small : (j : ℕ) → j < count-of param-line (lines 6 b) → number (nth param-line (lines 6 b) j) 0 < 4294967296
-  param-small j h = less (number (nth param-line (lines 6 b) j) 0) (number-fits 6 (omega arith) (nth param-line (lines 6 b) j) 0 (every-at (Fits 6) bad (select param-line (lines 6 b)) fits j h))
-    where
-      less : (n : ℕ) → n < 10 ^ 6 → n < 4294967296
-      less n h = omega arith
+pub param-small : (ls : List Line) → Passed ls → (j : ℕ) → j < count-of param-line ls → number (nth param-line ls j) 0 < 4294967296
+param-small ls p j h = omega (arith, nth-small ls p param-line j 0 h)
 
 -- ---- the D line and the P lines
 module _ (ls : List Line) (d kind end x y n i : ℕ) (p q : Place) (out mid : List ℕ) (r : Room (fixed (head-rows ls d kind end)) p out)
@@ -175,7 +162,3 @@ module _ (ls : List Line) (d kind end : ℕ) (body : Writing) (grows : Growing b
 
         pub frame-writes : (v : Place) (out′ : List ℕ) → Writes (one verdict-row) s v out₂ out′ → Writes (framed ls d kind end body) p v out out′
         frame-writes v out′ k = writes-seq (seq head body) (one verdict-row) (growing-one verdict-row) p s out out₂ v out′ whole k
-
-pub growing-framed : (ls : List Line) (d kind end : ℕ) (body : Writing) → Growing body → Growing (framed ls d kind end body)
-growing-framed ls d kind end body g =
-    growing-seq (seq (fixed (head-rows ls d kind end)) body) (one verdict-row) (growing-seq (fixed (head-rows ls d kind end)) body (growing-fixed (head-rows ls d kind end)) g) (growing-one verdict-row)

@@ -6,7 +6,7 @@ ghost use Prim.Native.Nat.{_+_, _≤_, _<_};
 ghost use Rattle.sheet.specs.Sheet.{lines};
 ghost use Rattle.meaning.specs.Program.{param-line};
 ghost use Rattle.meaning.specs.Rows.{count-of};
-ghost use Rattle.tables.specs.Tables.{Tabled, decls-of};
+ghost use Rattle.tables.specs.Tables.{Tabled, decls-of, lines-in};
 ghost use Rattle.arguments.specs.Params.{params-from};
 ghost use Rattle.places.specs.Places.{one, Room, Writes};
 ghost use Rattle.left_heads.specs.Heads.{fixed, param-row, verdict-row, head-rows, bare};
@@ -14,39 +14,31 @@ use places::Place;
 use places::put_line;
 
 // The n P lines from line i on.
-fn put_params(s: &[u8], t: &[u32], out: &mut [u8], i: usize, n: usize, p: Place) -> Place
-    requires { ⌜ Tabled (now s) (now t) × (i + n ≤ count-of param-line (lines 6 (now s))) ⌝ }
-    requires { ⌜ Room (fixed (map param-row (params-from (lines 6 (now s)) i n))) p (now out) ⌝ }
-    ensures { λ r. ⌜ Writes (fixed (map param-row (params-from (lines 6 (now (s .entry))) i n))) p r (now (out .entry)) (now (out .exit)) ⌝ }
+fn put_params(t: &[u32], out: &mut [u8], i: usize, n: usize, p: Place) -> Place
+    requires { ⌜ Tabled (now t) × (i + n ≤ count-of param-line (lines-in (now t))) ⌝ }
+    requires { ⌜ Room (fixed (map param-row (params-from (lines-in (now t)) i n))) p (now out) ⌝ }
+    ensures { λ r. ⌜ Writes (fixed (map param-row (params-from (lines-in (now (t .entry))) i n))) p r (now (out .entry)) (now (out .exit)) ⌝ }
 {
     let mut q = p;
     for j in 0..n {
-        let x = tables::param(s, t, i + j);
+        let x = tables::param(t, i + j);
         q = put_line(out, b'P', [x as u32, 0, 0, 0, 0], q);
     }
     q
 }
 
 // The D line of declaration d, with a body of this kind and last number, and its P lines.
-pub fn put_head(
-    s: &[u8],
-    t: &[u32],
-    out: &mut [u8],
-    d: usize,
-    kind: u32,
-    end: u32,
-    p: Place,
-) -> Place
-    requires { ⌜ Tabled (now s) (now t) × (d < decls-of (lines 6 (now s))) ⌝ }
-    requires { ⌜ Room (fixed (head-rows (lines 6 (now s)) d kind end)) p (now out) ⌝ }
-    ensures { λ r. ⌜ Writes (fixed (head-rows (lines 6 (now (s .entry))) d kind end)) p r (now (out .entry)) (now (out .exit)) ⌝ }
+pub fn put_head(t: &[u32], out: &mut [u8], d: usize, kind: u32, end: u32, p: Place) -> Place
+    requires { ⌜ Tabled (now t) × (d < decls-of (lines-in (now t))) ⌝ }
+    requires { ⌜ Room (fixed (head-rows (lines-in (now t)) d kind end)) p (now out) ⌝ }
+    ensures { λ r. ⌜ Writes (fixed (head-rows (lines-in (now (t .entry))) d kind end)) p r (now (out .entry)) (now (out .exit)) ⌝ }
 {
-    let n = calls::params(s, t, d);
-    let i = tables::first_param(s, t, d);
-    let name = tables::decl_number(s, t, d, 0);
-    let flags = tables::decl_number(s, t, d, 1);
+    let n = calls::params(t, d);
+    let i = tables::first_param(t, d);
+    let name = tables::decl_number(t, d, 0);
+    let flags = tables::decl_number(t, d, 1);
     let q = put_line(out, b'D', [name, flags, kind, n as u32, end], p);
-    put_params(s, t, out, i, n, q)
+    put_params(t, out, i, n, q)
 }
 
 // The V line.
@@ -58,19 +50,11 @@ pub fn put_end(out: &mut [u8], p: Place) -> Place
 }
 
 // A declaration whose body has no lines.
-pub fn put_bare(
-    s: &[u8],
-    t: &[u32],
-    out: &mut [u8],
-    d: usize,
-    kind: u32,
-    end: u32,
-    p: Place,
-) -> Place
-    requires { ⌜ Tabled (now s) (now t) × (d < decls-of (lines 6 (now s))) ⌝ }
-    requires { ⌜ Room (bare (lines 6 (now s)) d kind end) p (now out) ⌝ }
-    ensures { λ r. ⌜ Writes (bare (lines 6 (now (s .entry))) d kind end) p r (now (out .entry)) (now (out .exit)) ⌝ }
+pub fn put_bare(t: &[u32], out: &mut [u8], d: usize, kind: u32, end: u32, p: Place) -> Place
+    requires { ⌜ Tabled (now t) × (d < decls-of (lines-in (now t))) ⌝ }
+    requires { ⌜ Room (bare (lines-in (now t)) d kind end) p (now out) ⌝ }
+    ensures { λ r. ⌜ Writes (bare (lines-in (now (t .entry))) d kind end) p r (now (out .entry)) (now (out .exit)) ⌝ }
 {
-    let q = put_head(s, t, out, d, kind, end, p);
+    let q = put_head(t, out, d, kind, end, p);
     put_end(out, q)
 }

@@ -1,20 +1,19 @@
 -- The record number of a declaration is that of what is left of it. Assumes nothing.
-use mathlib.Core.Path.{_≡_, refl, ap, ap₂, sym, _∙_, subst}
+use mathlib.Core.Path.{_≡_, refl, ap, ap₂, sym, _∙_}
 use mathlib.Core.List.{List, [], _∷_, map}
 use mathlib.Core.Bool.{Bool, true, false, not}
-use mathlib.Core.Option.{Option, none, some}
-use Prim.Native.Nat.{ℕ, zero, suc, _+_, _-_, _*_, _/_, _%_, _≤_, _<_}
+use mathlib.Core.Option.{none, some}
+use Prim.Native.Nat.{ℕ, zero, suc, _+_, _-_, _/_, _%_, _≤_, _<_}
 use native.Mathlib.Omega.{arith}
 use native.Mathlib.Numerals.{add-one}
 use lib.Dec.{eqb}
 use lib.ListN.{length, getD, set}
 use lib.Seq.{getD-set-same, getD-set-other}
-use borrow.Author.Tests.{eqb-true, eqb-false, eq-eqb, ne-eqb}
+use borrow.Author.Tests.{eqb-true, eqb-false, ne-eqb}
 use Rattle.columns.specs.Column.{pick, _⇒_∥_}
 use Rattle.sheet.specs.Line.{Line, number}
-use Rattle.sheet.specs.Sheet.{lines}
 use Rattle.model.specs.Cty.{Cty}
-use Rattle.model.specs.Decl.{Field, Ctor, Body, TAbstract, TAbbrev, TRecord, TVariant, Dtype, Realized, SourceRecord, has-flag, bit, close-fields, Decl, dtype-at}
+use Rattle.model.specs.Decl.{Field, TAbstract, TAbbrev, TRecord, TVariant, has-flag, bit, close-fields, Decl, dtype-at}
 use Rattle.model.specs.Run.{with-body, resolved-field, record-body, record-verdict, record-of, left-at}
 use Rattle.meaning.specs.Program.{ctor-line, field-line, dtype-of, program}
 use Rattle.tables.specs.Tables.{head-line, decls-of, first-of}
@@ -59,10 +58,7 @@ unfolding ctors-by
 record-single ls keep ps res c f = record-one (ctor-name ls c) (map (resolved-field res) (fields-by ls keep ps f (ctor-fields ls c))) ∙ kept-some ls keep ps res f (ctor-fields ls c)
 
 -- ---- a declaration
-module _ (b t u f keep left : List ℕ) (ready : Ready b t u f keep) (flagged : Flagged b left) (d : ℕ) (below : d < decls-of (lines 6 b)) where
-  abbrev ls : List Line
-  ls = lines 6 b
-
+module _ (ls : List Line) (t u f keep left : List ℕ) (ready : Ready ls t u f keep) (flagged : Flagged ls left) (d : ℕ) (below : d < decls-of ls) where
   abbrev ds : List Decl
   ds = program ls
 
@@ -75,7 +71,7 @@ module _ (b t u f keep left : List ℕ) (ready : Ready b t u f keep) (flagged : 
   unfolding fields-in
   one-count e k =
       let q : fields-in ls (first-of ctor-line ls d) (body-last ls d) ≡ ctor-fields ls (first-of ctor-line ls d) + 0 = ap (fields-in ls (first-of ctor-line ls d)) k in
-      omega (arith, ap (first-of field-line ls) (add-one d), total-variant b (ready .tabled .passed) d below e)
+      omega (arith, ap (first-of field-line ls) (add-one d), total-variant ls (ready .tabled .passed) d below e)
 
   body-record : record-body (left-body ls u keep d)
       ≡ (eqb (state u d) 1 ⇒ false ∥ not (eqb (body-kind ls d) 3) ⇒ false ∥ not (eqb (body-last ls d) 1) ⇒ false ∥ some-kept keep (first-of field-line ls d) (first-of field-line ls (d + 1) - first-of field-line ls d))
@@ -106,7 +102,7 @@ module _ (b t u f keep left : List ℕ) (ready : Ready b t u f keep) (flagged : 
   -- its record number
   pub record-is : record-by ls u keep left d ≡ record-of (left-at 100 ds d)
   unfolding record-by record-of record-verdict has-flag
-  record-is = go (is-left (left-at 100 ds d)) (flagged .flags d below) (left-is b u keep (ready .tabled .passed) (ready .slotted) (ready .settled) d below)
+  record-is = go (is-left (left-at 100 ds d)) (flagged .flags d below) (left-is ls u keep (ready .tabled .passed) (ready .slotted) (ready .settled) d below)
     where
       go : (c : Bool) → getD left d 0 ≡ bit c → left-at 100 ds d ≡ pick c (some (with-body (dtype-at ds d) (left-body ls u keep d))) none → record-by ls u keep left d ≡ record-of (left-at 100 ds d)
       go true e q = rw (e, q, flags-are, body-record) refl

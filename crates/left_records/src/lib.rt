@@ -2,7 +2,6 @@
 ghost use mathlib.Core.Path.{_≡_};
 ghost use Prim.Native.Nat.{_+_, _-_, _≤_, _<_};
 ghost use lib.ListN.{length};
-ghost use Rattle.sheet.specs.Sheet.{lines};
 ghost use Rattle.model.specs.Decl as decls;
 ghost use Rattle.meaning.specs.Program.{field-line};
 ghost use Rattle.meaning.specs.Rows.{count-of};
@@ -27,31 +26,31 @@ fn any_kept(keep: &[u8], from: usize, end: usize) -> bool
 }
 
 // The record number of declaration d.
-fn record_of(s: &[u8], t: &[u32], u: &[u16], keep: &[u8], left: &[u8], d: usize) -> bool
-    requires { ⌜ tables.Tabled (now s) (now t) × (d < tables.decls-of (lines 6 (now s))) ⌝ }
-    requires { ⌜ (count-of field-line (lines 6 (now s)) ≤ length (now keep)) × (d < length (now left)) ⌝ }
-    ensures { λ r. ⌜ r ≡ record-by (lines 6 (now (s .entry))) (now (u .entry)) (now (keep .entry)) (now (left .entry)) d ⌝ }
+fn record_of(t: &[u32], u: &[u16], keep: &[u8], left: &[u8], d: usize) -> bool
+    requires { ⌜ tables.Tabled (now t) × (d < tables.decls-of (tables.lines-in (now t))) ⌝ }
+    requires { ⌜ (count-of field-line (tables.lines-in (now t)) ≤ length (now keep)) × (d < length (now left)) ⌝ }
+    ensures { λ r. ⌜ r ≡ record-by (tables.lines-in (now (t .entry))) (now (u .entry)) (now (keep .entry)) (now (left .entry)) d ⌝ }
 {
     if left[d] == 0 {
         return false;
     }
-    let flags = tables::decl_number(s, t, d, 1);
+    let flags = tables::decl_number(t, d, 1);
     if flags / 2 % 2 == 1 {
         return flags / 16 % 2 == 1;
     }
     if state(u, d) == 1 {
         return false;
     }
-    if tables::decl_number(s, t, d, 2) != 3 {
+    if tables::decl_number(t, d, 2) != 3 {
         return false;
     }
-    if tables::decl_number(s, t, d, 4) != 1 {
+    if tables::decl_number(t, d, 4) != 1 {
         return false;
     }
     any_kept(
         keep,
-        tables::first_field(s, t, d),
-        tables::first_field(s, t, d + 1),
+        tables::first_field(t, d),
+        tables::first_field(t, d + 1),
     )
 }
 
@@ -62,21 +61,13 @@ fn bit(b: bool) -> u8
 }
 
 // A cell for each declaration.
-pub fn records(
-    s: &[u8],
-    t: &[u32],
-    u: &[u16],
-    f: &[u64],
-    keep: &[u8],
-    left: &[u8],
-    records: &mut [u8],
-)
-    requires { ⌜ Ready (now s) (now t) (now u) (now f) (now keep) × Flagged (now s) (now left) ⌝ }
-    requires { ⌜ (count-of field-line (lines 6 (now s)) ≤ length (now keep)) × (tables.decls-of (lines 6 (now s)) ≤ length (now records)) ⌝ }
-    ensures { λ _. ⌜ Recorded (now (s .entry)) (now (records .exit)) ⌝ }
+pub fn records(t: &[u32], u: &[u16], f: &[u64], keep: &[u8], left: &[u8], records: &mut [u8])
+    requires { ⌜ Ready (tables.lines-in (now t)) (now t) (now u) (now f) (now keep) × Flagged (tables.lines-in (now t)) (now left) ⌝ }
+    requires { ⌜ (count-of field-line (tables.lines-in (now t)) ≤ length (now keep)) × (tables.decls-of (tables.lines-in (now t)) ≤ length (now records)) ⌝ }
+    ensures { λ _. ⌜ Recorded (tables.lines-in (now (t .entry))) (now (records .exit)) ⌝ }
 {
-    let n = tables::decls(s, t);
+    let n = tables::decls(t);
     for d in 0..n {
-        records[d] = bit(record_of(s, t, u, keep, left, d));
+        records[d] = bit(record_of(t, u, keep, left, d));
     }
 }

@@ -5,7 +5,6 @@ use mathlib.Core.Bool.{true, false}
 use Prim.Native.Nat.{ℕ, _+_, _*_, _≤_, _<_}
 use lib.ListN.{length}
 use Rattle.sheet.specs.Line.{Line}
-use Rattle.sheet.specs.Sheet.{lines}
 use Rattle.sheet.specs.ListLaws.{Every}
 use Rattle.model.specs.Cty.{size}
 use Rattle.meaning.specs.Program.{field-line}
@@ -28,16 +27,16 @@ sum-types ls d [] = 0
 sum-types ls d (y ∷ ys) = size (left-type ls d y) + sum-types ls d ys
 
 -- the words of Y line y's type are the nodes of what it resolves to in declaration d, and few
-pub record Told (b t u f : List ℕ) (d y : ℕ) : Type 0 where
-  pub asked : Asked b t u f y d
-  pub nodes : map node-of (words (lines 6 b) u f d false y) ≡ post (left-type (lines 6 b) d y)
-  pub long : length (words (lines 6 b) u f d false y) ≡ size (left-type (lines 6 b) d y)
-  pub few : size (left-type (lines 6 b) d y) ≤ 1024
+pub record Told (ls : List Line) (t u f : List ℕ) (d y : ℕ) : Type 0 where
+  pub asked : Asked ls t u f y d
+  pub nodes : map node-of (words ls u f d false y) ≡ post (left-type ls d y)
+  pub long : length (words ls u f d false y) ≡ size (left-type ls d y)
+  pub few : size (left-type ls d y) ≤ 1024
 
 -- so it is for the type of F line i
-pub record Tells (b t u f : List ℕ) (d i : ℕ) : Type 0 where
-  pub there : i < count-of field-line (lines 6 b)
-  pub told : Told b t u f d (field-type (lines 6 b) i)
+pub record Tells (ls : List Line) (t u f : List ℕ) (d i : ℕ) : Type 0 where
+  pub there : i < count-of field-line ls
+  pub told : Told ls t u f d (field-type ls i)
 
 -- r is c with the lines of these types and k lines more
 pub record Sums (ls : List Line) (d : ℕ) (ys : List ℕ) (k n : ℕ) (c r : Count) : Type 0 where

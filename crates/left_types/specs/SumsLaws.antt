@@ -2,7 +2,7 @@
 use mathlib.Core.Path.{_≡_, refl, ap, sym, _∙_, subst}
 use mathlib.Core.List.{List, [], _∷_, _++_, map, List·Memᴰ, List·Memᴰ·head, List·Memᴰ·tail}
 use mathlib.Core.Bool.{Bool, true, false}
-use Prim.Native.Nat.{ℕ, zero, suc, _+_, _-_, _*_, _≤_, _<_}
+use Prim.Native.Nat.{ℕ, zero, suc, _+_, _-_, _≤_, _<_}
 use native.Mathlib.Omega.{arith}
 use native.Mathlib.Numerals.{add-one}
 use lib.Dec.{eqb}
@@ -11,11 +11,9 @@ use lib.Seq.{take-at}
 use borrow.Author.Tests.{eqb-true, eqb-false, ne-eqb}
 use Rattle.columns.specs.Column.{pick}
 use Rattle.sheet.specs.Line.{Line}
-use Rattle.sheet.specs.Sheet.{lines}
-use Rattle.sheet.specs.ListLaws.{Every, every-append, contrary}
+use Rattle.sheet.specs.ListLaws.{every-append, contrary}
 use Rattle.model.specs.Cty.{Cty, size}
 use Rattle.meaning.specs.Program.{field-line}
-use Rattle.meaning.specs.Output.{Written, emit}
 use Rattle.meaning.specs.Laws.Output.{emit-adds, nothing}
 use Rattle.limits.specs.Limits.{start}
 use Rattle.tables.specs.Tables.{decls-of, first-of}
@@ -25,20 +23,20 @@ use Rattle.normal.specs.Nodes.{post, count-args}
 use Rattle.normal.specs.NodesLaws.{emit-args}
 use Rattle.nodes.specs.Words.{node-of}
 use Rattle.node_words.specs.Put.{Put}
-use Rattle.form_words.specs.Emit.{words, Asked}
+use Rattle.form_words.specs.Emit.{words}
 use Rattle.states.specs.States.{state, kept-types, resolves-of}
 use Rattle.lefts.specs.Lefts.{Ready, left-type}
 use Rattle.lefts.specs.ReadyLaws.{ready-asked, ready-nodes, ready-length, ready-size}
 use Rattle.lefts.specs.declared.Count.{Count}
-use Rattle.left_types.specs.Sums.{sum-args, sum-types, Told, Tells, Sums, Added}
+use Rattle.left_types.specs.Sums.{sum-args, sum-types, Told, Tells, Added}
 
-pub told : (b t u f keep : List ℕ) → Ready b t u f keep → (d y : ℕ) → d < decls-of (lines 6 b) → List·Memᴰ y (resolves-of (lines 6 b) u keep d) → Told b t u f d y
-told b t u f keep r d y h m =
+pub told : (ls : List Line) (t u f keep : List ℕ) → Ready ls t u f keep → (d y : ℕ) → d < decls-of ls → List·Memᴰ y (resolves-of ls u keep d) → Told ls t u f d y
+told ls t u f keep r d y h m =
     record {
-      asked = ready-asked b t u f keep r d y h m;
-      nodes = ready-nodes b t u f keep r d y h m;
-      long = ready-length b t u f keep r d y h m;
-      few = ready-size b t u f keep r d y h m;
+      asked = ready-asked ls t u f keep r d y h m;
+      nodes = ready-nodes ls t u f keep r d y h m;
+      long = ready-length ls t u f keep r d y h m;
+      few = ready-size ls t u f keep r d y h m;
     }
 
 -- a type has fewer A lines than nodes
@@ -87,12 +85,12 @@ module _ (ls : List Line) (d : ℕ) where
       }
 
 -- one type
-pub added-type : (b t u f : List ℕ) (d y : ℕ) → Told b t u f d y → (out res : List ℕ) (n a : ℕ) (c r : Count) → Put (words (lines 6 b) u f d false y) out 0 n res → n ≤ length out
-    → a ≡ count-args (map node-of (take (n - 0) res)) → r .args ≡ c .args + a → r .types ≡ c .types + n → r .lines ≡ c .lines → r .room ≡ true → Added (lines 6 b) d (y ∷ []) 0 (length out) c r
+pub added-type : (ls : List Line) (t u f : List ℕ) (d y : ℕ) → Told ls t u f d y → (out res : List ℕ) (n a : ℕ) (c r : Count) → Put (words ls u f d false y) out 0 n res → n ≤ length out
+    → a ≡ count-args (map node-of (take (n - 0) res)) → r .args ≡ c .args + a → r .types ≡ c .types + n → r .lines ≡ c .lines → r .room ≡ true → Added ls d (y ∷ []) 0 (length out) c r
 unfolding sum-args sum-types
-added-type b t u f d y h out res n a c r p q e ra rt rl rr =
-    let ws : List ℕ = words (lines 6 b) u f d false y in
-    let R : Cty = left-type (lines 6 b) d y in
+added-type ls t u f d y h out res n a c r p q e ra rt rl rr =
+    let ws : List ℕ = words ls u f d false y in
+    let R : Cty = left-type ls d y in
     let m : n ≡ length ws = omega (arith, p .room q .0) in
     let z : n - 0 ≡ n = omega arith in
     let w : take (n - 0) res ≡ ws = ap (λ (k : ℕ). take k res) z ∙ (ap (take n) (p .room q .1) ∙ take-at ws _ n (sym m)) in
@@ -110,11 +108,11 @@ added-type b t u f d y h out res n a c r p q e ra rt rl rr =
       short = λ z. contrary (r .room) rr z;
     }
 
-pub type-short : (b t u f : List ℕ) (d y : ℕ) → Told b t u f d y → (out res : List ℕ) (n : ℕ) → Put (words (lines 6 b) u f d false y) out 0 n res → length out < n → length out < 1024
-type-short b t u f d y h out res n p q = omega (arith, p .full q, h .long, h .few)
+pub type-short : (ls : List Line) (t u f : List ℕ) (d y : ℕ) → Told ls t u f d y → (out res : List ℕ) (n : ℕ) → Put (words ls u f d false y) out 0 n res → length out < n → length out < 1024
+type-short ls t u f d y h out res n p q = omega (arith, p .full q, h .long, h .few)
 
-pub type-few : (b t u f : List ℕ) (d y : ℕ) → Told b t u f d y → (out res : List ℕ) (n : ℕ) → Put (words (lines 6 b) u f d false y) out 0 n res → n ≤ length out → n ≤ 1024
-type-few b t u f d y h out res n p q = omega (arith, p .room q .0, h .long, h .few)
+pub type-few : (ls : List Line) (t u f : List ℕ) (d y : ℕ) → Told ls t u f d y → (out res : List ℕ) (n : ℕ) → Put (words ls u f d false y) out 0 n res → n ≤ length out → n ≤ 1024
+type-few ls t u f d y h out res n p q = omega (arith, p .room q .0, h .long, h .few)
 
 take-few : (k : ℕ) (l : List ℕ) → length (take k l) ≤ k
 take-few zero l = omega arith
@@ -124,10 +122,10 @@ take-few (suc k) (x ∷ l) = omega (arith, take-few k l)
 pub part-few : (n : ℕ) (l : List ℕ) → n ≤ 1024 → length (take (n - 0) l) ≤ 1024
 part-few n l h = omega (arith, take-few (n - 0) l)
 
-pub args-small : (b t u f : List ℕ) (d y : ℕ) → Told b t u f d y → (out res : List ℕ) (n a : ℕ) → Put (words (lines 6 b) u f d false y) out 0 n res → n ≤ length out → a ≡ count-args (map node-of (take (n - 0) res)) → a ≤ 1024
-args-small b t u f d y h out res n a p q e =
-    let ws : List ℕ = words (lines 6 b) u f d false y in
-    let R : Cty = left-type (lines 6 b) d y in
+pub args-small : (ls : List Line) (t u f : List ℕ) (d y : ℕ) → Told ls t u f d y → (out res : List ℕ) (n a : ℕ) → Put (words ls u f d false y) out 0 n res → n ≤ length out → a ≡ count-args (map node-of (take (n - 0) res)) → a ≤ 1024
+args-small ls t u f d y h out res n a p q e =
+    let ws : List ℕ = words ls u f d false y in
+    let R : Cty = left-type ls d y in
     let m : n ≡ length ws = omega (arith, p .room q .0) in
     let z : n - 0 ≡ n = omega arith in
     let w : take (n - 0) res ≡ ws = ap (λ (k : ℕ). take k res) z ∙ (ap (take n) (p .room q .1) ∙ take-at ws _ n (sym m)) in
@@ -209,13 +207,13 @@ module _ (ls : List Line) (keep : List ℕ) (d : ℕ) where
       go false q ih = under (eqb (getD keep f 0) 1) (ih (past (eqb-false i f q)))
 
 -- the fields of a declaration that is neither erased nor unfolded
-pub tells : (b t u f keep : List ℕ) → Ready b t u f keep → (d i first end : ℕ) → d < decls-of (lines 6 b) → (state u d ≡ 0 → ⊥) → (state u d ≡ 1 → ⊥) → 2 ≤ body-kind (lines 6 b) d
-    → first ≡ first-of field-line (lines 6 b) d → end ≡ first-of field-line (lines 6 b) (d + 1) → first ≤ i → i < end → getD keep i 0 ≡ 1 → Tells b t u f d i
+pub tells : (ls : List Line) (t u f keep : List ℕ) → Ready ls t u f keep → (d i first end : ℕ) → d < decls-of ls → (state u d ≡ 0 → ⊥) → (state u d ≡ 1 → ⊥) → 2 ≤ body-kind ls d
+    → first ≡ first-of field-line ls d → end ≡ first-of field-line ls (d + 1) → first ≤ i → i < end → getD keep i 0 ≡ 1 → Tells ls t u f d i
 unfolding resolves-of
-tells b t u f keep r d i first end h n0 n1 k p q l m e =
+tells ls t u f keep r d i first end h n0 n1 k p q l m e =
     record {
-      there = omega (arith, count-before-le field-line (lines 6 b) (start (lines 6 b) (d + 1)));
-      told = told b t u f keep r d (field-type (lines 6 b) i) h
-          (rw (ne-eqb (state u d) 0 n0, ne-eqb (state u d) 1 n1, ne-eqb (body-kind (lines 6 b) d) 0 (λ z. omega arith), ne-eqb (body-kind (lines 6 b) d) 1 (λ z. omega arith))
-          (kept-in (lines 6 b) keep d i (first-of field-line (lines 6 b) d) (first-of field-line (lines 6 b) (d + 1) - first-of field-line (lines 6 b) d) (omega arith) (omega arith) e));
+      there = omega (arith, count-before-le field-line ls (start ls (d + 1)));
+      told = told ls t u f keep r d (field-type ls i) h
+          (rw (ne-eqb (state u d) 0 n0, ne-eqb (state u d) 1 n1, ne-eqb (body-kind ls d) 0 (λ z. omega arith), ne-eqb (body-kind ls d) 1 (λ z. omega arith))
+          (kept-in ls keep d i (first-of field-line ls d) (first-of field-line ls (d + 1) - first-of field-line ls d) (omega arith) (omega arith) e));
     }

@@ -2,15 +2,15 @@
 mod node_count;
 
 ghost use mathlib.Core.Path.{_≡_};
-ghost use mathlib.Core.List.{List, [], _∷_};
+ghost use mathlib.Core.List.{[], _∷_};
 ghost use mathlib.Core.Bool.{true};
 ghost use Prim.Native.Nat.{_+_, _-_, _*_, _≤_, _<_};
 ghost use lib.ListN.{length, getD};
 ghost use Rattle.sheet.specs.Sheet.{lines};
 ghost use Rattle.meaning.specs.Program.{field-line};
 ghost use Rattle.meaning.specs.Rows.{count-of};
-ghost use Rattle.tables.specs.Tables.{decls-of, first-of};
-ghost use Rattle.kept.specs.Kept.{field-type, body-kind};
+ghost use Rattle.tables.specs.Tables.{decls-of, first-of, lines-in};
+ghost use Rattle.kept.specs.Kept.{body-kind};
 ghost use Rattle.states.specs.States.{state};
 ghost use Rattle.lefts.specs.Lefts.{Ready};
 ghost use Rattle.left_types.specs.Sums.{Told, Added, Tells};
@@ -19,7 +19,6 @@ use lefts::Count;
 
 // The A and Y lines of Y line y's type in declaration d, added.
 pub fn count_type(
-    s: &[u8],
     t: &[u32],
     u: &[u16],
     f: &[u64],
@@ -28,10 +27,10 @@ pub fn count_type(
     d: usize,
     c: Count,
 ) -> Count
-    requires { ⌜ Told (now s) (now t) (now u) (now f) d y × (c .args ≤ 1000000000) × (c .types ≤ 1000000000) ⌝ }
-    ensures { λ r. ⌜ Added (lines 6 (now (s .entry))) d (y ∷ []) 0 (length (now (scratch .entry))) c r ⌝ }
+    requires { ⌜ Told (lines-in (now t)) (now t) (now u) (now f) d y × (c .args ≤ 1000000000) × (c .types ≤ 1000000000) ⌝ }
+    ensures { λ r. ⌜ Added (lines-in (now (t .entry))) d (y ∷ []) 0 (length (now (scratch .entry))) c r ⌝ }
 {
-    let n = forms::emit(s, t, u, f, y, d, false, scratch, 0);
+    let n = forms::emit(t, u, f, y, d, false, scratch, 0);
     if n > scratch.len() {
         return Count {
             room: false,
@@ -64,7 +63,6 @@ pub fn add_lines(c: Count, n: usize) -> Count
 
 // F line i of declaration d, if it is kept: its type, and the line.
 fn count_field(
-    s: &[u8],
     t: &[u32],
     u: &[u16],
     f: &[u64],
@@ -74,14 +72,14 @@ fn count_field(
     d: usize,
     c: Count,
 ) -> Count
-    requires { ⌜ (i < length (now keep)) × (getD (now keep) i 0 ≡ 1 → Tells (now s) (now t) (now u) (now f) d i) × (c .room ≡ true) × (c .args ≤ 1000000000) × (c .types ≤ 1000000000) × (c .lines ≤ 900000000) ⌝ }
-    ensures { λ r. ⌜ One (lines 6 (now (s .entry))) (now (keep .entry)) d i (length (now (scratch .entry))) c r ⌝ }
+    requires { ⌜ (i < length (now keep)) × (getD (now keep) i 0 ≡ 1 → Tells (lines-in (now t)) (now t) (now u) (now f) d i) × (c .room ≡ true) × (c .args ≤ 1000000000) × (c .types ≤ 1000000000) × (c .lines ≤ 900000000) ⌝ }
+    ensures { λ r. ⌜ One (lines-in (now (t .entry))) (now (keep .entry)) d i (length (now (scratch .entry))) c r ⌝ }
 {
     if keep[i] != 1 {
         return c;
     }
-    let y = tables::field_number(s, t, i, 1) as usize;
-    let r = count_type(s, t, u, f, scratch, y, d, c);
+    let y = tables::field_number(t, i, 1) as usize;
+    let r = count_type(t, u, f, scratch, y, d, c);
     if !r.room {
         return r;
     }
@@ -90,7 +88,6 @@ fn count_field(
 
 // The kept fields of declaration d.
 pub fn count_fields(
-    s: &[u8],
     t: &[u32],
     u: &[u16],
     f: &[u64],
@@ -99,16 +96,16 @@ pub fn count_fields(
     d: usize,
     c: Count,
 ) -> Count
-    requires { ⌜ Ready (now s) (now t) (now u) (now f) (now keep) × (d < decls-of (lines 6 (now s))) × (count-of field-line (lines 6 (now s)) ≤ length (now keep)) ⌝ }
-    requires { ⌜ (state (now u) d ≡ 0 → ⊥) × (state (now u) d ≡ 1 → ⊥) × (2 ≤ body-kind (lines 6 (now s)) d) ⌝ }
+    requires { ⌜ Ready (lines-in (now t)) (now t) (now u) (now f) (now keep) × (d < decls-of (lines-in (now t))) × (count-of field-line (lines-in (now t)) ≤ length (now keep)) ⌝ }
+    requires { ⌜ (state (now u) d ≡ 0 → ⊥) × (state (now u) d ≡ 1 → ⊥) × (2 ≤ body-kind (lines-in (now t)) d) ⌝ }
     requires { ⌜ (c .room ≡ true) × (c .args ≤ 500000000) × (c .types ≤ 500000000) × (c .lines ≤ 800000000) ⌝ }
-    ensures { λ r. ⌜ Rest (lines 6 (now (s .entry))) (now (keep .entry)) d (first-of field-line (lines 6 (now (s .entry))) d) (first-of field-line (lines 6 (now (s .entry))) (d + 1)) (length (now (scratch .entry))) c r ⌝ }
+    ensures { λ r. ⌜ Rest (lines-in (now (t .entry))) (now (keep .entry)) d (first-of field-line (lines-in (now (t .entry))) d) (first-of field-line (lines-in (now (t .entry))) (d + 1)) (length (now (scratch .entry))) c r ⌝ }
 {
-    let end = tables::first_field(s, t, d + 1);
-    let mut i = tables::first_field(s, t, d);
+    let end = tables::first_field(t, d + 1);
+    let mut i = tables::first_field(t, d);
     let mut r = c;
     while i < end {
-        r = count_field(s, t, u, f, keep, scratch, i, d, r);
+        r = count_field(t, u, f, keep, scratch, i, d, r);
         if !r.room {
             return r;
         }

@@ -1,52 +1,30 @@
 -- What is left of a declaration, by its cells and lines. Assumes nothing.
-use mathlib.Core.Path.{_≡_, refl, ap, ap₂, sym, _∙_, subst}
+use mathlib.Core.Path.{_≡_, refl, ap, ap₂, sym, _∙_}
 use mathlib.Core.List.{List, [], _∷_, _++_, map, map-append, append-nil}
 use mathlib.Core.Bool.{Bool, true, false, _&&_, not}
-use mathlib.Core.Option.{Option, none, some}
-use Prim.Native.Nat.{ℕ, zero, suc, _+_, _-_, _≤_, _<_}
+use mathlib.Core.Option.{none, some}
+use Prim.Native.Nat.{ℕ, suc, _+_, _-_, _≤_, _<_}
 use native.Mathlib.Omega.{arith}
 use lib.Dec.{eqb}
-use lib.ListN.{length, getD, length-append, length-map}
-use borrow.Author.Tests.{eqb-true, eqb-false, eq-eqb, ne-eqb}
+use lib.ListN.{length, length-append, length-map}
+use borrow.Author.Tests.{eqb-true, eqb-false, ne-eqb}
 use Rattle.columns.specs.Column.{pick, _⇒_∥_}
-use Rattle.sheet.specs.Line.{Line, number}
-use Rattle.sheet.specs.Sheet.{lines}
+use Rattle.sheet.specs.Line.{Line}
 use Rattle.model.specs.Cty.{Cty, names-of-cty, cty-vars}
-use Rattle.model.specs.Decl.{
-  Field,
-  Ctor,
-  Body,
-  TAbstract,
-  TAbbrev,
-  TRecord,
-  TVariant,
-  Dtype,
-  CtorLayout,
-  close,
-  close-fields,
-  Layout,
-  L-erased,
-  L-newtype,
-  L-struct,
-  L-abbrev,
-  L-opaque,
-  Decl,
-  dtype-at,
-  member,
-}
+use Rattle.model.specs.Decl.{Field, Ctor, Body, TAbstract, TAbbrev, TRecord, TVariant, Dtype, CtorLayout, close, close-fields, Layout, L-erased, L-newtype, L-struct, L-abbrev, L-opaque, Decl, dtype-at, member}
 use Rattle.model.specs.Resolve.{resolve}
 use Rattle.model.specs.Run.{with-body, all-in, collapsed-abbrev, resolved-field, resolved-ctor, struct-body, rw-decl, lay, layout-of-decl, left-at}
 use Rattle.meaning.specs.Program.{ctor-line, field-line, dtype-of, trees, program}
-use Rattle.meaning.specs.Output.{Written, Lines, emit, last, field-lines, ctor-lines, decl-frame, decl-lines}
+use Rattle.meaning.specs.Output.{Written, emit, last, field-lines, ctor-lines, decl-frame, decl-lines}
 use Rattle.meaning.specs.Laws.Program.{body-number, body-of-number, close-number}
 use Rattle.meaning.specs.Laws.Output.{types-of-fields, types-of-ctors, types-of-body}
-use Rattle.refusals.specs.Rows.{Passed}
-use Rattle.tables.specs.Tables.{head-line, group, decls-of, first-of}
+use Rattle.declared.specs.Passed.{Passed}
+use Rattle.tables.specs.Tables.{group, decls-of, first-of}
 use Rattle.declared.specs.DeclLaws.{dtype-is, whole-at}
 use Rattle.kids.specs.Nodes.{type-of}
 use Rattle.arguments.specs.Params.{params-of}
 use Rattle.keeps.specs.Keeps.{Slotted}
-use Rattle.kept.specs.Kept.{ctors-at, kept-ctor, body-kind, body-last, fields-by, ctors-by, ctors-kept}
+use Rattle.kept.specs.Kept.{ctors-at, kept-ctor, body-kind, body-last, fields-by, ctors-by}
 use Rattle.kept.specs.KeptLaws.{kept-record, kept-variant, ctors-are, length-ctors-by}
 use Rattle.states.specs.States.{state, body-of, Shape, kept-types, resolves-of, Settled}
 use Rattle.states.specs.StatesLaws.{types-of-kept}
@@ -145,10 +123,7 @@ length-decl D (TRecord fs) w = length-frame D 2 (length fs) (field-lines fs w .l
 length-decl D (TVariant cs) w = length-frame D 3 (length cs) (ctor-lines cs w .lines) ∙ ap (λ (n : ℕ). 2 + length (D .dt-params) + n) (length-ctors cs w)
 
 -- ---- a declaration
-module _ (b u keep : List ℕ) (passed : Passed b) (slotted : Slotted (lines 6 b) keep) (settled : Settled b u) (d : ℕ) (below : d < decls-of (lines 6 b)) where
-  abbrev ls : List Line
-  ls = lines 6 b
-
+module _ (ls : List Line) (u keep : List ℕ) (passed : Passed ls) (slotted : Slotted ls keep) (settled : Settled ls u) (d : ℕ) (below : d < decls-of ls) where
   abbrev ds : List Decl
   ds = program ls
 
@@ -159,7 +134,7 @@ module _ (b u keep : List ℕ) (passed : Passed b) (slotted : Slotted (lines 6 b
   unfolding close-fields dtype-of
   body-kind-is =
       rw (dtype-is ls d below)
-      (close-number _ _ ∙ body-of-number (trees ls) (body-kind ls d) (body-last ls d) (group ls d .rest) (whole-at b passed d below .kinds))
+      (close-number _ _ ∙ body-of-number (trees ls) (body-kind ls d) (body-last ls d) (group ls d .rest) (whole-at ls passed d below .kinds))
 
   -- the kept fields, resolved
   struct-left : state u d ≡ 3 → 2 ≤ body-kind ls d → (bd : Body) → body-number bd ≡ body-kind ls d → struct-body res bd (ctors-at ds d) ≡ left-body ls u keep d
@@ -167,9 +142,9 @@ module _ (b u keep : List ℕ) (passed : Passed b) (slotted : Slotted (lines 6 b
   struct-left x l TAbstract e = absurd (omega arith)
   struct-left x l (TAbbrev c) e = absurd (omega arith)
   struct-left x l (TRecord fs) e =
-      rw (x, ← e) (record-struct res fs (ctors-at ds d) _ (ctors-are b passed keep slotted d below ∙ kept-record ls keep d (sym e)))
+      rw (x, ← e) (record-struct res fs (ctors-at ds d) _ (ctors-are ls passed keep slotted d below ∙ kept-record ls keep d (sym e)))
   struct-left x l (TVariant cs) e =
-      rw (x, ← e) (ap TVariant (ctors-resolved res (ctors-at ds d) ∙ ap (map (left-ctor res)) (ctors-are b passed keep slotted d below ∙ kept-variant ls keep d (sym e))))
+      rw (x, ← e) (ap TVariant (ctors-resolved res (ctors-at ds d) ∙ ap (map (left-ctor res)) (ctors-are ls passed keep slotted d below ∙ kept-variant ls keep d (sym e))))
 
   opaque-left : (D : Dtype) → body-number (D .dt-body) ≡ 0 → D ≡ with-body D TAbstract
   unfolding body-number
@@ -218,14 +193,14 @@ module _ (b u keep : List ℕ) (passed : Passed b) (slotted : Slotted (lines 6 b
       go false false e1 true e2 k3 e3 true e0 = absurd (omega (arith, eqb-true (body-kind ls d) 2 e2, eqb-true (body-kind ls d) 0 e0))
       go false false e1 true e2 k3 e3 false e0 =
           fields-resolved res (fields-by ls keep (params-of ls d) (first-of field-line ls d) (body-last ls d))
-          ∙ (ap (map res) (sym (one-ctor _) ∙ (ap types-of-ctors (sym (kept-record ls keep d (eqb-true (body-kind ls d) 2 e2))) ∙ types-of-kept b passed keep d below)) ∙ map-twice (λ y. close (params-of ls d) (type-of ls y)) res kept)
+          ∙ (ap (map res) (sym (one-ctor _) ∙ (ap types-of-ctors (sym (kept-record ls keep d (eqb-true (body-kind ls d) 2 e2))) ∙ types-of-kept ls passed keep d below)) ∙ map-twice (λ y. close (params-of ls d) (type-of ls y)) res kept)
       go false false e1 false e2 true e3 true e0 = absurd (omega (arith, eqb-true (body-kind ls d) 3 e3, eqb-true (body-kind ls d) 0 e0))
       go false false e1 false e2 true e3 false e0 =
           types-resolved res (ctors-by ls keep (params-of ls d) (first-of ctor-line ls d) (first-of field-line ls d) (body-last ls d))
-          ∙ (ap (map res) (ap types-of-ctors (sym (kept-variant ls keep d (eqb-true (body-kind ls d) 3 e3))) ∙ types-of-kept b passed keep d below) ∙ map-twice (λ y. close (params-of ls d) (type-of ls y)) res kept)
+          ∙ (ap (map res) (ap types-of-ctors (sym (kept-variant ls keep d (eqb-true (body-kind ls d) 3 e3))) ∙ types-of-kept ls passed keep d below) ∙ map-twice (λ y. close (params-of ls d) (type-of ls y)) res kept)
       go false false e1 false e2 false e3 true e0 = refl
       go false false e1 false e2 false e3 false e0 =
-          absurd (omega (arith, whole-at b passed d below .kinds, eqb-false (body-kind ls d) 0 e0, eqb-false (body-kind ls d) 1 e1, eqb-false (body-kind ls d) 2 e2, eqb-false (body-kind ls d) 3 e3))
+          absurd (omega (arith, whole-at ls passed d below .kinds, eqb-false (body-kind ls d) 0 e0, eqb-false (body-kind ls d) 1 e1, eqb-false (body-kind ls d) 2 e2, eqb-false (body-kind ls d) 3 e3))
 
   -- its lines, by its cells
   pub lines-newtype : state u d ≡ 1 → body-lines (left-body ls u keep d) ≡ 0

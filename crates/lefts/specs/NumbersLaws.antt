@@ -2,38 +2,32 @@
 use mathlib.Core.Path.{_≡_, ap₂, sym, _∙_}
 use mathlib.Core.List.{List, [], map}
 use mathlib.Core.Bool.{true, false, _&&_}
-use Prim.Native.Nat.{ℕ, _^_, _<_}
+use Prim.Native.Nat.{ℕ, _<_}
 use native.Mathlib.Omega.{arith}
 use lib.Dec.{leb}
 use borrow.Author.Tests.{eqb-true, leb-true, not-false}
-use Rattle.sheet.specs.Line.{Line, bad, letter, number, isBad}
-use Rattle.sheet.specs.LineLaws.{Fits}
-use Rattle.sheet.specs.Sheet.{count, line, lines, row2}
-use Rattle.sheet.specs.SheetLaws.{length-lines, fit-lines}
-use Rattle.sheet.specs.FirstLaws.{first-before, none-first}
-use Rattle.sheet.specs.ListLaws.{Every, every-at, at-every, both}
-use Rattle.meaning.specs.Program.{name-line, arg-line, type-line, is, select, trees}
+use Rattle.sheet.specs.Line.{Line, bad, letter, number}
+use Rattle.sheet.specs.FirstLaws.{first-before}
+use Rattle.sheet.specs.ListLaws.{Every, at-every, both}
+use Rattle.meaning.specs.Program.{name-line, arg-line, type-line, select, trees}
 use Rattle.meaning.specs.Rows.{line-at, count-of, zeros-from, is-width, good-type, good-numbers, row5}
-use Rattle.meaning.specs.Laws.Output.{every-select, number-fits}
 use Rattle.meaning.specs.Laws.Numbers.{Signed, getD-numbers, trees-after-numbers}
-use Rattle.refusals.specs.Rows.{Passed}
-use Rattle.tables.specs.Tables.{nth}
+use Rattle.declared.specs.Passed.{Passed}
 use Rattle.kids.specs.Nodes.{y-line, kind-of, type-of}
 use Rattle.kids.specs.NodesLaws.{Lettered, lettered}
 use Rattle.normal_forms.specs.HeldLaws.{Sign, Own, Held}
+use lib.ListN.{length}
+use Rattle.declared.specs.PassedLaws.{nth-small}
 
 -- ---- the types of a sheet
-module _ (b : List ℕ) (passed : Passed b) where
-  abbrev ls : List Line
-  ls = lines 6 b
-
+module _ (ls : List Line) (passed : Passed ls) where
   -- row 5: a sign is 0 or 1
   sign-small : (y : ℕ) → y < count-of type-line ls → kind-of ls y ≡ 4 → number (y-line ls y) 1 < 1024
   unfolding good-numbers row5 good-type
   sign-small y h k =
       let r : Lettered type-line ls y = lettered type-line ls y h in
       let i : ℕ = r .spot in
-      let q : row5 ls i ≡ false = first-before (row5 ls) (count 6 b) i (omega (arith, passed .in-range, length-lines 6 b, r .within)) in
+      let q : row5 ls i ≡ false = first-before (row5 ls) (length ls) i (omega (arith, passed .in-range, r .within)) in
       let e : letter (line-at ls i) ≡ type-line = eqb-true (letter (line-at ls i)) type-line (r .lettered) in
       let g : good-numbers ls i ≡ true = not-false (good-numbers ls i) q in
       let l : Line = y-line ls y in
@@ -43,16 +37,9 @@ module _ (b : List ℕ) (passed : Passed b) where
       omega (arith, leb-true (number l 1) 1 (both (leb (number l 1) 1) (is-width (number l 2)) (both (leb (number l 1) 1 && is-width (number l 2)) (zeros-from 3 l) v .0) .0))
 
   lines-small : Every (Signed Sign Own) (select type-line ls)
-  unfolding row2
   lines-small =
       at-every (Signed Sign Own) bad (select type-line ls)
-      (λ y h. record { numbers = λ k. less (number (y-line ls y) k) (number-fits 6 (omega arith) (nth type-line ls y) k (every-at (Fits 6) bad (select type-line ls) fits y h)); sign = sign-small y h })
-    where
-      fits : Every (Fits 6) (select type-line ls)
-      fits = every-select (Fits 6) type-line ls (fit-lines 6 b (none-first (λ i. isBad (line 6 b i)) (count 6 b) (passed .no-bad)))
-
-      less : (n : ℕ) → n < 10 ^ 6 → n < 4294967296
-      less n h = omega arith
+      (λ y h. record { numbers = λ k. omega (arith, nth-small ls passed type-line y k h); sign = sign-small y h })
 
   pub types-held : (y : ℕ) → Held (type-of ls y)
   unfolding trees

@@ -6,39 +6,32 @@ use mathlib.Core.Bool.{Bool, true, false}
 use Prim.Native.Nat.{ℕ, zero, suc, _+_, _-_, _*_, _≤_, _<_}
 use native.Mathlib.Omega.{arith}
 use lib.Dec.{eqb}
-use lib.ListN.{length, getD, length-map}
-use borrow.Author.Tests.{eqb-true, eq-eqb, ne-eqb, le-ltb}
+use lib.ListN.{length, length-map}
+use borrow.Author.Tests.{eqb-true, eq-eqb, ne-eqb}
 use Rattle.columns.specs.Column.{pick}
 use Rattle.sheet.specs.Format.{base}
-use Rattle.sheet.specs.FormatLaws.{base-ample}
 use Rattle.sheet.specs.Line.{Line}
-use Rattle.sheet.specs.Sheet.{lines}
 use Rattle.sheet.specs.ListLaws.{Every, every-mem}
 use Rattle.model.specs.Cty.{Cty, size}
 use Rattle.model.specs.Decl.{close, Decl, position, Layout, L-erased, L-newtype, L-struct, L-abbrev, L-opaque}
-use Rattle.model.specs.Resolve.{Unfold, gone, newtype, abbreviation, stays, resolve}
+use Rattle.model.specs.Resolve.{Unfold, gone, newtype, abbreviation, stays}
 use Rattle.model.specs.Run.{lay, layout-of-decl, resolves}
 use Rattle.model_laws.specs.Resolve.{Resolved}
 use Rattle.meaning.specs.Program.{program, type-line, param-line}
 use Rattle.meaning.specs.Rows.{count-of}
 use Rattle.meaning.specs.Laws.Program.{length-program}
 use Rattle.locality.specs.Laws.Fuel.{rank-of, ranked}
-use Rattle.answer.specs.Answer.{input-rows, input-refusal, output-rows, rows, refusal, left-sheet, answered, answer, Passes}
-use Rattle.answer.specs.declared.Refusal.{Refusal}
-use Rattle.answer.specs.declared.Refusal.the-variants.{Accepted}
-use Rattle.answer.specs.Laws.Answer.{clear-accepted, or-later, refusal-append, accepted-passes}
-use Rattle.answer.specs.Laws.Left.{pass-no-return, pass-resolved}
 use Rattle.limits.specs.Limits.{start}
-use Rattle.refusals.specs.Rows.{Passed}
-use Rattle.tables.specs.Tables.{decls-of, first-of, Tabled}
+use Rattle.declared.specs.Passed.{Passed}
+use Rattle.tables.specs.Tables.{decls-of, first-of}
 use Rattle.kids.specs.Nodes.{type-of}
 use Rattle.arguments.specs.Params.{params-of, params-from}
 use Rattle.arguments.specs.ParamsLaws.{count-before-le, params-few}
 use Rattle.keeps.specs.Keeps.{Slotted}
-use Rattle.kept.specs.Kept.{body-kind, body-last}
+use Rattle.kept.specs.Kept.{body-kind}
 use Rattle.states.specs.States.{state, body-of, unfold-at, lay-of, Open, closed, Shape, resolves-of, Settled}
 use Rattle.states.specs.StatesLaws.{resolves-are, resolves-below}
-use Rattle.normal.specs.Nodes.{Node, post}
+use Rattle.normal.specs.Nodes.{post}
 use Rattle.normal.specs.NodesLaws.{length-post}
 use Rattle.normal.specs.Forms.{place, renamed}
 use Rattle.nodes.specs.Words.{word, node-of}
@@ -49,26 +42,7 @@ use Rattle.normal_forms.specs.LeftLaws.{held, Told, Answered, AnsweredOf, left-
 use Rattle.normal_forms.specs.HeldLaws.{Sign, Own, Held, post-held, renamed-kept}
 use Rattle.lefts.specs.Lefts.{Ready, left-type}
 use Rattle.lefts.specs.NumbersLaws.{types-held}
-
--- ---- an accepted sheet
-module _ (b : List ℕ) (accepted : input-refusal base b ≡ Accepted) where
-  -- outputs that are long enough
-  abbrev pub room-verdict : ℕ
-  room-verdict = length b
-
-  abbrev pub room-left : ℕ
-  room-left = length (left-sheet base (lines 6 b))
-
-  outputs-long : refusal (output-rows base b room-verdict room-left) ≡ Accepted
-  unfolding output-rows
-  outputs-long = clear-accepted (output-rows base b room-verdict room-left) ((λ i h. le-ltb room-verdict room-verdict (omega arith)), ((λ i h. le-ltb room-left room-left (omega arith)), tt))
-
-  pub accepted-all : Passes base b room-verdict room-left
-  unfolding answer answered
-  accepted-all =
-      accepted-passes base b room-verdict room-left
-      (ap (λ (r : Refusal). answered base b r .code)
-      (refusal-append (input-rows base b) (output-rows base b room-verdict room-left) ∙ (ap (λ (r : Refusal). or-later r (refusal (output-rows base b room-verdict room-left))) accepted ∙ outputs-long)))
+use Rattle.head_rows.specs.HeadRows.{Resolvable}
 
 -- ---- what becomes of a name, by cases
 pub unfold-cases : (P : Unfold → Type 0) (ls : List Line) (u : List ℕ) (d : ℕ) → (state u d ≡ 0 → P gone) → (state u d ≡ 1 → P (newtype (params-of ls d) (type-of ls (body-of u d))))
@@ -110,18 +84,15 @@ length-params ls p zero = refl
 length-params ls p (suc n) = ap suc (length-params ls (suc p) n)
 
 -- what declarations resolve, by their Y lines
-pub record Listed (b u keep : List ℕ) : Type 0 where
-  pub are : (d : ℕ) → d < decls-of (lines 6 b) → map (λ y. close (params-of (lines 6 b) d) (type-of (lines 6 b) y)) (resolves-of (lines 6 b) u keep d) ≡ resolves (layout-of-decl (program (lines 6 b)) d)
-  pub below : (d y : ℕ) → d < decls-of (lines 6 b) → List·Memᴰ y (resolves-of (lines 6 b) u keep d) → y < count-of type-line (lines 6 b)
+pub record Listed (ls : List Line) (u keep : List ℕ) : Type 0 where
+  pub are : (d : ℕ) → d < decls-of ls → map (λ y. close (params-of ls d) (type-of ls y)) (resolves-of ls u keep d) ≡ resolves (layout-of-decl (program ls) d)
+  pub below : (d y : ℕ) → d < decls-of ls → List·Memᴰ y (resolves-of ls u keep d) → y < count-of type-line ls
 
-pub listed-of : (b u keep : List ℕ) → Passed b → Slotted (lines 6 b) keep → Settled b u → Listed b u keep
-listed-of b u keep p k s = record { are = resolves-are b p u keep k s; below = λ d y h m. resolves-below b p u keep s d h y m }
+pub listed-of : (ls : List Line) (u keep : List ℕ) → Passed ls → Slotted ls keep → Settled ls u → Listed ls u keep
+listed-of ls u keep p k s = record { are = resolves-are ls p u keep k s; below = λ d y h m. resolves-below ls p u keep s d h y m }
 
 -- ---- what is accepted resolves
-module _ (b u keep : List ℕ) (passed : Passed b) (settled : Settled b u) (accepted : input-refusal base b ≡ Accepted) (listed : Listed b u keep) where
-  abbrev ls : List Line
-  ls = lines 6 b
-
+module _ (ls : List Line) (u keep : List ℕ) (passed : Passed ls) (settled : Settled ls u) (resolvable : Resolvable base ls) (listed : Listed ls u keep) where
   abbrev ds : List Decl
   ds = program ls
 
@@ -133,7 +104,7 @@ module _ (b u keep : List ℕ) (passed : Passed b) (settled : Settled b u) (acce
       every-mem (λ z. Resolved 1024 (lay ds) 100 (body-type d z)) (resolves-of ls u keep d)
       (unmap (Resolved 1024 (lay ds) 100) (λ z. body-type d z) (resolves-of ls u keep d)
       (subst (Every (Resolved 1024 (lay ds) 100)) (sym (listed .are d h))
-      (pass-resolved base b (room-verdict b accepted) (room-left b accepted) base-ample (accepted-all b accepted) d (omega (arith, length-program ls)))))
+      (resolvable .resolved d (omega (arith, length-program ls)))))
       y m
 
   -- the body of an unfolded declaration is among what it resolves
@@ -164,86 +135,86 @@ module _ (b u keep : List ℕ) (passed : Passed b) (settled : Settled b u) (acce
   lay-held n =
       subst (UnfoldNumbers Sign Own) (sym (settled .names n))
       (unfold-cases (λ l. UnfoldNumbers Sign Own (closed l)) ls u (position ds n) (λ e. tt)
-      (λ e. close-numbers Sign Own (params-of ls (position ds n)) (type-of ls (body-of u (position ds n))) (types-held b passed (body-of u (position ds n))))
-      (λ e. close-numbers Sign Own (params-of ls (position ds n)) (type-of ls (body-of u (position ds n))) (types-held b passed (body-of u (position ds n)))) tt)
+      (λ e. close-numbers Sign Own (params-of ls (position ds n)) (type-of ls (body-of u (position ds n))) (types-held ls passed (body-of u (position ds n))))
+      (λ e. close-numbers Sign Own (params-of ls (position ds n)) (type-of ls (body-of u (position ds n))) (types-held ls passed (body-of u (position ds n)))) tt)
 
   pub type-held : (d y : ℕ) → Held (left-type ls d y)
-  type-held d y = resolve-numbers Sign Own (lay ds) lay-held 100 (body-type d y) (close-numbers Sign Own (params-of ls d) (type-of ls y) (types-held b passed y))
+  type-held d y = resolve-numbers Sign Own (lay ds) lay-held 100 (body-type d y) (close-numbers Sign Own (params-of ls d) (type-of ls y) (types-held ls passed y))
 
   pub params-small : (d v : ℕ) → place (params-of ls d) v < 4294967296
-  params-small d v = omega (arith, place-le (params-of ls d) v, length-params ls (first-of param-line ls d) (first-of param-line ls (d + 1) - first-of param-line ls d), count-before-le param-line ls (start ls (d + 1)), params-few b passed)
+  params-small d v = omega (arith, place-le (params-of ls d) v, length-params ls (first-of param-line ls d) (first-of param-line ls (d + 1) - first-of param-line ls d), count-before-le param-line ls (start ls (d + 1)), params-few ls passed)
 
 -- ---- the words of what is left
-module _ (b t u f keep : List ℕ) (ready : Ready b t u f keep) where
-  abbrev listed : Listed b u keep
-  listed = listed-of b u keep (ready .tabled .passed) (ready .slotted) (ready .settled)
+module _ (ls : List Line) (t u f keep : List ℕ) (ready : Ready ls t u f keep) where
+  abbrev listed : Listed ls u keep
+  listed = listed-of ls u keep (ready .tabled .passed) (ready .slotted) (ready .settled)
 
-  abbrev passed′ : Passed b
+  abbrev passed′ : Passed ls
   passed′ = ready .tabled .passed
 
-  states-few : length u ≤ 2 * decls-of (lines 6 b)
+  states-few : length u ≤ 2 * decls-of ls
   states-few = omega (arith, ready .settled .long)
 
-  told : (n : ℕ) → Told (lay-of (lines 6 b) u n) (lay (program (lines 6 b)) n)
-  told n = subst (Told (lay-of (lines 6 b) u n)) (sym (ready .settled .names n)) (told-closed (lay-of (lines 6 b) u n))
+  told : (n : ℕ) → Told (lay-of ls u n) (lay (program ls) n)
+  told n = subst (Told (lay-of ls u n)) (sym (ready .settled .names n)) (told-closed (lay-of ls u n))
 
   form-kept : (d : ℕ) → Open u d
-      → held (post (renamed (place (params-of (lines 6 b) d)) (left-type (lines 6 b) d (body-of u d)))) ≡ post (renamed (place (params-of (lines 6 b) d)) (left-type (lines 6 b) d (body-of u d)))
+      → held (post (renamed (place (params-of ls d)) (left-type ls d (body-of u d)))) ≡ post (renamed (place (params-of ls d)) (left-type ls d (body-of u d)))
   form-kept d o =
-      renamed-kept (place (params-of (lines 6 b) d)) (params-small b u keep passed′ (ready .settled) (ready .accepted) listed d) (left-type (lines 6 b) d (body-of u d))
-      (type-held b u keep passed′ (ready .settled) (ready .accepted) listed d (body-of u d)) (body-resolved b u keep passed′ (ready .settled) (ready .accepted) listed d o .small)
+      renamed-kept (place (params-of ls d)) (params-small ls u keep passed′ (ready .settled) (ready .resolvable) listed d) (left-type ls d (body-of u d))
+      (type-held ls u keep passed′ (ready .settled) (ready .resolvable) listed d (body-of u d)) (body-resolved ls u keep passed′ (ready .settled) (ready .resolvable) listed d o .small)
 
   answered-body : (d : ℕ) → Open u d
-      → Answered 1024 b u f (ready .place) states-few (ready .forms) told (params-of (lines 6 b) d) (close (params-of (lines 6 b) d) (type-of (lines 6 b) (body-of u d)))
+      → Answered 1024 ls u f (ready .place) states-few (ready .forms) told (params-of ls d) (close (params-of ls d) (type-of ls (body-of u d)))
   answered-body d o =
       record {
         fuel = 100;
-        type = left-type (lines 6 b) d (body-of u d);
-        answers = body-resolved b u keep passed′ (ready .settled) (ready .accepted) listed d o .answers;
+        type = left-type ls d (body-of u d);
+        answers = body-resolved ls u keep passed′ (ready .settled) (ready .resolvable) listed d o .answers;
         kept = form-kept d o;
       }
 
-  answers : (n : ℕ) → AnsweredOf 1024 b u f (ready .place) states-few (ready .forms) told (lay (program (lines 6 b)) n)
+  answers : (n : ℕ) → AnsweredOf 1024 ls u f (ready .place) states-few (ready .forms) told (lay (program ls) n)
   unfolding closed
   answers n =
-      subst (λ (l : Unfold). AnsweredOf 1024 b u f (ready .place) states-few (ready .forms) told l) (sym (ready .settled .names n))
-      (unfold-cases (λ l. AnsweredOf 1024 b u f (ready .place) states-few (ready .forms) told (closed l)) (lines 6 b) u (position (program (lines 6 b)) n) (λ e. tt)
-      (λ e. answered-body (position (program (lines 6 b)) n) (omega arith, omega arith)) (λ e. answered-body (position (program (lines 6 b)) n) (omega arith, omega arith)) tt)
+      subst (λ (l : Unfold). AnsweredOf 1024 ls u f (ready .place) states-few (ready .forms) told l) (sym (ready .settled .names n))
+      (unfold-cases (λ l. AnsweredOf 1024 ls u f (ready .place) states-few (ready .forms) told (closed l)) ls u (position (program ls) n) (λ e. tt)
+      (λ e. answered-body (position (program ls) n) (omega arith, omega arith)) (λ e. answered-body (position (program ls) n) (omega arith, omega arith)) tt)
 
   -- the normal form of an unfolded declaration
-  pub ready-form : (d : ℕ) → Open u d → form-words f d ≡ map word (post (renamed (place (params-of (lines 6 b) d)) (left-type (lines 6 b) d (body-of u d))))
+  pub ready-form : (d : ℕ) → Open u d → form-words f d ≡ map word (post (renamed (place (params-of ls d)) (left-type ls d (body-of u d))))
   ready-form d o =
-      ready .forms .right d (open-below b u keep passed′ (ready .settled) (ready .accepted) listed d o, o)
-      ∙ place-words 1024 b u f (ready .place) states-few (ready .forms) told
-      (rank-of (program (lines 6 b)) (pass-no-return base b (room-verdict b (ready .accepted)) (room-left b (ready .accepted)) base-ample (accepted-all b (ready .accepted))))
-      (ranked (program (lines 6 b)) (pass-no-return base b (room-verdict b (ready .accepted)) (room-left b (ready .accepted)) base-ample (accepted-all b (ready .accepted))))
-      answers d (body-of u d) 100 (left-type (lines 6 b) d (body-of u d)) (body-resolved b u keep passed′ (ready .settled) (ready .accepted) listed d o .answers)
+      ready .forms .right d (open-below ls u keep passed′ (ready .settled) (ready .resolvable) listed d o, o)
+      ∙ place-words 1024 ls u f (ready .place) states-few (ready .forms) told
+      (rank-of (program ls) (ready .resolvable .no-return))
+      (ranked (program ls) (ready .resolvable .no-return))
+      answers d (body-of u d) 100 (left-type ls d (body-of u d)) (body-resolved ls u keep passed′ (ready .settled) (ready .resolvable) listed d o .answers)
 
-  pub ready-form-nodes : (d : ℕ) → Open u d → map node-of (form-words f d) ≡ post (renamed (place (params-of (lines 6 b) d)) (left-type (lines 6 b) d (body-of u d)))
+  pub ready-form-nodes : (d : ℕ) → Open u d → map node-of (form-words f d) ≡ post (renamed (place (params-of ls d)) (left-type ls d (body-of u d)))
   unfolding held
   ready-form-nodes d o = ap (map node-of) (ready-form d o) ∙ form-kept d o
 
-  module _ (d y : ℕ) (h : d < decls-of (lines 6 b)) (m : List·Memᴰ y (resolves-of (lines 6 b) u keep d)) where
-    pub ready-words : words (lines 6 b) u f d false y ≡ map word (post (left-type (lines 6 b) d y))
+  module _ (d y : ℕ) (h : d < decls-of ls) (m : List·Memᴰ y (resolves-of ls u keep d)) where
+    pub ready-words : words ls u f d false y ≡ map word (post (left-type ls d y))
     ready-words =
-        left-words 1024 b u f (ready .place) states-few (ready .forms) told
-        (rank-of (program (lines 6 b)) (pass-no-return base b (room-verdict b (ready .accepted)) (room-left b (ready .accepted)) base-ample (accepted-all b (ready .accepted))))
-        (ranked (program (lines 6 b)) (pass-no-return base b (room-verdict b (ready .accepted)) (room-left b (ready .accepted)) base-ample (accepted-all b (ready .accepted))))
-        answers d y 100 (left-type (lines 6 b) d y) (type-resolved b u keep passed′ (ready .settled) (ready .accepted) listed d y h m .answers)
+        left-words 1024 ls u f (ready .place) states-few (ready .forms) told
+        (rank-of (program ls) (ready .resolvable .no-return))
+        (ranked (program ls) (ready .resolvable .no-return))
+        answers d y 100 (left-type ls d y) (type-resolved ls u keep passed′ (ready .settled) (ready .resolvable) listed d y h m .answers)
 
-    pub ready-size : size (left-type (lines 6 b) d y) ≤ 1024
-    ready-size = type-resolved b u keep passed′ (ready .settled) (ready .accepted) listed d y h m .small
+    pub ready-size : size (left-type ls d y) ≤ 1024
+    ready-size = type-resolved ls u keep passed′ (ready .settled) (ready .resolvable) listed d y h m .small
 
-    pub ready-nodes : map node-of (words (lines 6 b) u f d false y) ≡ post (left-type (lines 6 b) d y)
+    pub ready-nodes : map node-of (words ls u f d false y) ≡ post (left-type ls d y)
     unfolding held
     ready-nodes =
         ap (map node-of) ready-words
-        ∙ post-held (left-type (lines 6 b) d y) (type-held b u keep passed′ (ready .settled) (ready .accepted) listed d y) ready-size
+        ∙ post-held (left-type ls d y) (type-held ls u keep passed′ (ready .settled) (ready .resolvable) listed d y) ready-size
 
-    pub ready-length : length (words (lines 6 b) u f d false y) ≡ size (left-type (lines 6 b) d y)
-    ready-length = ap length ready-words ∙ (length-map (post (left-type (lines 6 b) d y)) word ∙ length-post (left-type (lines 6 b) d y))
+    pub ready-length : length (words ls u f d false y) ≡ size (left-type ls d y)
+    ready-length = ap length ready-words ∙ (length-map (post (left-type ls d y)) word ∙ length-post (left-type ls d y))
 
-    pub ready-asked : Asked b t u f y d
+    pub ready-asked : Asked ls t u f y d
     ready-asked =
         record {
           tabled = ready .tabled;

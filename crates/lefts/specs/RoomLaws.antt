@@ -1,33 +1,30 @@
 -- There is room for the normal forms of an accepted sheet: each has at most 1,024 nodes. Assumes nothing.
-use mathlib.Core.Logic.{_⊎_, inl, inr, ⊎-elim}
+use mathlib.Core.Logic.{_⊎_, ⊎-elim}
 use mathlib.Core.Path.{_≡_, refl, ap, sym, _∙_, subst}
 use mathlib.Core.List.{List, map}
 use mathlib.Core.Bool.{Bool, true, false}
 use Prim.Native.Nat.{ℕ, zero, suc, _+_, _*_, _≤_, _<_}
 use native.Mathlib.Omega.{arith}
 use lib.Dec.{eqb, ltb}
-use lib.ListN.{length, getD, take, drop, length-map, length-take, length-drop}
+use lib.ListN.{length, getD, drop, length-map, length-drop}
 use lib.Seq.{length-take-le}
 use borrow.Author.Tests.{eqb-true, eqb-false, ltb-true, ltb-false}
 use Rattle.sheet.specs.Format.{base}
 use Rattle.sheet.specs.Line.{Line}
-use Rattle.sheet.specs.Sheet.{lines}
-use Rattle.model.specs.Cty.{Cty, size}
+use Rattle.model.specs.Cty.{Cty}
 use Rattle.model.specs.Decl.{close, Decl, position}
-use Rattle.model.specs.Resolve.{Unfold, gone, newtype, abbreviation, stays}
+use Rattle.model.specs.Resolve.{Unfold}
 use Rattle.model.specs.Run.{lay}
 use Rattle.model_laws.specs.Cty.{All, all-of, all-map}
 use Rattle.model_laws.specs.Resolve.{Unfolds}
 use Rattle.meaning.specs.Program.{program}
-use Rattle.answer.specs.Answer.{input-refusal}
-use Rattle.answer.specs.declared.Refusal.the-variants.{Accepted}
-use Rattle.refusals.specs.Rows.{Passed}
-use Rattle.tables.specs.Tables.{decls-of, Tabled}
+use Rattle.declared.specs.Passed.{Passed}
+use Rattle.tables.specs.Tables.{decls-of}
 use Rattle.kids.specs.Nodes.{type-of}
 use Rattle.arguments.specs.Params.{params-of}
 use Rattle.arguments.specs.ParamsLaws.{decls-few}
 use Rattle.keeps.specs.Keeps.{Slotted}
-use Rattle.states.specs.States.{state, body-of, unfold-at, lay-of, Open, closed, Settled}
+use Rattle.states.specs.States.{body-of, lay-of, Open, closed, Settled}
 use Rattle.normal.specs.Nodes.{Node, post}
 use Rattle.normal.specs.NodesLaws.{length-post}
 use Rattle.normal.specs.Forms.{place, renamed, nodes}
@@ -37,13 +34,14 @@ use Rattle.normal.specs.BoundLaws.{program-bound}
 use Rattle.nodes.specs.Words.{word, node-of}
 use Rattle.node_words.specs.Own.{label}
 use Rattle.form_words.specs.Emit.{words, form-words, form-of}
-use Rattle.normal_forms.specs.Tables.{own-words, counts, Names, Table}
-use Rattle.normal_forms.specs.Ranks as ranks
+use Rattle.normal_forms.specs.Tables.{own-words, counts, Table}
 use Rattle.normal_forms.specs.RanksLaws.{unfolds-open, names-done}
 use Rattle.normal_forms.specs.LeftLaws.{held, Told, told-alike}
 use Rattle.normal_forms.specs.HeldLaws.{renamed-kept, renamed-size}
 use Rattle.lefts.specs.Lefts.{Ready, left-type}
 use Rattle.lefts.specs.ReadyLaws.{unfold-cases, told-closed, Listed, listed-of, open-below, body-resolved, type-held, params-small}
+use Rattle.head_rows.specs.HeadRows.{Resolvable}
+use Rattle.normal_forms.specs.Ranks as ranks
 
 -- ---- counts
 -- at most 1,024 each, and one of them nothing
@@ -67,20 +65,17 @@ counts-but f d (suc n) h z l = go (counts-but f d n (λ e k. h e (omega arith)) 
     go ih false e = omega (arith, ih (other (eqb-false n d e)), h n (omega arith))
 
 -- ---- a table that is not whole
-module _ (b t u rank keep : List ℕ) (ranked : ranks.Ranked b t u rank) (settled : Settled b u) (accepted : input-refusal base b ≡ Accepted) (slotted : Slotted (lines 6 b) keep) where
-  abbrev ls : List Line
-  ls = lines 6 b
-
+module _ (ls : List Line) (t u rank keep : List ℕ) (ranked : ranks.Ranked ls t u rank) (settled : Settled ls u) (resolvable : Resolvable base ls) (slotted : Slotted ls keep) where
   abbrev ds : List Decl
   ds = program ls
 
-  abbrev passed : Passed b
+  abbrev passed : Passed ls
   passed = ranked .tabled .passed
 
-  abbrev listed : Listed b u keep
-  listed = listed-of b u keep passed slotted settled
+  abbrev listed : Listed ls u keep
+  listed = listed-of ls u keep passed slotted settled
 
-  module _ (f : List ℕ) (pos r i : ℕ) (table : Table b u f pos (ranks.Done b u rank r i)) where
+  module _ (f : List ℕ) (pos r i : ℕ) (table : Table ls u f pos (ranks.Done ls u rank r i)) where
     abbrev form : ℕ → List Node
     form = form-of ls f
 
@@ -95,13 +90,13 @@ module _ (b t u rank keep : List ℕ) (ranked : ranks.Ranked b t u rank) (settle
         (all-of (λ n. Alike (lay-of ls u n) (lay ds n) (form n) (form n))
         (λ n. told-alike (lay-of ls u n) (lay ds n) (form n) (subst (λ (l : Unfold). Told (lay-of ls u n) l) (sym (settled .names n)) (told-closed (lay-of ls u n)))) (type-of ls (body-of u d)))
         ∙ nodes-post 1024 (lay ds) (program-bound ls) (params-of ls d) (place (params-of ls d)) form 100 (type-of ls (body-of u d)) (left-type ls d (body-of u d)) g
-        (body-resolved b u keep passed settled accepted listed d o .answers)
+        (body-resolved ls u keep passed settled resolvable listed d o .answers)
 
-    form-made : (d : ℕ) → Open u d → ranks.Done b u rank r i d → All Good (type-of ls (body-of u d))
+    form-made : (d : ℕ) → Open u d → ranks.Done ls u rank r i d → All Good (type-of ls (body-of u d))
         → Form 1024 (lay ds) (program-bound ls) (params-of ls d) (close (params-of ls d) (type-of ls (body-of u d))) (map node-of (form-words f d))
     unfolding words label held
     form-made d o done g =
-        let v = body-resolved b u keep passed settled accepted listed d o in
+        let v = body-resolved ls u keep passed settled resolvable listed d o in
         record {
           fuel = 100;
           type = left-type ls d (body-of u d);
@@ -109,15 +104,15 @@ module _ (b t u rank keep : List ℕ) (ranked : ranks.Ranked b t u rank) (settle
           are =
               ap (map node-of) (table .right d done)
               ∙ (ap (λ (xs : List Node). map node-of (map word xs)) (body-nodes d o g)
-              ∙ renamed-kept (place (params-of ls d)) (params-small b u keep passed settled accepted listed d) (left-type ls d (body-of u d)) (type-held b u keep passed settled accepted listed d (body-of u d)) (v .small));
+              ∙ renamed-kept (place (params-of ls d)) (params-small ls u keep passed settled resolvable listed d) (left-type ls d (body-of u d)) (type-held ls u keep passed settled resolvable listed d (body-of u d)) (v .small));
         }
 
     -- an unfolded name of a lower rank than one that is done
-    lower-done : (d m : ℕ) → ranks.Done b u rank r i d → Open u m → getD rank m 0 < getD rank d 0 → ranks.Done b u rank r i m
-    lower-done d m v o h = (open-below b u keep passed settled accepted listed m o, o, omega (arith, v .2), λ e. absurd (omega (arith, v .2)))
+    lower-done : (d m : ℕ) → ranks.Done ls u rank r i d → Open u m → getD rank m 0 < getD rank d 0 → ranks.Done ls u rank r i m
+    lower-done d m v o h = (open-below ls u keep passed settled resolvable listed m o, o, omega (arith, v .2), λ e. absurd (omega (arith, v .2)))
 
     -- by rank
-    forms-good : (k n : ℕ) → (Unfolds (lay-of ls u n) → ranks.Done b u rank r i (position ds n)) → (Unfolds (lay-of ls u n) → getD rank (position ds n) 0 < k) → Good n
+    forms-good : (k n : ℕ) → (Unfolds (lay-of ls u n) → ranks.Done ls u rank r i (position ds n)) → (Unfolds (lay-of ls u n) → getD rank (position ds n) 0 < k) → Good n
     unfolding closed
     forms-good zero n p q =
         subst (λ (l : Unfold). Formed 1024 (lay ds) (program-bound ls) l (form n)) (sym (settled .names n))
@@ -127,11 +122,11 @@ module _ (b t u rank keep : List ℕ) (ranked : ranks.Ranked b t u rank) (settle
         none h = omega arith
     forms-good (suc k) n p q =
         subst (λ (l : Unfold). Formed 1024 (lay ds) (program-bound ls) l (form n)) (sym (settled .names n))
-        (unfold-cases (λ l. (Unfolds l → ranks.Done b u rank r i (position ds n)) → (Unfolds l → getD rank (position ds n) 0 < suc k) → Formed 1024 (lay ds) (program-bound ls) (closed l) (form n)) ls u (position ds n) (λ e v w. tt)
+        (unfold-cases (λ l. (Unfolds l → ranks.Done ls u rank r i (position ds n)) → (Unfolds l → getD rank (position ds n) 0 < suc k) → Formed 1024 (lay ds) (program-bound ls) (closed l) (form n)) ls u (position ds n) (λ e v w. tt)
         (λ e v w. one (omega arith, omega arith) (v tt) (w tt) (forms-good k)) (λ e v w. one (omega arith, omega arith) (v tt) (w tt) (forms-good k)) (λ v w. tt) p q)
       where
-        one : Open u (position ds n) → ranks.Done b u rank r i (position ds n) → getD rank (position ds n) 0 < suc k
-            → ((m : ℕ) → (Unfolds (lay-of ls u m) → ranks.Done b u rank r i (position ds m)) → (Unfolds (lay-of ls u m) → getD rank (position ds m) 0 < k) → Good m)
+        one : Open u (position ds n) → ranks.Done ls u rank r i (position ds n) → getD rank (position ds n) 0 < suc k
+            → ((m : ℕ) → (Unfolds (lay-of ls u m) → ranks.Done ls u rank r i (position ds m)) → (Unfolds (lay-of ls u m) → getD rank (position ds m) 0 < k) → Good m)
             → Form 1024 (lay ds) (program-bound ls) (params-of ls (position ds n)) (close (params-of ls (position ds n)) (type-of ls (body-of u (position ds n)))) (form n)
         one o v w ih =
             form-made (position ds n) o v
@@ -144,8 +139,8 @@ module _ (b t u rank keep : List ℕ) (ranked : ranks.Ranked b t u rank) (settle
     -- the names of a body at this rank or below
     names-good : (d : ℕ) → d < decls-of ls → Open u d → getD rank d 0 ≤ r → All Good (type-of ls (body-of u d))
     names-good d l o q =
-        all-map (λ m. Unfolds (lay-of ls u m) → ranks.Done b u rank r i (position ds m)) Good
-        (λ m x. forms-good (suc r) m x (λ y. few (getD rank (position ds m) 0) (x y .2))) (type-of ls (body-of u d)) (names-done b t u rank ranked r i d l o q)
+        all-map (λ m. Unfolds (lay-of ls u m) → ranks.Done ls u rank r i (position ds m)) Good
+        (λ m x. forms-good (suc r) m x (λ y. few (getD rank (position ds m) 0) (x y .2))) (type-of ls (body-of u d)) (names-done ls t u rank ranked r i d l o q)
       where
         few : (x : ℕ) → x ≤ r → x < suc r
         few x h = omega arith
@@ -155,34 +150,34 @@ module _ (b t u rank keep : List ℕ) (ranked : ranks.Ranked b t u rank) (settle
     own-few d l o q =
         let R : Cty = left-type ls d (body-of u d) in
         let e = ap length (body-nodes d o (names-good d l o q)) ∙ length-post (renamed (place (params-of ls d)) R) in
-        omega (arith, length-map (nodes (lay-of ls u) form (params-of ls d) (place (params-of ls d)) (type-of ls (body-of u d))) word, e, renamed-size (place (params-of ls d)) (params-small b u keep passed settled accepted listed d) R, body-resolved b u keep passed settled accepted listed d o .small)
+        omega (arith, length-map (nodes (lay-of ls u) form (params-of ls d) (place (params-of ls d)) (type-of ls (body-of u d))) word, e, renamed-size (place (params-of ls d)) (params-small ls u keep passed settled resolvable listed d) R, body-resolved ls u keep passed settled resolvable listed d o .small)
 
     -- and so each count
     count-few : (d : ℕ) → d < decls-of ls → getD f (2 * d + 1) 0 ≤ 1024
     count-few d l = ⊎-elim done (λ z. omega (arith, z)) (table .fresh d l)
       where
-        done : ranks.Done b u rank r i d → getD f (2 * d + 1) 0 ≤ 1024
+        done : ranks.Done ls u rank r i d → getD f (2 * d + 1) 0 ≤ 1024
         done h =
             let e : length (form-words f d) ≡ getD f (2 * d + 1) 0 = length-take-le (getD f (2 * d + 1) 0) (drop (getD f (2 * d) 0) f) (rw length-drop (omega (arith, table .cells d l, table .room))) in
             omega (arith, e, ap length (table .right d h), own-few d l (h .1) (h .2))
 
   -- 1,024 words for each form, and two cells
-  pub never-short : (sc room : ℕ) → 1024 ≤ sc → 98496 ≤ room → ranks.Short b u rank sc room → ⊥
+  pub never-short : (sc room : ℕ) → 1024 ≤ sc → 98496 ≤ room → ranks.Short ls u rank sc room → ⊥
   never-short sc room p q x =
       let k : length (own-words ls u (x .list) (x .decl)) ≤ 1024 = own-few (x .list) (x .place) (x .level) (x .decl) (x .table) (x .decl) (x .below) (x .unfolded) (omega (arith, x .of-level)) in
       let z : getD (x .list) (2 * x .decl + 1) 0 ≡ 0 = ⊎-elim (λ h. absurd (never (x .decl) (h .3 (x .of-level)))) (λ e. e) (x .table .fresh (x .decl) (x .below)) in
       ⊎-elim (λ h. omega arith)
-      (λ h. omega (arith, x .table .used, counts-but (x .list) (x .decl) (decls-of ls) (count-few (x .list) (x .place) (x .level) (x .decl) (x .table)) z (x .below), decls-few b passed))
+      (λ h. omega (arith, x .table .used, counts-but (x .list) (x .decl) (decls-of ls) (count-few (x .list) (x .place) (x .level) (x .decl) (x .table)) z (x .below), decls-few ls passed))
       (x .fits)
     where
       never : (d : ℕ) → d < d → ⊥
       never d h = omega arith
 
   -- so the forms are there
-  pub formed-ready : (f₀ f : List ℕ) (e : ℕ) → 98496 ≤ length f₀ → ranks.Formed b u rank 1024 f₀ f e → Ready b t u f keep
+  pub formed-ready : (f₀ f : List ℕ) (e : ℕ) → 98496 ≤ length f₀ → ranks.Formed ls u rank 1024 f₀ f e → Ready ls t u f keep
   formed-ready f₀ f e q x =
       let l : e ≤ length f₀ = within (ltb (length f₀) e) refl in
-      record { tabled = ranked .tabled; settled = settled; slotted = slotted; accepted = accepted; place = e; forms = x .table l }
+      record { tabled = ranked .tabled; settled = settled; slotted = slotted; resolvable = resolvable; place = e; forms = x .table l }
     where
       within : (c : Bool) → ltb (length f₀) e ≡ c → e ≤ length f₀
       within true y = absurd (never-short 1024 (length f₀) (omega arith) q (x .short (ltb-true (length f₀) e y)))

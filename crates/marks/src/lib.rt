@@ -5,7 +5,6 @@ ghost use mathlib.Core.Bool.{_&&_, not};
 ghost use Prim.Native.Nat.{_+_, _≤_, _<_};
 ghost use lib.Dec.{eqb};
 ghost use lib.ListN.{length, getD};
-ghost use Rattle.sheet.specs.Sheet as sheet;
 ghost use Rattle.model.specs.Erasure as model;
 ghost use Rattle.meaning.specs.Program as program;
 ghost use Rattle.meaning.specs.Rows as rows;
@@ -26,14 +25,14 @@ fn both(a: bool, b: bool) -> bool
 }
 
 // The first member of a list from member `from` on whose mark is 0, or the count of members.
-fn first_kept(s: &[u8], t: &[u32], node: &[u8], first: usize, count: usize, from: usize) -> usize
-    requires { ⌜ tables.Tabled (now s) (now t) ⌝ }
-    requires { ⌜ marks.Listed (sheet.lines 6 (now s)) (now node) first count × (from ≤ count) ⌝ }
-    ensures { λ r. ⌜ marks.Found (sheet.lines 6 (now (s .entry))) (now (node .entry)) first count from r ⌝ }
+fn first_kept(t: &[u32], node: &[u8], first: usize, count: usize, from: usize) -> usize
+    requires { ⌜ tables.Tabled (now t) ⌝ }
+    requires { ⌜ marks.Listed (tables.lines-in (now t)) (now node) first count × (from ≤ count) ⌝ }
+    ensures { λ r. ⌜ marks.Found (tables.lines-in (now (t .entry))) (now (node .entry)) first count from r ⌝ }
 {
     let mut j = from;
     while j < count {
-        let y = tables::arg(s, t, first + j);
+        let y = tables::arg(t, first + j);
         if node[y] == 0 {
             return j;
         }
@@ -43,26 +42,26 @@ fn first_kept(s: &[u8], t: &[u32], node: &[u8], first: usize, count: usize, from
 }
 
 // A tuple of erased members.
-fn tuple_erased(s: &[u8], t: &[u32], node: &[u8], member: &mut [u16], y: usize) -> bool
-    requires { ⌜ tables.Tabled (now s) (now t) ⌝ }
-    requires { ⌜ marks.Tuple (sheet.lines 6 (now s)) (now node) (now member) y ⌝ }
-    ensures { λ r. ⌜ marks.Tupled (sheet.lines 6 (now (s .entry))) (now (node .entry)) (now (member .entry)) (now (member .exit)) y r ⌝ }
+fn tuple_erased(t: &[u32], node: &[u8], member: &mut [u16], y: usize) -> bool
+    requires { ⌜ tables.Tabled (now t) ⌝ }
+    requires { ⌜ marks.Tuple (tables.lines-in (now t)) (now node) (now member) y ⌝ }
+    ensures { λ r. ⌜ marks.Tupled (tables.lines-in (now (t .entry))) (now (node .entry)) (now (member .entry)) (now (member .exit)) y r ⌝ }
 {
-    let first = tables::type_number(s, t, y, 1) as usize;
-    let count = tables::type_number(s, t, y, 2) as usize;
+    let first = tables::type_number(t, y, 1) as usize;
+    let count = tables::type_number(t, y, 2) as usize;
     let from = member[y] as usize;
-    let j = first_kept(s, t, node, first, count, from);
+    let j = first_kept(t, node, first, count, from);
     member[y] = j as u16;
     j == count
 }
 
 // A name is erased as its declaration is; a foreign one is not.
-fn name_erased(s: &[u8], t: &[u32], decl: &[u8], n: usize) -> bool
-    requires { ⌜ tables.Tabled (now s) (now t) ⌝ }
-    requires { ⌜ (n < rows.count-of program.name-line (sheet.lines 6 (now s))) × (length (now decl) ≡ tables.decls-of (sheet.lines 6 (now s))) ⌝ }
-    ensures { λ r. ⌜ r ≡ model.marked (program.program (sheet.lines 6 (now (s .entry)))) (marks.marks-of (now (decl .entry))) n ⌝ }
+fn name_erased(t: &[u32], decl: &[u8], n: usize) -> bool
+    requires { ⌜ tables.Tabled (now t) ⌝ }
+    requires { ⌜ (n < rows.count-of program.name-line (tables.lines-in (now t))) × (length (now decl) ≡ tables.decls-of (tables.lines-in (now t))) ⌝ }
+    ensures { λ r. ⌜ r ≡ model.marked (program.program (tables.lines-in (now (t .entry)))) (marks.marks-of (now (decl .entry))) n ⌝ }
 {
-    let d = tables::decl_of(s, t, n);
+    let d = tables::decl_of(t, n);
     if d < decl.len() {
         return decl[d] == 1;
     }
@@ -70,30 +69,30 @@ fn name_erased(s: &[u8], t: &[u32], decl: &[u8], n: usize) -> bool
 }
 
 // An arrow with a pure effect and an erased result; its argument is not looked at.
-fn arrow_erased(s: &[u8], t: &[u32], node: &[u8], y: usize) -> bool
-    requires { ⌜ tables.Tabled (now s) (now t) ⌝ }
-    requires { ⌜ (y < rows.count-of program.type-line (sheet.lines 6 (now s))) × (marks.part (sheet.lines 6 (now s)) y 3 < length (now node)) ⌝ }
-    ensures { λ r. ⌜ r ≡ (model.is-pure (marks.part (sheet.lines 6 (now (s .entry))) y 2) && eqb (getD (now (node .entry)) (marks.part (sheet.lines 6 (now (s .entry))) y 3) 0) 1) ⌝ }
+fn arrow_erased(t: &[u32], node: &[u8], y: usize) -> bool
+    requires { ⌜ tables.Tabled (now t) ⌝ }
+    requires { ⌜ (y < rows.count-of program.type-line (tables.lines-in (now t))) × (marks.part (tables.lines-in (now t)) y 3 < length (now node)) ⌝ }
+    ensures { λ r. ⌜ r ≡ (model.is-pure (marks.part (tables.lines-in (now (t .entry))) y 2) && eqb (getD (now (node .entry)) (marks.part (tables.lines-in (now (t .entry))) y 3) 0) 1) ⌝ }
 {
-    let effect = tables::type_number(s, t, y, 2);
-    let result = tables::type_number(s, t, y, 3) as usize;
+    let effect = tables::type_number(t, y, 2);
+    let result = tables::type_number(t, y, 3) as usize;
     both(effect != 2, node[result] == 1)
 }
 
 // Layout's `cty_erased` of type y, by the marks of lower types and of declarations.
-fn cty_erased(s: &[u8], t: &[u32], decl: &[u8], node: &[u8], member: &mut [u16], y: usize) -> bool
-    requires { ⌜ tables.Tabled (now s) (now t) ⌝ }
-    requires { ⌜ (y < rows.count-of program.type-line (sheet.lines 6 (now s))) × (length (now decl) ≡ tables.decls-of (sheet.lines 6 (now s))) ⌝ }
-    requires { ⌜ marks.Marks (sheet.lines 6 (now s)) (marks.marks-of (now decl)) (now node) (now member) y ⌝ }
-    ensures { λ r. ⌜ marks.Marked (sheet.lines 6 (now (s .entry))) (marks.marks-of (now (decl .entry))) (now (node .entry)) (now (member .exit)) y r ⌝ }
+fn cty_erased(t: &[u32], decl: &[u8], node: &[u8], member: &mut [u16], y: usize) -> bool
+    requires { ⌜ tables.Tabled (now t) ⌝ }
+    requires { ⌜ (y < rows.count-of program.type-line (tables.lines-in (now t))) × (length (now decl) ≡ tables.decls-of (tables.lines-in (now t))) ⌝ }
+    requires { ⌜ marks.Marks (tables.lines-in (now t)) (marks.marks-of (now decl)) (now node) (now member) y ⌝ }
+    ensures { λ r. ⌜ marks.Marked (tables.lines-in (now (t .entry))) (marks.marks-of (now (decl .entry))) (now (node .entry)) (now (member .exit)) y r ⌝ }
 {
-    let kind = tables::type_number(s, t, y, 0);
+    let kind = tables::type_number(t, y, 0);
     match kind {
         0 => true,
-        7 => arrow_erased(s, t, node, y),
-        8 => name_erased(s, t, decl, tables::type_number(s, t, y, 1) as usize),
-        9 => tuple_erased(s, t, node, member, y),
-        12 => node[tables::type_number(s, t, y, 1) as usize] == 1,
+        7 => arrow_erased(t, node, y),
+        8 => name_erased(t, decl, tables::type_number(t, y, 1) as usize),
+        9 => tuple_erased(t, node, member, y),
+        12 => node[tables::type_number(t, y, 1) as usize] == 1,
         1..=11 => false,
         _ => false,
     }
@@ -101,7 +100,6 @@ fn cty_erased(s: &[u8], t: &[u32], decl: &[u8], node: &[u8], member: &mut [u16],
 
 // Makes the marks of the types below `end` right, where those below `right` are.
 pub fn mark_types(
-    s: &[u8],
     t: &[u32],
     decl: &[u8],
     node: &mut [u8],
@@ -109,14 +107,14 @@ pub fn mark_types(
     right: usize,
     end: usize,
 ) -> usize
-    requires { ⌜ tables.Tabled (now s) (now t) ⌝ }
-    requires { ⌜ (end ≤ rows.count-of program.type-line (sheet.lines 6 (now s))) × (length (now decl) ≡ tables.decls-of (sheet.lines 6 (now s))) ⌝ }
-    requires { ⌜ marks.Marks (sheet.lines 6 (now s)) (marks.marks-of (now decl)) (now node) (now member) right ⌝ }
-    ensures { λ r. ⌜ marks.Marks (sheet.lines 6 (now (s .entry))) (marks.marks-of (now (decl .entry))) (now (node .exit)) (now (member .exit)) r × (end ≤ r) ⌝ }
+    requires { ⌜ tables.Tabled (now t) ⌝ }
+    requires { ⌜ (end ≤ rows.count-of program.type-line (tables.lines-in (now t))) × (length (now decl) ≡ tables.decls-of (tables.lines-in (now t))) ⌝ }
+    requires { ⌜ marks.Marks (tables.lines-in (now t)) (marks.marks-of (now decl)) (now node) (now member) right ⌝ }
+    ensures { λ r. ⌜ marks.Marks (tables.lines-in (now (t .entry))) (marks.marks-of (now (decl .entry))) (now (node .exit)) (now (member .exit)) r × (end ≤ r) ⌝ }
 {
     let mut y = right;
     while y < end {
-        node[y] = bit(cty_erased(s, t, decl, node, member, y));
+        node[y] = bit(cty_erased(t, decl, node, member, y));
         y += 1;
     }
     y

@@ -1,7 +1,6 @@
 // The set of the declarations that a type names, by its kind, of the sets of its children, which are lower.
 ghost use mathlib.Core.Path.{_≡_};
 ghost use Prim.Native.Nat.{_<_};
-ghost use Rattle.sheet.specs.Sheet as sheet;
 ghost use Rattle.meaning.specs.Program as program;
 ghost use Rattle.meaning.specs.Rows as rows;
 ghost use Rattle.tables.specs.Tables as tables;
@@ -9,50 +8,50 @@ ghost use Rattle.namesets.specs.Mentions.{Adds, Mentioned};
 ghost use Rattle.namesets.specs.Mentions as spec;
 
 // Puts the declarations of the type that number k of type y's line has into the set of type y.
-pub fn add_child(s: &[u8], t: &[u32], sets: &mut [u64], words: usize, y: usize, k: usize)
-    requires { ⌜ tables.Tabled (now s) (now t) ⌝ }
-    requires { ⌜ Mentioned (sheet.lines 6 (now s)) words (now sets) y ⌝ }
-    requires { ⌜ (y < rows.count-of program.type-line (sheet.lines 6 (now s))) × (k < 4) ⌝ }
-    requires { ⌜ spec.part (sheet.lines 6 (now s)) y k < y ⌝ }
-    ensures { λ _. ⌜ Adds words y (spec.mentions (sheet.lines 6 (now (s .entry))) (spec.part (sheet.lines 6 (now (s .entry))) y k)) (now (sets .entry)) (now (sets .exit)) ⌝ }
+pub fn add_child(t: &[u32], sets: &mut [u64], words: usize, y: usize, k: usize)
+    requires { ⌜ tables.Tabled (now t) ⌝ }
+    requires { ⌜ Mentioned (tables.lines-in (now t)) words (now sets) y ⌝ }
+    requires { ⌜ (y < rows.count-of program.type-line (tables.lines-in (now t))) × (k < 4) ⌝ }
+    requires { ⌜ spec.part (tables.lines-in (now t)) y k < y ⌝ }
+    ensures { λ _. ⌜ Adds words y (spec.mentions (tables.lines-in (now (t .entry))) (spec.part (tables.lines-in (now (t .entry))) y k)) (now (sets .entry)) (now (sets .exit)) ⌝ }
 {
-    let c = tables::type_number(s, t, y, k) as usize;
+    let c = tables::type_number(t, y, k) as usize;
     namesets::add_type(sets, words, y, c);
 }
 
 // Type y is an arrow.
-pub fn add_arrow(s: &[u8], t: &[u32], sets: &mut [u64], words: usize, y: usize)
-    requires { ⌜ tables.Tabled (now s) (now t) ⌝ }
-    requires { ⌜ Mentioned (sheet.lines 6 (now s)) words (now sets) y ⌝ }
-    requires { ⌜ (y < rows.count-of program.type-line (sheet.lines 6 (now s))) × (spec.part (sheet.lines 6 (now s)) y 0 ≡ 7) ⌝ }
-    ensures { λ _. ⌜ Adds words y (spec.mentions (sheet.lines 6 (now (s .entry))) y) (now (sets .entry)) (now (sets .exit)) ⌝ }
+pub fn add_arrow(t: &[u32], sets: &mut [u64], words: usize, y: usize)
+    requires { ⌜ tables.Tabled (now t) ⌝ }
+    requires { ⌜ Mentioned (tables.lines-in (now t)) words (now sets) y ⌝ }
+    requires { ⌜ (y < rows.count-of program.type-line (tables.lines-in (now t))) × (spec.part (tables.lines-in (now t)) y 0 ≡ 7) ⌝ }
+    ensures { λ _. ⌜ Adds words y (spec.mentions (tables.lines-in (now (t .entry))) y) (now (sets .entry)) (now (sets .exit)) ⌝ }
 {
-    add_child(s, t, sets, words, y, 1);
-    add_child(s, t, sets, words, y, 3);
+    add_child(t, sets, words, y, 1);
+    add_child(t, sets, words, y, 3);
 }
 
 // Type y is a `TApp`.
-pub fn add_app(s: &[u8], t: &[u32], sets: &mut [u64], words: usize, y: usize)
-    requires { ⌜ tables.Tabled (now s) (now t) ⌝ }
-    requires { ⌜ Mentioned (sheet.lines 6 (now s)) words (now sets) y ⌝ }
-    requires { ⌜ (y < rows.count-of program.type-line (sheet.lines 6 (now s))) × (spec.part (sheet.lines 6 (now s)) y 0 ≡ 8) ⌝ }
-    ensures { λ _. ⌜ Adds words y (spec.mentions (sheet.lines 6 (now (s .entry))) y) (now (sets .entry)) (now (sets .exit)) ⌝ }
+pub fn add_app(t: &[u32], sets: &mut [u64], words: usize, y: usize)
+    requires { ⌜ tables.Tabled (now t) ⌝ }
+    requires { ⌜ Mentioned (tables.lines-in (now t)) words (now sets) y ⌝ }
+    requires { ⌜ (y < rows.count-of program.type-line (tables.lines-in (now t))) × (spec.part (tables.lines-in (now t)) y 0 ≡ 8) ⌝ }
+    ensures { λ _. ⌜ Adds words y (spec.mentions (tables.lines-in (now (t .entry))) y) (now (sets .entry)) (now (sets .exit)) ⌝ }
 {
-    let name = tables::type_number(s, t, y, 1) as usize;
-    let first = tables::type_number(s, t, y, 2) as usize;
-    let k = tables::type_number(s, t, y, 3) as usize;
-    namesets::add_name(s, t, sets, words, y, name);
-    namesets::add_list(s, t, sets, words, y, first, k);
+    let name = tables::type_number(t, y, 1) as usize;
+    let first = tables::type_number(t, y, 2) as usize;
+    let k = tables::type_number(t, y, 3) as usize;
+    namesets::add_name(t, sets, words, y, name);
+    namesets::add_list(t, sets, words, y, first, k);
 }
 
 // Type y is a tuple.
-pub fn add_tuple(s: &[u8], t: &[u32], sets: &mut [u64], words: usize, y: usize)
-    requires { ⌜ tables.Tabled (now s) (now t) ⌝ }
-    requires { ⌜ Mentioned (sheet.lines 6 (now s)) words (now sets) y ⌝ }
-    requires { ⌜ (y < rows.count-of program.type-line (sheet.lines 6 (now s))) × (spec.part (sheet.lines 6 (now s)) y 0 ≡ 9) ⌝ }
-    ensures { λ _. ⌜ Adds words y (spec.mentions (sheet.lines 6 (now (s .entry))) y) (now (sets .entry)) (now (sets .exit)) ⌝ }
+pub fn add_tuple(t: &[u32], sets: &mut [u64], words: usize, y: usize)
+    requires { ⌜ tables.Tabled (now t) ⌝ }
+    requires { ⌜ Mentioned (tables.lines-in (now t)) words (now sets) y ⌝ }
+    requires { ⌜ (y < rows.count-of program.type-line (tables.lines-in (now t))) × (spec.part (tables.lines-in (now t)) y 0 ≡ 9) ⌝ }
+    ensures { λ _. ⌜ Adds words y (spec.mentions (tables.lines-in (now (t .entry))) y) (now (sets .entry)) (now (sets .exit)) ⌝ }
 {
-    let first = tables::type_number(s, t, y, 1) as usize;
-    let count = tables::type_number(s, t, y, 2) as usize;
-    namesets::add_list(s, t, sets, words, y, first, count);
+    let first = tables::type_number(t, y, 1) as usize;
+    let count = tables::type_number(t, y, 2) as usize;
+    namesets::add_list(t, sets, words, y, first, count);
 }

@@ -4,41 +4,40 @@ mod childsets;
 
 ghost use Prim.Native.Nat.{_+_, _*_, _≤_, _<_};
 ghost use lib.ListN.{length};
-ghost use Rattle.sheet.specs.Sheet as sheet;
 ghost use Rattle.meaning.specs.Program as program;
 ghost use Rattle.meaning.specs.Rows as rows;
 ghost use Rattle.tables.specs.Tables as tables;
 ghost use Rattle.namesets.specs.Mentions.{Mentioned};
 
 // The set of type y, after those of the types before it.
-fn add_line(s: &[u8], t: &[u32], sets: &mut [u64], words: usize, y: usize)
-    requires { ⌜ tables.Tabled (now s) (now t) ⌝ }
-    requires { ⌜ Mentioned (sheet.lines 6 (now s)) words (now sets) y ⌝ }
-    requires { ⌜ y < rows.count-of program.type-line (sheet.lines 6 (now s)) ⌝ }
-    ensures { λ _. ⌜ Mentioned (sheet.lines 6 (now (s .entry))) words (now (sets .exit)) (y + 1) ⌝ }
+fn add_line(t: &[u32], sets: &mut [u64], words: usize, y: usize)
+    requires { ⌜ tables.Tabled (now t) ⌝ }
+    requires { ⌜ Mentioned (tables.lines-in (now t)) words (now sets) y ⌝ }
+    requires { ⌜ y < rows.count-of program.type-line (tables.lines-in (now t)) ⌝ }
+    ensures { λ _. ⌜ Mentioned (tables.lines-in (now (t .entry))) words (now (sets .exit)) (y + 1) ⌝ }
 {
     bits::clear(sets, y * words, words);
-    let kind = tables::type_number(s, t, y, 0);
+    let kind = tables::type_number(t, y, 0);
     match kind {
-        7 => childsets::add_arrow(s, t, sets, words, y),
-        8 => childsets::add_app(s, t, sets, words, y),
-        9 => childsets::add_tuple(s, t, sets, words, y),
-        11 => childsets::add_child(s, t, sets, words, y, 2),
-        10 | 12 => childsets::add_child(s, t, sets, words, y, 1),
+        7 => childsets::add_arrow(t, sets, words, y),
+        8 => childsets::add_app(t, sets, words, y),
+        9 => childsets::add_tuple(t, sets, words, y),
+        11 => childsets::add_child(t, sets, words, y, 2),
+        10 | 12 => childsets::add_child(t, sets, words, y, 1),
         0..=6 => {}
         _ => {}
     }
 }
 
 // The sets of all types, of words words each.
-pub fn mentions(s: &[u8], t: &[u32], sets: &mut [u64], words: usize)
-    requires { ⌜ tables.Tabled (now s) (now t) ⌝ }
-    requires { ⌜ tables.decls-of (sheet.lines 6 (now s)) ≤ 64 * words ⌝ }
-    requires { ⌜ rows.count-of program.type-line (sheet.lines 6 (now s)) * words ≤ length (now sets) ⌝ }
-    ensures { λ _. ⌜ Mentioned (sheet.lines 6 (now (s .entry))) words (now (sets .exit)) (rows.count-of program.type-line (sheet.lines 6 (now (s .entry)))) ⌝ }
+pub fn mentions(t: &[u32], sets: &mut [u64], words: usize)
+    requires { ⌜ tables.Tabled (now t) ⌝ }
+    requires { ⌜ tables.decls-of (tables.lines-in (now t)) ≤ 64 * words ⌝ }
+    requires { ⌜ rows.count-of program.type-line (tables.lines-in (now t)) * words ≤ length (now sets) ⌝ }
+    ensures { λ _. ⌜ Mentioned (tables.lines-in (now (t .entry))) words (now (sets .exit)) (rows.count-of program.type-line (tables.lines-in (now (t .entry)))) ⌝ }
 {
-    let n = tables::types(s, t);
+    let n = tables::types(t);
     for y in 0..n {
-        add_line(s, t, sets, words, y);
+        add_line(t, sets, words, y);
     }
 }

@@ -11,17 +11,15 @@ use lib.Seq.{getD-set-same, getD-set-other}
 use borrow.Author.Tests.{eq-eqb, ne-eqb, ltb-true, ltb-false}
 use Rattle.columns.specs.Column.{pick}
 use Rattle.sheet.specs.Line.{Line, number}
-use Rattle.sheet.specs.Sheet.{lines}
 use Rattle.model.specs.Cty.{uninline}
 use Rattle.model.specs.Decl.{Body, TAbstract, TAbbrev, TRecord, TVariant, Dtype, has-flag, dtype-at, position, close, close-body, close-fields}
 use Rattle.model.specs.Resolve.{newtype, abbreviation, stays, unfold-body, unfold-dtype, unfold-of, unfolds, unfold-name}
 use Rattle.model.specs.Run.{layouts-of, layout-of-decl}
 use Rattle.model_laws.specs.Lists.{getD-table, getD-table-past}
-use Rattle.meaning.specs.Program as program
 use Rattle.meaning.specs.Program.{type-line, dtype-of, program}
 use Rattle.meaning.specs.Rows.{count-of}
 use Rattle.meaning.specs.Laws.Program.{length-program, body-number}
-use Rattle.refusals.specs.Rows.{Passed}
+use Rattle.declared.specs.Passed.{Passed}
 use Rattle.tables.specs.Tables.{head-line, decls-of}
 use Rattle.declared.specs.DeclLaws.{dtype-is}
 use Rattle.bodies.specs.BodiesLaws.{last-types, types-few}
@@ -39,6 +37,7 @@ use Rattle.payloads.specs.Payloads.{Payload}
 use Rattle.payloads.specs.PayloadsLaws.{close-uninline}
 use Rattle.name_states.specs.KindLaws.{Fits, kind-is, layout-fits}
 use Rattle.name_states.specs.Cells.{named, Cells, Told, Known, Put, Filled}
+use Rattle.meaning.specs.Program as program
 
 -- an element is the same, whatever stands for one past the last
 any-default : {A : Type 0} (xs : List A) (i : ℕ) (x y : A) → i < length xs → getD xs i x ≡ getD xs i y
@@ -105,10 +104,7 @@ stays-bare d n = go (has-flag d 2 || has-flag d 8) (d .dt-body) n
     go false (TVariant cs) m = refl
 
 -- ---- a declaration
-module _ (b : List ℕ) (p : Passed b) (u : List ℕ) (d : ℕ) (h : d < decls-of (lines 6 b)) where
-  abbrev ls : List Line
-  ls = lines 6 b
-
+module _ (ls : List Line) (p : Passed ls) (u : List ℕ) (d : ℕ) (h : d < decls-of ls) where
   payload-closed : (f : ℕ) → Payload ls f (body-of u d) → uninline (close (params-of ls d) (type-of ls (field-type ls f))) ≡ close (params-of ls d) (type-of ls (body-of u d))
   payload-closed f q = sym (close-uninline (params-of ls d) (type-of ls (field-type ls f))) ∙ ap (close (params-of ls d)) (sym (q .type))
 
@@ -131,7 +127,7 @@ module _ (b : List ℕ) (p : Passed b) (u : List ℕ) (d : ℕ) (h : d < decls-o
   body-inside Erased k q o = absurd (omega (arith, o .0))
   body-inside (Newtype ctor f) k q o = q .1 .inside
   body-inside Struct k q o = absurd (omega (arith, o .1))
-  body-inside Abbreviation k q o = rw (q .1) (last-types b p d h k)
+  body-inside Abbreviation k q o = rw (q .1) (last-types ls p d h k)
   body-inside Opaque k q o = absurd (omega (arith, o .1))
 
   -- what becomes of its name
@@ -139,8 +135,8 @@ module _ (b : List ℕ) (p : Passed b) (u : List ℕ) (d : ℕ) (h : d < decls-o
   unfolding layout-told newtype-told unfold-of unfold-dtype unfold-at closed
   unfold-told Erased k q = rw q
   unfold-told (Newtype ctor f) k q = rw (q .0) (ap₂ newtype (params-are ls d h) (payload-closed f (q .1)))
-  unfold-told Struct k q = rw q (stays-bare (dtype-at (program ls) d) (λ e. omega (arith, kind-is b p d h, k .0)))
-  unfold-told Opaque k q = rw q (stays-bare (dtype-at (program ls) d) (λ e. omega (arith, kind-is b p d h)))
+  unfold-told Struct k q = rw q (stays-bare (dtype-at (program ls) d) (λ e. omega (arith, kind-is ls p d h, k .0)))
+  unfold-told Opaque k q = rw q (stays-bare (dtype-at (program ls) d) (λ e. omega (arith, kind-is ls p d h)))
   unfold-told Abbreviation k q = abbreviation-is ls d h k ∙ go (named ls d) (q .0)
     where
       go : (c : Bool) → state u d ≡ pick c 3 2 → pick c stays (abbreviation (params-of ls d) (close (params-of ls d) (type-of ls (body-last ls d)))) ≡ closed (unfold-at ls u d)
@@ -148,15 +144,15 @@ module _ (b : List ℕ) (p : Passed b) (u : List ℕ) (d : ℕ) (h : d < decls-o
       go false e = rw (e, q .1)
 
 -- ---- all of them
-module _ (b : List ℕ) (p : Passed b) (vs : List Verdict) (laid : Laid (lines 6 b) vs) where
+module _ (ls : List Line) (p : Passed ls) (vs : List Verdict) (laid : Laid ls vs) where
   abbrev all : List Line
-  all = lines 6 b
+  all = ls
 
   fits-at : (d : ℕ) → d < decls-of all → Fits (body-kind all d) (layout-told all d (getD vs d no-verdict .layout))
-  fits-at d h = subst (Fits (body-kind all d)) (sym (laid .layouts d h)) (layout-fits b p d h)
+  fits-at d h = subst (Fits (body-kind all d)) (sym (laid .layouts d h)) (layout-fits ls p d h)
 
   same-layout : (d : ℕ) → d < decls-of all → (z : Verdict) → getD vs d no-verdict .layout ≡ getD vs d z .layout
-  same-layout d h z = ap (λ (v : Verdict). v .layout) (any-default vs d no-verdict z (omega (arith, laid .long, decls-few b p)))
+  same-layout d h z = ap (λ (v : Verdict). v .layout) (any-default vs d no-verdict z (omega (arith, laid .long, decls-few ls p)))
 
   known-at : (d : ℕ) → d < decls-of all → Known all d (getD vs d no-verdict .layout)
   unfolding layout-told
@@ -179,24 +175,24 @@ module _ (b : List ℕ) (p : Passed b) (vs : List Verdict) (laid : Laid (lines 6
             let h : i < decls-of all = ltb-true i (decls-of all) e in
             getD-table (λ k. unfold-of (dtype-at (program all) k) (layout-of-decl (program all) k)) (length (program all)) i stays (rw (length-program all) h)
             ∙ ap (unfold-of (dtype-at (program all) i)) (sym (laid .layouts i h))
-            ∙ unfold-told b p u i h (getD vs i no-verdict .layout) (fits-at i h) (f .each i h .cells)
+            ∙ unfold-told ls p u i h (getD vs i no-verdict .layout) (fits-at i h) (f .each i h .cells)
         go false e =
             let h : decls-of all ≤ i = ltb-false i (decls-of all) e in
             let z : getD u (2 * i) 3 ≡ 3 = List·getD-eq-default u 3 (omega (arith, f .long)) in
             getD-table-past (λ k. unfold-of (dtype-at (program all) k) (layout-of-decl (program all) k)) (length (program all)) i stays (rw (length-program all) h) ∙ rw z
 
     -- The cells of all declarations say what becomes of every name.
-    pub settled : Settled b u
+    pub settled : Settled ls u
     unfolding unfold-name
     settled =
         record {
           long = f .long;
-          bodies = λ d h o. body-inside b p u d h (getD vs d no-verdict .layout) (fits-at d h) (f .each d h .cells) o;
-          shapes = λ d h. subst (Shape all u d) (laid .layouts d h) (shape-of b p u d h (getD vs d no-verdict .layout) (fits-at d h) (f .each d h .cells));
+          bodies = λ d h o. body-inside ls p u d h (getD vs d no-verdict .layout) (fits-at d h) (f .each d h .cells) o;
+          shapes = λ d h. subst (Shape all u d) (laid .layouts d h) (shape-of ls p u d h (getD vs d no-verdict .layout) (fits-at d h) (f .each d h .cells));
           names = λ n. name-told (position (program all) n);
         }
 
-  pub settled-at : (d : ℕ) → d ≡ decls-of all → (u : List ℕ) → Filled all vs d u → Settled b u
+  pub settled-at : (d : ℕ) → d ≡ decls-of all → (u : List ℕ) → Filled all vs d u → Settled ls u
   settled-at d e u f = settled u (rw e at f)
 
 -- ---- for the code
@@ -227,8 +223,8 @@ module _ (ls : List Line) (d : ℕ) (l : Layout) where
   told-opaque c e = rw e (record { cells = refl })
 
 -- the cells of Y lines fit
-pub payload-fits : (b : List ℕ) → Passed b → (f y : ℕ) → Payload (lines 6 b) f y → y < 1024
-payload-fits b p f y q = omega (arith, q .inside, types-few b p)
+pub payload-fits : (ls : List Line) → Passed ls → (f y : ℕ) → Payload ls f y → y < 1024
+payload-fits ls p f y q = omega (arith, q .inside, types-few ls p)
 
-pub last-fits : (b : List ℕ) → Passed b → (d : ℕ) → d < decls-of (lines 6 b) → (l : Layout) → Known (lines 6 b) d l → l ≡ Abbreviation → body-last (lines 6 b) d < 1024
-last-fits b p d h l k e = omega (arith, last-types b p d h (k .kind e), types-few b p)
+pub last-fits : (ls : List Line) → Passed ls → (d : ℕ) → d < decls-of ls → (l : Layout) → Known ls d l → l ≡ Abbreviation → body-last ls d < 1024
+last-fits ls p d h l k e = omega (arith, last-types ls p d h (k .kind e), types-few ls p)

@@ -13,8 +13,6 @@ use lib.Seq.{take-suc, getD-drop, getD-append-seam}
 use borrow.Author.Tests.{eqb-true, not-false}
 use Rattle.columns.specs.Column.{pick, _⇒_∥_}
 use Rattle.sheet.specs.Line.{Line, bad, letter, number}
-use Rattle.sheet.specs.Sheet.{count, lines}
-use Rattle.sheet.specs.SheetLaws.{length-lines}
 use Rattle.sheet.specs.FirstLaws.{none-first}
 use Rattle.sheet.specs.ListLaws.{false-true, both, one-of}
 use Rattle.model.specs.Decl.{NewtypeLayout, Body, TAbstract, TAbbrev, TRecord, TVariant, Dtype, CtorLayout, Layout, L-erased, L-newtype, L-struct, L-abbrev, L-opaque, Origin, here, imported, dtype-at, origin-at, close-fields}
@@ -29,7 +27,7 @@ use Rattle.meaning.specs.Laws.Rows.{last-head-append, last-head-none}
 use Rattle.limits.specs.Limits.{start}
 use Rattle.verdicts.specs.Verdicts.{good-line}
 use Rattle.verdicts.specs.VerdictsLaws.{row7-line}
-use Rattle.refusals.specs.Rows.{Passed}
+use Rattle.declared.specs.Passed.{Passed}
 use Rattle.tables.specs.Tables.{group, head-line, decls-of}
 use Rattle.declared.specs.DeclLaws.{take-start, line-inside, line-of-head, group-is, dtype-is, origin-local, origin-import, whole-at}
 use Rattle.kept.specs.Kept.{body-kind}
@@ -105,19 +103,16 @@ pub record Judged (ls : List Line) (d : ℕ) : Type 0 where
   pub kept : ℕ
   pub good : good-verdict (head-line ls d) kept (verdict-of (group ls d .rest)) ≡ true
 
-module _ (b : List ℕ) (p : Passed b) (d : ℕ) (h : d < decls-of (lines 6 b)) where
-  abbrev ls : List Line
-  ls = lines 6 b
-
+module _ (ls : List Line) (p : Passed ls) (d : ℕ) (h : d < decls-of ls) where
   -- where its lines begin, behind the first
   abbrev a : ℕ
-  a = suc (start (lines 6 b) d)
+  a = suc (start ls d)
 
   abbrev rest : List Line
-  rest = before is-head (drop (suc (start (lines 6 b) d)) (lines 6 b))
+  rest = before is-head (drop (suc (start ls d)) ls)
 
-  w : Whole (group (lines 6 b) d)
-  w = whole-at b p d h
+  w : Whole (group ls d)
+  w = whole-at ls p d h
 
   rest-is : rest ≡ w .body ++ (w .last ∷ [])
   rest-is = sym (ap (λ (g : Group). g .rest) (group-is ls d h)) ∙ w .ends
@@ -161,7 +156,7 @@ module _ (b : List ℕ) (p : Passed b) (d : ℕ) (h : d < decls-of (lines 6 b)) 
   judged e =
       let n : ℕ = kept-after 0 (take place ls) in
       let s : head-line ls d ≡ line-at ls (start ls d) = ap (λ (g : Group). g .head) (group-is ls d h) in
-      let r : good-line (line-at ls (start ls d)) n (line-at ls place) ≡ true = not-false _ (sym (row7-line ls place inside (start ls d) n head-of-last refl) ∙ none-first (row7 ls) (count 6 b) (p .in-verdict) place (omega (arith, inside, length-lines 6 b))) in
+      let r : good-line (line-at ls (start ls d)) n (line-at ls place) ≡ true = not-false _ (sym (row7-line ls place inside (start ls d) n head-of-last refl) ∙ none-first (row7 ls) (length ls) (p .in-verdict) place (omega (arith, inside))) in
       record {
         kept = n;
         good =

@@ -5,7 +5,6 @@ ghost use mathlib.Core.Path.{_≡_};
 ghost use Prim.Native.Nat.{_+_, _*_, _<_};
 ghost use lib.ListN.{length};
 ghost use Rattle.columns.specs.Column.{pick};
-ghost use Rattle.sheet.specs.Sheet as sheet;
 ghost use Rattle.tables.specs.Tables as tables;
 ghost use Rattle.layouts.specs.Layouts as layouts;
 ghost use Rattle.states.specs.States as states;
@@ -18,12 +17,12 @@ struct Pair {
 }
 
 // The first cell of an abbreviation: `Realized` and `NoUnfold` leave its name.
-fn abbreviation(s: &[u8], t: &[u32], d: usize) -> u16
-    requires { ⌜ tables.Tabled (now s) (now t) ⌝ }
-    requires { ⌜ d < tables.decls-of (sheet.lines 6 (now s)) ⌝ }
-    ensures { λ r. ⌜ r ≡ pick (cells.named (sheet.lines 6 (now (s .entry))) d) 3 2 ⌝ }
+fn abbreviation(t: &[u32], d: usize) -> u16
+    requires { ⌜ tables.Tabled (now t) ⌝ }
+    requires { ⌜ d < tables.decls-of (tables.lines-in (now t)) ⌝ }
+    ensures { λ r. ⌜ r ≡ pick (cells.named (tables.lines-in (now (t .entry))) d) 3 2 ⌝ }
 {
-    let flags = tables::decl_number(s, t, d, 1);
+    let flags = tables::decl_number(t, d, 1);
     if flags / 2 % 2 == 1 {
         return 3;
     }
@@ -34,50 +33,50 @@ fn abbreviation(s: &[u8], t: &[u32], d: usize) -> u16
 }
 
 // The cells of declaration d, from its layout.
-fn cells(s: &[u8], t: &[u32], l: Layout, d: usize) -> Pair
-    requires { ⌜ tables.Tabled (now s) (now t) ⌝ }
-    requires { ⌜ d < tables.decls-of (sheet.lines 6 (now s)) ⌝ }
-    requires { ⌜ cells.Known (sheet.lines 6 (now s)) d l ⌝ }
-    ensures { λ r. ⌜ cells.Told (sheet.lines 6 (now (s .entry))) d l (r .state) (r .body) ⌝ }
+fn cells(t: &[u32], l: Layout, d: usize) -> Pair
+    requires { ⌜ tables.Tabled (now t) ⌝ }
+    requires { ⌜ d < tables.decls-of (tables.lines-in (now t)) ⌝ }
+    requires { ⌜ cells.Known (tables.lines-in (now t)) d l ⌝ }
+    ensures { λ r. ⌜ cells.Told (tables.lines-in (now (t .entry))) d l (r .state) (r .body) ⌝ }
 {
     match l {
         Layout::Erased => Pair { state: 0, body: 0 },
         Layout::Newtype { ctor: _, field } => Pair {
             state: 1,
-            body: payloads::payload(s, t, field as usize) as u16,
+            body: payloads::payload(t, field as usize) as u16,
         },
         Layout::Struct => Pair { state: 3, body: 0 },
         Layout::Abbreviation => Pair {
-            state: abbreviation(s, t, d),
-            body: tables::decl_number(s, t, d, 4) as u16,
+            state: abbreviation(t, d),
+            body: tables::decl_number(t, d, 4) as u16,
         },
         Layout::Opaque => Pair { state: 3, body: 0 },
     }
 }
 
 // Puts them.
-fn put_state(s: &[u8], t: &[u32], l: Layout, u: &mut [u16], d: usize)
-    requires { ⌜ tables.Tabled (now s) (now t) ⌝ }
-    requires { ⌜ (d < tables.decls-of (sheet.lines 6 (now s))) × (2 * d + 1 < length (now u)) ⌝ }
-    requires { ⌜ cells.Known (sheet.lines 6 (now s)) d l ⌝ }
-    ensures { λ _. ⌜ cells.Put (sheet.lines 6 (now (s .entry))) d l (now (u .entry)) (now (u .exit)) ⌝ }
+fn put_state(t: &[u32], l: Layout, u: &mut [u16], d: usize)
+    requires { ⌜ tables.Tabled (now t) ⌝ }
+    requires { ⌜ (d < tables.decls-of (tables.lines-in (now t))) × (2 * d + 1 < length (now u)) ⌝ }
+    requires { ⌜ cells.Known (tables.lines-in (now t)) d l ⌝ }
+    ensures { λ _. ⌜ cells.Put (tables.lines-in (now (t .entry))) d l (now (u .entry)) (now (u .exit)) ⌝ }
 {
-    let c = cells(s, t, l, d);
+    let c = cells(t, l, d);
     u[2 * d] = c.state;
     u[2 * d + 1] = c.body;
 }
 
 // The cells of every declaration.
-pub fn states(s: &[u8], t: &[u32], vs: [Verdict; 96], u: &mut [u16])
-    requires { ⌜ tables.Tabled (now s) (now t) ⌝ }
-    requires { ⌜ layouts.Laid (sheet.lines 6 (now s)) vs ⌝ }
-    requires { ⌜ length (now u) ≡ 2 * tables.decls-of (sheet.lines 6 (now s)) ⌝ }
-    ensures { λ _. ⌜ states.Settled (now (s .entry)) (now (u .exit)) ⌝ }
+pub fn states(t: &[u32], vs: [Verdict; 96], u: &mut [u16])
+    requires { ⌜ tables.Tabled (now t) ⌝ }
+    requires { ⌜ layouts.Laid (tables.lines-in (now t)) vs ⌝ }
+    requires { ⌜ length (now u) ≡ 2 * tables.decls-of (tables.lines-in (now t)) ⌝ }
+    ensures { λ _. ⌜ states.Settled (tables.lines-in (now (t .entry))) (now (u .exit)) ⌝ }
 {
-    let n = tables::decls(s, t);
+    let n = tables::decls(t);
     for d in 0..n {
         let v = vs[d];
         let l = v.layout;
-        put_state(s, t, l, u, d);
+        put_state(t, l, u, d);
     }
 }

@@ -16,13 +16,12 @@ use Rattle.columns.specs.Column.{pick}
 use Rattle.sheet.specs.Line.{Line}
 use Rattle.model.specs.Decl.{member, position}
 use Rattle.model.specs.Layout.{positions}
-use Rattle.sheet.specs.Sheet.{lines}
 use Rattle.meaning.specs.Program.{arg-line, type-line, program}
 use Rattle.meaning.specs.Rows.{count-of}
 use Rattle.meaning.specs.Laws.Program.{length-program}
 use Rattle.limits.specs.Limits.{counts-of}
-use Rattle.refusals.specs.Rows.{Passed}
-use Rattle.refusals.specs.RowsLaws.{passed-kept}
+use Rattle.declared.specs.Passed.{Passed}
+use Rattle.declared.specs.PassedLaws.{passed-kept}
 use Rattle.tables.specs.Tables.{decls-of}
 use Rattle.bits.specs.Bits.{digit, has, inserted, cleared, united}
 use Rattle.bits.specs.BitsLaws.{row-room, row-before, has-words, digit-lt, digit-or, or-one, length-inserted, inserted-far, inserted-same, inserted-other, length-cleared, cleared-far, cleared-none, length-united, united-far, united-has}
@@ -227,41 +226,41 @@ module _ (ls : List Line) (words : ℕ) where
       go q c m l j (no z) = q .right c m (omega arith) j
 
 -- ---- by the kind of a type
-module _ (b : List ℕ) (p : Passed b) (words : ℕ) (s : List ℕ) (y : ℕ) (k : Mentioned (lines 6 b) words s y) (h : y < count-of type-line (lines 6 b)) where
+module _ (ls : List Line) (p : Passed ls) (words : ℕ) (s : List ℕ) (y : ℕ) (k : Mentioned ls words s y) (h : y < count-of type-line ls) where
   pub row-in : y * words + words ≤ length s
-  row-in = row-room y (count-of type-line (lines 6 b)) words (length s) h (k .long)
+  row-in = row-room y (count-of type-line ls) words (length s) h (k .long)
 
   -- a child
-  pub adds-child : (c : ℕ) → c < y → (t : List ℕ) → Adds words y (has s (c * words)) s t → Adds words y (mentions (lines 6 b) c) s t
-  adds-child c l t = adds-same words y (has s (c * words)) (mentions (lines 6 b) c) s t (λ m q. k .right c m l q)
+  pub adds-child : (c : ℕ) → c < y → (t : List ℕ) → Adds words y (has s (c * words)) s t → Adds words y (mentions ls c) s t
+  adds-child c l t = adds-same words y (has s (c * words)) (mentions ls c) s t (λ m q. k .right c m l q)
 
-  pub adds-arrow : (e : part (lines 6 b) y 0 ≡ 7) (t u : List ℕ)
-      → Adds words y (mentions (lines 6 b) (part (lines 6 b) y 1)) s t
-      → Adds words y (mentions (lines 6 b) (part (lines 6 b) y 3)) t u
-      → Adds words y (mentions (lines 6 b) y) s u
+  pub adds-arrow : (e : part ls y 0 ≡ 7) (t u : List ℕ)
+      → Adds words y (mentions ls (part ls y 1)) s t
+      → Adds words y (mentions ls (part ls y 3)) t u
+      → Adds words y (mentions ls y) s u
   adds-arrow e t u a c =
-      adds-same words y _ (mentions (lines 6 b) y) s u (λ m q. sym (arrow-names b p y h m e)) (adds-both words y (mentions (lines 6 b) (part (lines 6 b) y 1)) (mentions (lines 6 b) (part (lines 6 b) y 3)) s t u a c)
+      adds-same words y _ (mentions ls y) s u (λ m q. sym (arrow-names ls p y h m e)) (adds-both words y (mentions ls (part ls y 1)) (mentions ls (part ls y 3)) s t u a c)
 
-  pub adds-tuple : (e : part (lines 6 b) y 0 ≡ 9) (t : List ℕ) → Adds words y (of-list (lines 6 b) words s (part (lines 6 b) y 1) (part (lines 6 b) y 2)) s t → Adds words y (mentions (lines 6 b) y) s t
+  pub adds-tuple : (e : part ls y 0 ≡ 9) (t : List ℕ) → Adds words y (of-list ls words s (part ls y 1) (part ls y 2)) s t → Adds words y (mentions ls y) s t
   adds-tuple e t =
-      adds-same words y (of-list (lines 6 b) words s (part (lines 6 b) y 1) (part (lines 6 b) y 2)) (mentions (lines 6 b) y) s t (λ m q. list-names (lines 6 b) words y (part (lines 6 b) y 1) (part (lines 6 b) y 2) s k (tuple-low b p y h e) m q ∙ sym (tuple-names b p y h m e))
+      adds-same words y (of-list ls words s (part ls y 1) (part ls y 2)) (mentions ls y) s t (λ m q. list-names ls words y (part ls y 1) (part ls y 2) s k (tuple-low ls p y h e) m q ∙ sym (tuple-names ls p y h m e))
 
-  pub adds-app : (e : part (lines 6 b) y 0 ≡ 8) (t u : List ℕ)
-      → Adds words y (named (lines 6 b) (part (lines 6 b) y 1)) s t
-      → Adds words y (of-list (lines 6 b) words t (part (lines 6 b) y 2) (part (lines 6 b) y 3)) t u
-      → Adds words y (mentions (lines 6 b) y) s u
+  pub adds-app : (e : part ls y 0 ≡ 8) (t u : List ℕ)
+      → Adds words y (named ls (part ls y 1)) s t
+      → Adds words y (of-list ls words t (part ls y 2) (part ls y 3)) t u
+      → Adds words y (mentions ls y) s u
   adds-app e t u a c =
       adds-same
       words
       y
       _
-      (mentions (lines 6 b) y)
+      (mentions ls y)
       s
       u
-      (λ m q. ap (λ (x : Bool). named (lines 6 b) (part (lines 6 b) y 1) m || x) (list-names (lines 6 b) words y (part (lines 6 b) y 2) (part (lines 6 b) y 3) t (kept (lines 6 b) words s t y (named (lines 6 b) (part (lines 6 b) y 1)) k a) (app-low b p y h e) m q) ∙ sym (app-names b p y h m e))
-      (adds-both words y (named (lines 6 b) (part (lines 6 b) y 1)) (of-list (lines 6 b) words t (part (lines 6 b) y 2) (part (lines 6 b) y 3)) s t u a c)
+      (λ m q. ap (λ (x : Bool). named ls (part ls y 1) m || x) (list-names ls words y (part ls y 2) (part ls y 3) t (kept ls words s t y (named ls (part ls y 1)) k a) (app-low ls p y h e) m q) ∙ sym (app-names ls p y h m e))
+      (adds-both words y (named ls (part ls y 1)) (of-list ls words t (part ls y 2) (part ls y 3)) s t u a c)
 
 -- ---- sizes
-pub args-few : (b : List ℕ) → Passed b → count-of arg-line (lines 6 b) ≤ 512
+pub args-few : (ls : List Line) → Passed ls → count-of arg-line ls ≤ 512
 unfolding counts-of
-args-few b p = passed-kept b p .args
+args-few ls p = passed-kept ls p .args

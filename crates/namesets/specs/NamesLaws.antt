@@ -11,7 +11,6 @@ use borrow.Author.Tests.{eqb-true, eqb-false}
 use Rattle.columns.specs.Column.{pick}
 use Rattle.sheet.specs.Line.{Line, bad, number}
 use Rattle.sheet.specs.ListLaws.{false-true}
-use Rattle.sheet.specs.Sheet.{lines}
 use Rattle.model.specs.Cty.{Cty, Ctys, TUnit, TArrow, TApp, gather, gathers, names-of-cty}
 use Rattle.model.specs.Decl.{Decl, member, position}
 use Rattle.model.specs.Layout.{positions, names-in}
@@ -19,7 +18,7 @@ use Rattle.meaning.specs.Program.{name-line, arg-line, type-line, select, list-
 use Rattle.meaning.specs.Rows.{count-of, good-type}
 use Rattle.type_lines.specs.TypeLists.{types-of}
 use Rattle.type_lines.specs.TypeLinesLaws.{past}
-use Rattle.refusals.specs.Rows.{Passed}
+use Rattle.declared.specs.Passed.{Passed}
 use Rattle.tables.specs.Tables.{nth}
 use Rattle.declared.specs.TypeLaws.{good-kind, good-arrow, good-app, good-tuple, good-buf, good-ref, good-inline, good-type-at, type-tree}
 use Rattle.namesets.specs.Mentions.{part, arg-of, mentions, named, any, Lower}
@@ -106,76 +105,76 @@ module _ (ds : List Decl) (m : ℕ) where
 arg-is : (ls : List Line) (i : ℕ) → getD (types-of ls) i 0 ≡ arg-of ls i
 arg-is ls i = List·getD-map (λ (l : Line). number l 0) (select arg-line ls) i bad
 
-module _ (b : List ℕ) (p : Passed b) (y : ℕ) (h : y < count-of type-line (lines 6 b)) where
-  abbrev good : good-type (count-of name-line (lines 6 b)) (types-of (lines 6 b)) y (nth type-line (lines 6 b) y) ≡ true
-  good = good-type-at b p y h
+module _ (ls : List Line) (p : Passed ls) (y : ℕ) (h : y < count-of type-line ls) where
+  abbrev good : good-type (count-of name-line ls) (types-of ls) y (nth type-line ls y) ≡ true
+  good = good-type-at ls p y h
 
-  lower : (i k : ℕ) → ((j : ℕ) → j < k → (i + j < length (types-of (lines 6 b))) × (getD (types-of (lines 6 b)) (i + j) 0 < y)) → Lower (lines 6 b) y i k
-  lower i k f j l = let g = f j l in (rw length-map at (g .0), rw (arg-is (lines 6 b) (i + j)) at (g .1))
+  lower : (i k : ℕ) → ((j : ℕ) → j < k → (i + j < length (types-of ls)) × (getD (types-of ls) (i + j) 0 < y)) → Lower ls y i k
+  lower i k f j l = let g = f j l in (rw length-map at (g .0), rw (arg-is ls (i + j)) at (g .1))
 
-  pub arrow-low : part (lines 6 b) y 0 ≡ 7 → (part (lines 6 b) y 1 < y) × (part (lines 6 b) y 3 < y)
+  pub arrow-low : part ls y 0 ≡ 7 → (part ls y 1 < y) × (part ls y 3 < y)
   arrow-low e = let g = good-arrow _ _ _ _ good e in (g .0, g .2)
 
-  pub app-name : part (lines 6 b) y 0 ≡ 8 → part (lines 6 b) y 1 < count-of name-line (lines 6 b)
+  pub app-name : part ls y 0 ≡ 8 → part ls y 1 < count-of name-line ls
   app-name e = good-app _ _ _ _ good e .0
 
-  pub app-low : part (lines 6 b) y 0 ≡ 8 → Lower (lines 6 b) y (part (lines 6 b) y 2) (part (lines 6 b) y 3)
+  pub app-low : part ls y 0 ≡ 8 → Lower ls y (part ls y 2) (part ls y 3)
   app-low e = lower _ _ (good-app _ _ _ _ good e .1)
 
-  pub tuple-low : part (lines 6 b) y 0 ≡ 9 → Lower (lines 6 b) y (part (lines 6 b) y 1) (part (lines 6 b) y 2)
+  pub tuple-low : part ls y 0 ≡ 9 → Lower ls y (part ls y 1) (part ls y 2)
   tuple-low e = lower _ _ (good-tuple _ _ _ _ good e)
 
-  pub buf-low : part (lines 6 b) y 0 ≡ 10 → part (lines 6 b) y 1 < y
+  pub buf-low : part ls y 0 ≡ 10 → part ls y 1 < y
   buf-low e = good-buf _ _ _ _ good e
 
-  pub ref-low : part (lines 6 b) y 0 ≡ 11 → part (lines 6 b) y 2 < y
+  pub ref-low : part ls y 0 ≡ 11 → part ls y 2 < y
   ref-low e = good-ref _ _ _ _ good e
 
-  pub inline-low : part (lines 6 b) y 0 ≡ 12 → part (lines 6 b) y 1 < y
+  pub inline-low : part ls y 0 ≡ 12 → part ls y 1 < y
   inline-low e = good-inline _ _ _ _ good e
 
   module _ (m : ℕ) where
-    by-tree : mentions (lines 6 b) y m ≡ in-type (program (lines 6 b)) m (tree (trees (lines 6 b)) (types-of (lines 6 b)) (part (lines 6 b) y 0) (part (lines 6 b) y 1) (part (lines 6 b) y 2) (part (lines 6 b) y 3))
+    by-tree : mentions ls y m ≡ in-type (program ls) m (tree (trees ls) (types-of ls) (part ls y 0) (part ls y 1) (part ls y 2) (part ls y 3))
     unfolding mentions
-    by-tree = ap (in-type (program (lines 6 b)) m) (type-tree b p y h)
+    by-tree = ap (in-type (program ls) m) (type-tree ls p y h)
 
-    listed : (i k : ℕ) → in-types (program (lines 6 b)) m (list-of (trees (lines 6 b)) (types-of (lines 6 b)) i k) ≡ any (λ j. mentions (lines 6 b) (arg-of (lines 6 b) (i + j)) m) k
+    listed : (i k : ℕ) → in-types (program ls) m (list-of (trees ls) (types-of ls) i k) ≡ any (λ j. mentions ls (arg-of ls (i + j)) m) k
     unfolding mentions
     listed i k =
-        in-list (program (lines 6 b)) m (trees (lines 6 b)) (types-of (lines 6 b)) i k
-        ∙ any-same (λ j. in-type (program (lines 6 b)) m (getD (trees (lines 6 b)) (getD (types-of (lines 6 b)) (i + j) 0) TUnit)) (λ j. in-type (program (lines 6 b)) m (getD (trees (lines 6 b)) (arg-of (lines 6 b) (i + j)) TUnit)) k (λ j l. rw (arg-is (lines 6 b) (i + j)))
+        in-list (program ls) m (trees ls) (types-of ls) i k
+        ∙ any-same (λ j. in-type (program ls) m (getD (trees ls) (getD (types-of ls) (i + j) 0) TUnit)) (λ j. in-type (program ls) m (getD (trees ls) (arg-of ls (i + j)) TUnit)) k (λ j l. rw (arg-is ls (i + j)))
 
-    pub arrow-names : part (lines 6 b) y 0 ≡ 7 → mentions (lines 6 b) y m ≡ (mentions (lines 6 b) (part (lines 6 b) y 1) m || mentions (lines 6 b) (part (lines 6 b) y 3) m)
+    pub arrow-names : part ls y 0 ≡ 7 → mentions ls y m ≡ (mentions ls (part ls y 1) m || mentions ls (part ls y 3) m)
     unfolding tree mentions
-    arrow-names e = by-tree ∙ rw e (in-arrow (program (lines 6 b)) m _ _ _)
+    arrow-names e = by-tree ∙ rw e (in-arrow (program ls) m _ _ _)
 
-    pub app-names : part (lines 6 b) y 0 ≡ 8 → mentions (lines 6 b) y m ≡ (named (lines 6 b) (part (lines 6 b) y 1) m || any (λ j. mentions (lines 6 b) (arg-of (lines 6 b) (part (lines 6 b) y 2 + j)) m) (part (lines 6 b) y 3))
+    pub app-names : part ls y 0 ≡ 8 → mentions ls y m ≡ (named ls (part ls y 1) m || any (λ j. mentions ls (arg-of ls (part ls y 2 + j)) m) (part ls y 3))
     unfolding tree named
     app-names e =
-        by-tree ∙ rw e (in-app (program (lines 6 b)) m (part (lines 6 b) y 1) _ ∙ ap (λ (c : Bool). member m (positions (program (lines 6 b)) (part (lines 6 b) y 1 ∷ [])) || c) (listed (part (lines 6 b) y 2) (part (lines 6 b) y 3)))
+        by-tree ∙ rw e (in-app (program ls) m (part ls y 1) _ ∙ ap (λ (c : Bool). member m (positions (program ls) (part ls y 1 ∷ [])) || c) (listed (part ls y 2) (part ls y 3)))
 
-    pub tuple-names : part (lines 6 b) y 0 ≡ 9 → mentions (lines 6 b) y m ≡ any (λ j. mentions (lines 6 b) (arg-of (lines 6 b) (part (lines 6 b) y 1 + j)) m) (part (lines 6 b) y 2)
+    pub tuple-names : part ls y 0 ≡ 9 → mentions ls y m ≡ any (λ j. mentions ls (arg-of ls (part ls y 1 + j)) m) (part ls y 2)
     unfolding tree names-of-cty gather
-    tuple-names e = by-tree ∙ rw e (listed (part (lines 6 b) y 1) (part (lines 6 b) y 2))
+    tuple-names e = by-tree ∙ rw e (listed (part ls y 1) (part ls y 2))
 
-    pub buf-names : part (lines 6 b) y 0 ≡ 10 → mentions (lines 6 b) y m ≡ mentions (lines 6 b) (part (lines 6 b) y 1) m
+    pub buf-names : part ls y 0 ≡ 10 → mentions ls y m ≡ mentions ls (part ls y 1) m
     unfolding tree names-of-cty gather mentions
     buf-names e = by-tree ∙ rw e
 
-    pub ref-names : part (lines 6 b) y 0 ≡ 11 → mentions (lines 6 b) y m ≡ mentions (lines 6 b) (part (lines 6 b) y 2) m
+    pub ref-names : part ls y 0 ≡ 11 → mentions ls y m ≡ mentions ls (part ls y 2) m
     unfolding tree names-of-cty gather mentions
     ref-names e = by-tree ∙ rw e
 
-    pub inline-names : part (lines 6 b) y 0 ≡ 12 → mentions (lines 6 b) y m ≡ mentions (lines 6 b) (part (lines 6 b) y 1) m
+    pub inline-names : part ls y 0 ≡ 12 → mentions ls y m ≡ mentions ls (part ls y 1) m
     unfolding tree names-of-cty gather mentions
     inline-names e = by-tree ∙ rw e
 
     -- the kinds that name nothing
-    pub leaf-names : part (lines 6 b) y 0 ≤ 6 → mentions (lines 6 b) y m ≡ false
+    pub leaf-names : part ls y 0 ≤ 6 → mentions ls y m ≡ false
     unfolding tree names-of-cty gather member positions
-    leaf-names l = by-tree ∙ go (part (lines 6 b) y 0) refl l
+    leaf-names l = by-tree ∙ go (part ls y 0) refl l
       where
-        go : (k : ℕ) → part (lines 6 b) y 0 ≡ k → k ≤ 6 → in-type (program (lines 6 b)) m (tree (trees (lines 6 b)) (types-of (lines 6 b)) (part (lines 6 b) y 0) (part (lines 6 b) y 1) (part (lines 6 b) y 2) (part (lines 6 b) y 3)) ≡ false
+        go : (k : ℕ) → part ls y 0 ≡ k → k ≤ 6 → in-type (program ls) m (tree (trees ls) (types-of ls) (part ls y 0) (part ls y 1) (part ls y 2) (part ls y 3)) ≡ false
         go zero e q = rw e
         go (suc zero) e q = rw e
         go (suc (suc zero)) e q = rw e
@@ -186,10 +185,10 @@ module _ (b : List ℕ) (p : Passed b) (y : ℕ) (h : y < count-of type-line (li
         go (suc (suc (suc (suc (suc (suc (suc k))))))) e q = absurd (omega arith)
 
   -- there is no other kind
-  pub kind-some : (k : ℕ) → k ≡ part (lines 6 b) y 0 → 7 ≤ k → (k ≡ 7 → ⊥) → (k ≡ 8 → ⊥) → (k ≡ 9 → ⊥) → (k ≡ 11 → ⊥) → ((k ≡ 10) ⊎ (k ≡ 12) → ⊥) → ⊥
+  pub kind-some : (k : ℕ) → k ≡ part ls y 0 → 7 ≤ k → (k ≡ 7 → ⊥) → (k ≡ 8 → ⊥) → (k ≡ 9 → ⊥) → (k ≡ 11 → ⊥) → ((k ≡ 10) ⊎ (k ≡ 12) → ⊥) → ⊥
   kind-some k e l n7 n8 n9 n11 n =
       let r : 13 ≤ k = past 12 k (past 11 k (past 10 k (past 9 k (past 8 k (past 7 k l n7) n8) n9) (λ q. n (inl q))) n11) (λ q. n (inr q)) in
       over k e r
     where
-      over : (k : ℕ) → k ≡ part (lines 6 b) y 0 → 13 ≤ k → ⊥
+      over : (k : ℕ) → k ≡ part ls y 0 → 13 ≤ k → ⊥
       over k e r = omega (arith, good-kind _ _ _ _ good)

@@ -2,7 +2,6 @@
 ghost use mathlib.Core.Path.{_≡_};
 ghost use Prim.Native.Nat.{_+_, _*_, _≤_, _<_};
 ghost use lib.ListN.{length};
-ghost use Rattle.sheet.specs.Sheet as sheet;
 ghost use Rattle.meaning.specs.Program as program;
 ghost use Rattle.meaning.specs.Rows as rows;
 ghost use Rattle.tables.specs.Tables as tables;
@@ -19,60 +18,44 @@ pub fn add_type(sets: &mut [u64], words: usize, y: usize, c: usize)
 }
 
 // Word w of the sets of the k types from A line first on, united.
-fn list_word(
-    s: &[u8],
-    t: &[u32],
-    sets: &[u64],
-    words: usize,
-    w: usize,
-    first: usize,
-    k: usize,
-) -> u64
-    requires { ⌜ tables.Tabled (now s) (now t) ⌝ }
-    requires { ⌜ Inside (sheet.lines 6 (now s)) words (now sets) first k ⌝ }
+fn list_word(t: &[u32], sets: &[u64], words: usize, w: usize, first: usize, k: usize) -> u64
+    requires { ⌜ tables.Tabled (now t) ⌝ }
+    requires { ⌜ Inside (tables.lines-in (now t)) words (now sets) first k ⌝ }
     requires { ⌜ w < words ⌝ }
-    ensures { λ r. ⌜ r ≡ spec.word-of (sheet.lines 6 (now (s .entry))) words (now (sets .entry)) first w k ⌝ }
+    ensures { λ r. ⌜ r ≡ spec.word-of (tables.lines-in (now (t .entry))) words (now (sets .entry)) first w k ⌝ }
 {
     let mut x = 0;
     for j in 0..k {
-        let c = tables::arg(s, t, first + j);
+        let c = tables::arg(t, first + j);
         x |= sets[c * words + w];
     }
     x
 }
 
 // Puts the declarations of the k types from A line first on into the set of type y.
-pub fn add_list(
-    s: &[u8],
-    t: &[u32],
-    sets: &mut [u64],
-    words: usize,
-    y: usize,
-    first: usize,
-    k: usize,
-)
-    requires { ⌜ tables.Tabled (now s) (now t) ⌝ }
-    requires { ⌜ Lower (sheet.lines 6 (now s)) y first k ⌝ }
+pub fn add_list(t: &[u32], sets: &mut [u64], words: usize, y: usize, first: usize, k: usize)
+    requires { ⌜ tables.Tabled (now t) ⌝ }
+    requires { ⌜ Lower (tables.lines-in (now t)) y first k ⌝ }
     requires { ⌜ y * words + words ≤ length (now sets) ⌝ }
-    ensures { λ _. ⌜ Adds words y (spec.of-list (sheet.lines 6 (now (s .entry))) words (now (sets .entry)) first k) (now (sets .entry)) (now (sets .exit)) ⌝ }
+    ensures { λ _. ⌜ Adds words y (spec.of-list (tables.lines-in (now (t .entry))) words (now (sets .entry)) first k) (now (sets .entry)) (now (sets .exit)) ⌝ }
 {
     let row = y * words;
     for w in 0..words {
-        let more = list_word(s, t, sets, words, w, first, k);
+        let more = list_word(t, sets, words, w, first, k);
         let x = sets[row + w];
         sets[row + w] = x | more;
     }
 }
 
 // Puts the declaration of name n, if it has one, into the set of type y.
-pub fn add_name(s: &[u8], t: &[u32], sets: &mut [u64], words: usize, y: usize, n: usize)
-    requires { ⌜ tables.Tabled (now s) (now t) ⌝ }
-    requires { ⌜ n < rows.count-of program.name-line (sheet.lines 6 (now s)) ⌝ }
-    requires { ⌜ (tables.decls-of (sheet.lines 6 (now s)) ≤ 64 * words) × (y * words + words ≤ length (now sets)) ⌝ }
-    ensures { λ _. ⌜ Adds words y (spec.named (sheet.lines 6 (now (s .entry))) n) (now (sets .entry)) (now (sets .exit)) ⌝ }
+pub fn add_name(t: &[u32], sets: &mut [u64], words: usize, y: usize, n: usize)
+    requires { ⌜ tables.Tabled (now t) ⌝ }
+    requires { ⌜ n < rows.count-of program.name-line (tables.lines-in (now t)) ⌝ }
+    requires { ⌜ (tables.decls-of (tables.lines-in (now t)) ≤ 64 * words) × (y * words + words ≤ length (now sets)) ⌝ }
+    ensures { λ _. ⌜ Adds words y (spec.named (tables.lines-in (now (t .entry))) n) (now (sets .entry)) (now (sets .exit)) ⌝ }
 {
-    let d = tables::decl_of(s, t, n);
-    if d < tables::decls(s, t) {
+    let d = tables::decl_of(t, n);
+    if d < tables::decls(t) {
         bits::insert(sets, y * words, d);
     }
 }

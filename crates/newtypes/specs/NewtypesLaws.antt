@@ -12,9 +12,7 @@ use lib.ListN.{length, getD}
 use borrow.Author.Tests.{eqb-true, eqb-false, ne-eqb}
 use Rattle.columns.specs.Column.{pick, _⇒_∥_}
 use Rattle.sheet.specs.Line.{Line, number}
-use Rattle.sheet.specs.Sheet.{lines}
 use Rattle.sheet.specs.ListLaws.{false-true}
-use Rattle.model.specs.Decl as decl
 use Rattle.model.specs.Decl.{Ctor, CtorLayout, bit}
 use Rattle.model.specs.Layout.{first-kept, newtype-of-ctor, newtype-of}
 use Rattle.meaning.specs.Output.{all-slots}
@@ -23,8 +21,8 @@ use Rattle.meaning.specs.Rows.{line-at, count-of}
 use Rattle.limits.specs.Limits.{start, counts-of}
 use Rattle.distinct.specs.Ways.{Declared, Constructors, takes}
 use Rattle.distinct.specs.WaysLaws.{named-below}
-use Rattle.refusals.specs.Rows.{Passed}
-use Rattle.refusals.specs.RowsLaws.{passed-kept}
+use Rattle.declared.specs.Passed.{Passed}
+use Rattle.declared.specs.PassedLaws.{passed-kept}
 use Rattle.tables.specs.Tables.{head-line, decls-of, first-of}
 use Rattle.declared.specs.DeclLaws.{first-next, group-is, line-inside, line-of-head, whole-at}
 use Rattle.declared.specs.LineLaws.{stands, good-line}
@@ -37,6 +35,7 @@ use Rattle.layouts.specs.Layouts.{newtype-told}
 use Rattle.newtypes.specs.declared.Only.{Only}
 use Rattle.newtypes.specs.declared.Only.the-variants.{Field, Nothing}
 use Rattle.newtypes.specs.Newtypes.{one-ctor, ctor-told, only-told, kept-places, only, Next}
+use Rattle.model.specs.Decl as decl
 
 -- ---- kept places
 module _ (keep : List ℕ) where
@@ -137,103 +136,103 @@ newtype-other [] n = refl
 newtype-other (cl ∷ []) n = absurd (n refl)
 newtype-other (cl ∷ cm ∷ cls) n = refl
 
-module _ (b : List ℕ) (p : Passed b) (d : ℕ) (h : d < decls-of (lines 6 b)) where
-  one-cases : one-ctor (lines 6 b) d ≡ true → (body-kind (lines 6 b) d ≡ 2) ⊎ ((body-kind (lines 6 b) d ≡ 3) × (body-last (lines 6 b) d ≡ 1))
+module _ (ls : List Line) (p : Passed ls) (d : ℕ) (h : d < decls-of ls) where
+  one-cases : one-ctor ls d ≡ true → (body-kind ls d ≡ 2) ⊎ ((body-kind ls d ≡ 3) × (body-last ls d ≡ 1))
   unfolding one-ctor
-  one-cases = go (eqb (body-kind (lines 6 b) d) 2) refl (eqb (body-kind (lines 6 b) d) 3) refl
+  one-cases = go (eqb (body-kind ls d) 2) refl (eqb (body-kind ls d) 3) refl
     where
-      go : (x : Bool) → eqb (body-kind (lines 6 b) d) 2 ≡ x → (y : Bool) → eqb (body-kind (lines 6 b) d) 3 ≡ y → (x ⇒ true ∥ y ⇒ eqb (body-last (lines 6 b) d) 1 ∥ false) ≡ true
-          → (body-kind (lines 6 b) d ≡ 2) ⊎ ((body-kind (lines 6 b) d ≡ 3) × (body-last (lines 6 b) d ≡ 1))
-      go true u y v e = inl (eqb-true (body-kind (lines 6 b) d) 2 u)
-      go false u true v e = inr (eqb-true (body-kind (lines 6 b) d) 3 v, eqb-true (body-last (lines 6 b) d) 1 e)
+      go : (x : Bool) → eqb (body-kind ls d) 2 ≡ x → (y : Bool) → eqb (body-kind ls d) 3 ≡ y → (x ⇒ true ∥ y ⇒ eqb (body-last ls d) 1 ∥ false) ≡ true
+          → (body-kind ls d ≡ 2) ⊎ ((body-kind ls d ≡ 3) × (body-last ls d ≡ 1))
+      go true u y v e = inl (eqb-true (body-kind ls d) 2 u)
+      go false u true v e = inr (eqb-true (body-kind ls d) 3 v, eqb-true (body-last ls d) 1 e)
       go false u false v e = false-true e
 
-  module _ (keep : List ℕ) (k : Slotted (lines 6 b) keep) where
+  module _ (keep : List ℕ) (k : Slotted ls keep) where
     -- how many fields it has
     width : ℕ
-    width = first-of field-line (lines 6 b) (suc d) - first-of field-line (lines 6 b) d
+    width = first-of field-line ls (suc d) - first-of field-line ls d
 
-    one-kept : one-ctor (lines 6 b) d ≡ true
-        → ctors-kept (lines 6 b) keep d ≡ record { ct-name = ctor-told (lines 6 b) d; ct-fields = fields-by (lines 6 b) keep (params-of (lines 6 b) d) (first-of field-line (lines 6 b) d) width } ∷ []
+    one-kept : one-ctor ls d ≡ true
+        → ctors-kept ls keep d ≡ record { ct-name = ctor-told ls d; ct-fields = fields-by ls keep (params-of ls d) (first-of field-line ls d) width } ∷ []
     unfolding ctor-told ctors-by fields-in width
     one-kept o = ⊎-elim flat lone (one-cases o)
       where
-        flat : body-kind (lines 6 b) d ≡ 2 → ctors-kept (lines 6 b) keep d ≡ record { ct-name = ctor-told (lines 6 b) d; ct-fields = fields-by (lines 6 b) keep (params-of (lines 6 b) d) (first-of field-line (lines 6 b) d) width } ∷ []
+        flat : body-kind ls d ≡ 2 → ctors-kept ls keep d ≡ record { ct-name = ctor-told ls d; ct-fields = fields-by ls keep (params-of ls d) (first-of field-line ls d) width } ∷ []
         flat e =
-            let n : first-of field-line (lines 6 b) (suc d) - first-of field-line (lines 6 b) d ≡ body-last (lines 6 b) d = omega (arith, total-record b p d h e) in
-            rw (kept-record (lines 6 b) keep d e, n, e)
+            let n : first-of field-line ls (suc d) - first-of field-line ls d ≡ body-last ls d = omega (arith, total-record ls p d h e) in
+            rw (kept-record ls keep d e, n, e)
 
-        lone : (body-kind (lines 6 b) d ≡ 3) × (body-last (lines 6 b) d ≡ 1) → ctors-kept (lines 6 b) keep d ≡ record { ct-name = ctor-told (lines 6 b) d; ct-fields = fields-by (lines 6 b) keep (params-of (lines 6 b) d) (first-of field-line (lines 6 b) d) width } ∷ []
+        lone : (body-kind ls d ≡ 3) × (body-last ls d ≡ 1) → ctors-kept ls keep d ≡ record { ct-name = ctor-told ls d; ct-fields = fields-by ls keep (params-of ls d) (first-of field-line ls d) width } ∷ []
         lone e =
-            let t = rw (e .1) at (total-variant b p d h (e .0)) in
-            let n : first-of field-line (lines 6 b) (suc d) - first-of field-line (lines 6 b) d ≡ ctor-fields (lines 6 b) (first-of ctor-line (lines 6 b) d) = omega arith in
-            rw (kept-variant (lines 6 b) keep d (e .0), n, e .0, e .1)
+            let t = rw (e .1) at (total-variant ls p d h (e .0)) in
+            let n : first-of field-line ls (suc d) - first-of field-line ls d ≡ ctor-fields ls (first-of ctor-line ls d) = omega arith in
+            rw (kept-variant ls keep d (e .0), n, e .0, e .1)
 
     -- The newtype that it can become is that of its only kept field.
-    pub newtype-only : one-ctor (lines 6 b) d ≡ true
-        → newtype-of (ctors-at (program (lines 6 b)) d) ≡ only-told (lines 6 b) d (only (kept-places keep (first-of field-line (lines 6 b) d) (first-of field-line (lines 6 b) (suc d) - first-of field-line (lines 6 b) d)))
+    pub newtype-only : one-ctor ls d ≡ true
+        → newtype-of (ctors-at (program ls) d) ≡ only-told ls d (only (kept-places keep (first-of field-line ls d) (first-of field-line ls (suc d) - first-of field-line ls d)))
     unfolding width
     newtype-only o =
-        let bs : List Bool = slots-at (program (lines 6 b)) d in
-        let n : length bs ≡ first-of field-line (lines 6 b) (suc d) - first-of field-line (lines 6 b) d = omega (arith, k .sized d h) in
-        newtype-one (ctors-at (program (lines 6 b)) d)
-        (record { ct-name = ctor-told (lines 6 b) d; ct-fields = fields-by (lines 6 b) keep (params-of (lines 6 b) d) (first-of field-line (lines 6 b) d) width })
-        (slots-at (program (lines 6 b)) d) (ctors-are b p keep k d h ∙ one-kept o) (slots-are (lines 6 b) d h)
-        ∙ ap (newtype-of-ctor (ctor-told (lines 6 b) d) (slots-at (program (lines 6 b)) d)) (fields-placed (lines 6 b) keep (params-of (lines 6 b) d) (first-of field-line (lines 6 b) d) width)
-        ∙ newtype-placed (lines 6 b) d (slots-at (program (lines 6 b)) d) (kept-places keep (first-of field-line (lines 6 b) d) width)
-        (λ g r e. first-placed keep (slots-at (program (lines 6 b)) d) (first-of field-line (lines 6 b) d) g r (k .slots d h) (rw n e))
+        let bs : List Bool = slots-at (program ls) d in
+        let n : length bs ≡ first-of field-line ls (suc d) - first-of field-line ls d = omega (arith, k .sized d h) in
+        newtype-one (ctors-at (program ls) d)
+        (record { ct-name = ctor-told ls d; ct-fields = fields-by ls keep (params-of ls d) (first-of field-line ls d) width })
+        (slots-at (program ls) d) (ctors-are ls p keep k d h ∙ one-kept o) (slots-are ls d h)
+        ∙ ap (newtype-of-ctor (ctor-told ls d) (slots-at (program ls) d)) (fields-placed ls keep (params-of ls d) (first-of field-line ls d) width)
+        ∙ newtype-placed ls d (slots-at (program ls) d) (kept-places keep (first-of field-line ls d) width)
+        (λ g r e. first-placed keep (slots-at (program ls) d) (first-of field-line ls d) g r (k .slots d h) (rw n e))
 
     -- With no constructor, or several, it becomes none.
-    pub newtype-none : one-ctor (lines 6 b) d ≡ false → newtype-of (ctors-at (program (lines 6 b)) d) ≡ none
+    pub newtype-none : one-ctor ls d ≡ false → newtype-of (ctors-at (program ls) d) ≡ none
     unfolding one-ctor
-    newtype-none = go (eqb (body-kind (lines 6 b) d) 2) refl (eqb (body-kind (lines 6 b) d) 3) refl
+    newtype-none = go (eqb (body-kind ls d) 2) refl (eqb (body-kind ls d) 3) refl
       where
-        go : (x : Bool) → eqb (body-kind (lines 6 b) d) 2 ≡ x → (y : Bool) → eqb (body-kind (lines 6 b) d) 3 ≡ y → (x ⇒ true ∥ y ⇒ eqb (body-last (lines 6 b) d) 1 ∥ false) ≡ false → newtype-of (ctors-at (program (lines 6 b)) d) ≡ none
+        go : (x : Bool) → eqb (body-kind ls d) 2 ≡ x → (y : Bool) → eqb (body-kind ls d) 3 ≡ y → (x ⇒ true ∥ y ⇒ eqb (body-last ls d) 1 ∥ false) ≡ false → newtype-of (ctors-at (program ls) d) ≡ none
         go true u y v e = false-true (sym e)
-        go false u true v e = newtype-other (ctors-at (program (lines 6 b)) d) (λ z. eqb-false (body-last (lines 6 b) d) 1 e (sym (count-variant b p keep k d h (eqb-true (body-kind (lines 6 b) d) 3 v)) ∙ z))
+        go false u true v e = newtype-other (ctors-at (program ls) d) (λ z. eqb-false (body-last ls d) 1 e (sym (count-variant ls p keep k d h (eqb-true (body-kind ls d) 3 v)) ∙ z))
         go false u false v e =
-            let i = eqb-false (body-kind (lines 6 b) d) 2 u in
-            let j = eqb-false (body-kind (lines 6 b) d) 3 v in
-            newtype-other (ctors-at (program (lines 6 b)) d) (λ z. omega (arith, count-bare b p keep k d h (omega (arith, whole-at b p d h .kinds))))
+            let i = eqb-false (body-kind ls d) 2 u in
+            let j = eqb-false (body-kind ls d) 3 v in
+            newtype-other (ctors-at (program ls) d) (λ z. omega (arith, count-bare ls p keep k d h (omega (arith, whole-at ls p d h .kinds))))
 
     -- what the code answers
-    pub told-none : one-ctor (lines 6 b) d ≡ false → (newtype-of (ctors-at (program (lines 6 b)) d) ≡ only-told (lines 6 b) d Nothing)
-        × ((f : ℕ) → Nothing ≡ Field f → (f < count-of field-line (lines 6 b)) × (first-of field-line (lines 6 b) d ≤ f) × (one-ctor (lines 6 b) d ≡ true))
+    pub told-none : one-ctor ls d ≡ false → (newtype-of (ctors-at (program ls) d) ≡ only-told ls d Nothing)
+        × ((f : ℕ) → Nothing ≡ Field f → (f < count-of field-line ls) × (first-of field-line ls d ≤ f) × (one-ctor ls d ≡ true))
     unfolding only-told
     told-none o = (newtype-none o, λ f e. let z : _≡_ {A = ℕ} 0 1 = cc in absurd (omega arith))
 
-    pub told-one : (r : Only) (from end : ℕ) → one-ctor (lines 6 b) d ≡ true → from ≡ first-of field-line (lines 6 b) d → end ≡ first-of field-line (lines 6 b) (d + 1) → r ≡ only (kept-places keep from (end - from))
-        → (newtype-of (ctors-at (program (lines 6 b)) d) ≡ only-told (lines 6 b) d r)
-        × ((f : ℕ) → r ≡ Field f → (f < count-of field-line (lines 6 b)) × (first-of field-line (lines 6 b) d ≤ f) × (one-ctor (lines 6 b) d ≡ true))
-    told-one r from end o u v e = (newtype-only o ∙ ap (only-told (lines 6 b) d) (sym same), within)
+    pub told-one : (r : Only) (from end : ℕ) → one-ctor ls d ≡ true → from ≡ first-of field-line ls d → end ≡ first-of field-line ls (d + 1) → r ≡ only (kept-places keep from (end - from))
+        → (newtype-of (ctors-at (program ls) d) ≡ only-told ls d r)
+        × ((f : ℕ) → r ≡ Field f → (f < count-of field-line ls) × (first-of field-line ls d ≤ f) × (one-ctor ls d ≡ true))
+    told-one r from end o u v e = (newtype-only o ∙ ap (only-told ls d) (sym same), within)
       where
-        same : r ≡ only (kept-places keep (first-of field-line (lines 6 b) d) (first-of field-line (lines 6 b) (suc d) - first-of field-line (lines 6 b) d))
+        same : r ≡ only (kept-places keep (first-of field-line ls d) (first-of field-line ls (suc d) - first-of field-line ls d))
         same = e ∙ rw (u, v, add-one d)
 
-        within : (f : ℕ) → r ≡ Field f → (f < count-of field-line (lines 6 b)) × (first-of field-line (lines 6 b) d ≤ f) × (one-ctor (lines 6 b) d ≡ true)
+        within : (f : ℕ) → r ≡ Field f → (f < count-of field-line ls) × (first-of field-line ls d ≤ f) × (one-ctor ls d ≡ true)
         within f q =
             let z = only-is (kept-places keep from (end - from)) f (sym e ∙ q) in
             let w = places-between keep from (end - from) f [] z in
-            (omega (arith, u, v, first-le field-line (lines 6 b) (d + 1)), omega arith, o)
+            (omega (arith, u, v, first-le field-line ls (d + 1)), omega arith, o)
 
 -- ---- its constructor's name
-names-few : (b : List ℕ) → Passed b → count-of name-line (lines 6 b) ≤ 256
+names-few : (ls : List Line) → Passed ls → count-of name-line ls ≤ 256
 unfolding counts-of
-names-few b p = passed-kept b p .names
+names-few ls p = passed-kept ls p .names
 
-module _ (b : List ℕ) (p : Passed b) (d : ℕ) (h : d < decls-of (lines 6 b)) where
-  pub head-name-low : number (head-line (lines 6 b) d) 0 < 256
+module _ (ls : List Line) (p : Passed ls) (d : ℕ) (h : d < decls-of ls) where
+  pub head-name-low : number (head-line ls d) 0 < 256
   head-name-low =
-      let m : head-line (lines 6 b) d ≡ line-at (lines 6 b) (start (lines 6 b) d) = ap (λ (g : Group). g .head) (group-is (lines 6 b) d h) in
-      let i = line-inside (lines 6 b) d h in
-      rw m (omega (arith, names-few b p, named-below (lines 6 b) (start (lines 6 b) d) (good-line b p (start (lines 6 b) d) i) Declared (line-of-head (lines 6 b) d h)))
+      let m : head-line ls d ≡ line-at ls (start ls d) = ap (λ (g : Group). g .head) (group-is ls d h) in
+      let i = line-inside ls d h in
+      rw m (omega (arith, names-few ls p, named-below ls (start ls d) (good-line ls p (start ls d) i) Declared (line-of-head ls d h)))
 
-  pub ctor-name-low : (c : ℕ) → c < count-of ctor-line (lines 6 b) → ctor-name (lines 6 b) c < 256
+  pub ctor-name-low : (c : ℕ) → c < count-of ctor-line ls → ctor-name ls c < 256
   ctor-name-low c l =
-      let r = stands ctor-line (lines 6 b) c l in
-      let t : takes Constructors (line-at (lines 6 b) (r .place)) ≡ true = rw (r .lettered) in
-      rw (r .same) (omega (arith, names-few b p, named-below (lines 6 b) (r .place) (good-line b p (r .place) (r .inside)) Constructors t))
+      let r = stands ctor-line ls c l in
+      let t : takes Constructors (line-at ls (r .place)) ≡ true = rw (r .lettered) in
+      rw (r .same) (omega (arith, names-few ls p, named-below ls (r .place) (good-line ls p (r .place) (r .inside)) Constructors t))
 
   -- its only constructor has a C line, where it is no record
-  pub ctor-within : one-ctor (lines 6 b) d ≡ true → (body-kind (lines 6 b) d ≡ 2 → ⊥) → first-of ctor-line (lines 6 b) d < count-of ctor-line (lines 6 b)
-  ctor-within o n = ⊎-elim (λ e. absurd (n e)) (λ e. omega (arith, e .1, whole-at b p d h .ctors (e .0), first-next (lines 6 b) d h ctor-line refl refl, first-le ctor-line (lines 6 b) (suc d))) (one-cases b p d h o)
+  pub ctor-within : one-ctor ls d ≡ true → (body-kind ls d ≡ 2 → ⊥) → first-of ctor-line ls d < count-of ctor-line ls
+  ctor-within o n = ⊎-elim (λ e. absurd (n e)) (λ e. omega (arith, e .1, whole-at ls p d h .ctors (e .0), first-next ls d h ctor-line refl refl, first-le ctor-line ls (suc d))) (one-cases ls p d h o)

@@ -3,7 +3,6 @@ ghost use mathlib.Core.Path.{_≡_};
 ghost use mathlib.Core.Bool.{true};
 ghost use Prim.Native.Nat.{ℕ, _-_, _≤_, _<_};
 ghost use lib.ListN.{length};
-ghost use Rattle.sheet.specs.Sheet as sheet;
 ghost use Rattle.model.specs.Layout as layout;
 ghost use Rattle.meaning.specs.Program as program;
 ghost use Rattle.meaning.specs.Rows as rows;
@@ -20,31 +19,31 @@ pub enum Only {
 }
 
 // Declaration d has one constructor: a record counts as one.
-fn one_ctor(s: &[u8], t: &[u32], d: usize) -> bool
-    requires { ⌜ tables.Tabled (now s) (now t) ⌝ }
-    requires { ⌜ d < tables.decls-of (sheet.lines 6 (now s)) ⌝ }
-    ensures { λ r. ⌜ r ≡ newtypes.one-ctor (sheet.lines 6 (now (s .entry))) d ⌝ }
+fn one_ctor(t: &[u32], d: usize) -> bool
+    requires { ⌜ tables.Tabled (now t) ⌝ }
+    requires { ⌜ d < tables.decls-of (tables.lines-in (now t)) ⌝ }
+    ensures { λ r. ⌜ r ≡ newtypes.one-ctor (tables.lines-in (now (t .entry))) d ⌝ }
 {
-    let kind = tables::decl_number(s, t, d, 2);
+    let kind = tables::decl_number(t, d, 2);
     if kind == 2 {
         return true;
     }
     if kind == 3 {
-        return tables::decl_number(s, t, d, 4) == 1;
+        return tables::decl_number(t, d, 4) == 1;
     }
     false
 }
 
 // The constructor's name of declaration d, which has one: a record's is the type's.
-pub fn ctor_of(s: &[u8], t: &[u32], d: usize) -> usize
-    requires { ⌜ tables.Tabled (now s) (now t) ⌝ }
-    requires { ⌜ (d < tables.decls-of (sheet.lines 6 (now s))) × (newtypes.one-ctor (sheet.lines 6 (now s)) d ≡ true) ⌝ }
-    ensures { λ r. ⌜ (r ≡ newtypes.ctor-told (sheet.lines 6 (now (s .entry))) d) × (r < 256) ⌝ }
+pub fn ctor_of(t: &[u32], d: usize) -> usize
+    requires { ⌜ tables.Tabled (now t) ⌝ }
+    requires { ⌜ (d < tables.decls-of (tables.lines-in (now t))) × (newtypes.one-ctor (tables.lines-in (now t)) d ≡ true) ⌝ }
+    ensures { λ r. ⌜ (r ≡ newtypes.ctor-told (tables.lines-in (now (t .entry))) d) × (r < 256) ⌝ }
 {
-    if tables::decl_number(s, t, d, 2) == 2 {
-        return tables::decl_number(s, t, d, 0) as usize;
+    if tables::decl_number(t, d, 2) == 2 {
+        return tables::decl_number(t, d, 0) as usize;
     }
-    tables::ctor_number(s, t, tables::first_ctor(s, t, d), 0) as usize
+    tables::ctor_number(t, tables::first_ctor(t, d), 0) as usize
 }
 
 // The first kept field of those from `from` on and before `end`, or `end`.
@@ -78,19 +77,19 @@ fn only_in(keep: &[u8], from: usize, end: usize) -> Only
 }
 
 // The only kept field of declaration d, where it has one constructor (a record counts as one) and keeps one field.
-pub fn only_kept(s: &[u8], t: &[u32], keep: &[u8], d: usize) -> Only
-    requires { ⌜ tables.Tabled (now s) (now t) ⌝ }
-    requires { ⌜ (d < tables.decls-of (sheet.lines 6 (now s))) × keeps.Slotted (sheet.lines 6 (now s)) (now keep) × (rows.count-of program.field-line (sheet.lines 6 (now s)) ≤ length (now keep)) ⌝ }
-    ensures { λ r. ⌜ (layout.newtype-of (kept.ctors-at (program.program (sheet.lines 6 (now (s .entry)))) d) ≡ newtypes.only-told (sheet.lines 6 (now (s .entry))) d r)
-        × ((f : ℕ) → r ≡ only.Field f → (f < rows.count-of program.field-line (sheet.lines 6 (now (s .entry))))
-        × (tables.first-of program.field-line (sheet.lines 6 (now (s .entry))) d ≤ f)
-        × (newtypes.one-ctor (sheet.lines 6 (now (s .entry))) d ≡ true)) ⌝ }
+pub fn only_kept(t: &[u32], keep: &[u8], d: usize) -> Only
+    requires { ⌜ tables.Tabled (now t) ⌝ }
+    requires { ⌜ (d < tables.decls-of (tables.lines-in (now t))) × keeps.Slotted (tables.lines-in (now t)) (now keep) × (rows.count-of program.field-line (tables.lines-in (now t)) ≤ length (now keep)) ⌝ }
+    ensures { λ r. ⌜ (layout.newtype-of (kept.ctors-at (program.program (tables.lines-in (now (t .entry)))) d) ≡ newtypes.only-told (tables.lines-in (now (t .entry))) d r)
+        × ((f : ℕ) → r ≡ only.Field f → (f < rows.count-of program.field-line (tables.lines-in (now (t .entry))))
+        × (tables.first-of program.field-line (tables.lines-in (now (t .entry))) d ≤ f)
+        × (newtypes.one-ctor (tables.lines-in (now (t .entry))) d ≡ true)) ⌝ }
 {
-    if one_ctor(s, t, d) {
+    if one_ctor(t, d) {
         return only_in(
             keep,
-            tables::first_field(s, t, d),
-            tables::first_field(s, t, d + 1),
+            tables::first_field(t, d),
+            tables::first_field(t, d + 1),
         );
     }
     Only::Nothing

@@ -3,7 +3,6 @@ ghost use mathlib.Core.Path.{_≡_};
 ghost use mathlib.Core.List.{_∷_, []};
 ghost use Prim.Native.Nat.{_+_, _*_, _≤_, _<_};
 ghost use lib.ListN.{length, getD};
-ghost use Rattle.sheet.specs.Sheet as sheet;
 ghost use Rattle.meaning.specs.Program as program;
 ghost use Rattle.meaning.specs.Rows as rows;
 ghost use Rattle.tables.specs.Tables as tables;
@@ -11,7 +10,7 @@ ghost use Rattle.arguments.specs.Params as params;
 ghost use Rattle.normal.specs.Nodes.{node};
 ghost use Rattle.model.specs.Decl.{member};
 ghost use Rattle.normal.specs.Forms.{place, variable};
-ghost use Rattle.nodes.specs.Words.{word, node-of};
+ghost use Rattle.nodes.specs.Words.{word};
 ghost use Rattle.node_words.specs.Put.{Put};
 ghost use Rattle.node_words.specs.Own as specs;
 use nodes::pack;
@@ -29,14 +28,14 @@ pub fn put(out: &mut [u64], at: usize, w: u64) -> usize
 }
 
 // The node of Y line y's type itself, where that is neither a variable nor a name.
-pub fn own_word(s: &[u8], t: &[u32], y: usize) -> u64
-    requires { ⌜ tables.Tabled (now s) (now t) ⌝ }
-    requires { ⌜ y < rows.count-of program.type-line (sheet.lines 6 (now s)) ⌝ }
-    ensures { λ r. ⌜ r ≡ word (specs.y-node (sheet.lines 6 (now (s .entry))) y) ⌝ }
+pub fn own_word(t: &[u32], y: usize) -> u64
+    requires { ⌜ tables.Tabled (now t) ⌝ }
+    requires { ⌜ y < rows.count-of program.type-line (tables.lines-in (now t)) ⌝ }
+    ensures { λ r. ⌜ r ≡ word (specs.y-node (tables.lines-in (now (t .entry))) y) ⌝ }
 {
-    let k = tables::type_number(s, t, y, 0);
-    let a = tables::type_number(s, t, y, 1);
-    let b = tables::type_number(s, t, y, 2);
+    let k = tables::type_number(t, y, 0);
+    let a = tables::type_number(t, y, 1);
+    let b = tables::type_number(t, y, 2);
     match k {
         4 => pack(k, a, b),
         5 => pack(k, 0, a),
@@ -51,15 +50,15 @@ pub fn own_word(s: &[u8], t: &[u32], y: usize) -> u64
 }
 
 // The place of v among the parameters of declaration d, and their number where it is none of them.
-pub fn place_of(s: &[u8], t: &[u32], d: usize, v: usize) -> usize
-    requires { ⌜ tables.Tabled (now s) (now t) × (d < tables.decls-of (sheet.lines 6 (now s))) ⌝ }
-    ensures { λ r. ⌜ r ≡ place (params.params-of (sheet.lines 6 (now (s .entry))) d) v ⌝ }
+pub fn place_of(t: &[u32], d: usize, v: usize) -> usize
+    requires { ⌜ tables.Tabled (now t) × (d < tables.decls-of (tables.lines-in (now t))) ⌝ }
+    ensures { λ r. ⌜ r ≡ place (params.params-of (tables.lines-in (now (t .entry))) d) v ⌝ }
 {
-    let first = tables::first_param(s, t, d);
-    let end = tables::first_param(s, t, d + 1);
+    let first = tables::first_param(t, d);
+    let end = tables::first_param(t, d + 1);
     let mut i = 0;
     while first + i < end {
-        if tables::param(s, t, first + i) == v {
+        if tables::param(t, first + i) == v {
             return i;
         }
         i += 1;
@@ -79,12 +78,12 @@ pub fn state(u: &[u16], d: usize) -> usize
 }
 
 // The node of variable v in declaration d, told by its place or by its name; `TAny` where d does not bind it.
-pub fn variable_word(s: &[u8], t: &[u32], d: usize, places: bool, v: u32) -> u64
-    requires { ⌜ tables.Tabled (now s) (now t) × (d < tables.decls-of (sheet.lines 6 (now s))) ⌝ }
-    ensures { λ r. ⌜ r ≡ word (variable (member v (params.params-of (sheet.lines 6 (now (s .entry))) d)) (specs.label places (params.params-of (sheet.lines 6 (now (s .entry))) d) v)) ⌝ }
+pub fn variable_word(t: &[u32], d: usize, places: bool, v: u32) -> u64
+    requires { ⌜ tables.Tabled (now t) × (d < tables.decls-of (tables.lines-in (now t))) ⌝ }
+    ensures { λ r. ⌜ r ≡ word (variable (member v (params.params-of (tables.lines-in (now (t .entry))) d)) (specs.label places (params.params-of (tables.lines-in (now (t .entry))) d) v)) ⌝ }
 {
-    let i = place_of(s, t, d, v as usize);
-    if i >= calls::params(s, t, d) {
+    let i = place_of(t, d, v as usize);
+    if i >= calls::params(t, d) {
         return pack(1, 0, 0);
     }
     if places {

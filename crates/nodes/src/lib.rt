@@ -1,6 +1,6 @@
 // A node of a type in one word: its kind, its count and its own number.
 ghost use mathlib.Core.Path.{_≡_};
-ghost use Rattle.normal.specs.Nodes.{Node, node};
+ghost use Rattle.normal.specs.Nodes.{node};
 ghost use Rattle.nodes.specs.Words.{word, node-of};
 
 // The word of a node, whose kind is cut to four bits and whose count to ten.

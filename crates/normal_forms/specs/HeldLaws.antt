@@ -1,33 +1,10 @@
 -- Words hold the nodes of a type of at most 1,024 nodes whose numbers have room. Assumes nothing.
 use mathlib.Core.Path.{_≡_}
 use mathlib.Core.List.{List, [], _∷_, _++_}
-use Prim.Native.Nat.{ℕ, suc, _+_, _≤_, _<_}
+use Prim.Native.Nat.{ℕ, _+_, _≤_, _<_}
 use native.Mathlib.Omega.{arith}
 use Rattle.sheet.specs.ListLaws.{Every, every-append}
-use Rattle.model.specs.Cty.{
-  Cty,
-  Ctys,
-  TUnit,
-  TAny,
-  TExn,
-  TVar,
-  TInt,
-  TFloat,
-  TConst,
-  TArrow,
-  TApp,
-  TTuple,
-  TBuf,
-  TRef,
-  TInline,
-  nil,
-  cons,
-  lengths,
-  walk,
-  walks,
-  size,
-  sizes,
-}
+use Rattle.model.specs.Cty.{Cty, Ctys, TUnit, TAny, TExn, TVar, TInt, TFloat, TConst, TArrow, TApp, TTuple, TBuf, TRef, TInline, nil, cons, lengths, walk, walks, size, sizes}
 use Rattle.model_laws.specs.Cty.{size-positive}
 use Rattle.meaning.specs.Laws.Output.{TypeNumbers, TypesNumbers}
 use Rattle.normal.specs.Nodes.{Node, node, post, posts}

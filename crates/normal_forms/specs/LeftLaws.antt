@@ -1,8 +1,8 @@
 -- What the table of normal forms and the emission give, in the terms of the source: where the states say what becomes of each
 -- name, every form is what its body resolves to, and the words of a Y line's type are the nodes of what it resolves to.
 -- Assumes nothing.
-use mathlib.Core.Path.{_≡_, refl, ap, ap₂, sym, _∙_, subst}
-use mathlib.Core.List.{List, [], _∷_, map}
+use mathlib.Core.Path.{_≡_, refl, ap, ap₂, _∙_, subst}
+use mathlib.Core.List.{List, map}
 use mathlib.Core.Bool.{Bool, true, false}
 use Prim.Native.Nat.{ℕ, _+_, _*_, _≤_, _<_}
 use native.Mathlib.Omega.{arith}
@@ -11,20 +11,17 @@ use lib.ListN.{length, getD}
 use borrow.Author.Tests.{eqb-true}
 use Rattle.columns.specs.Column.{pick}
 use Rattle.sheet.specs.Line.{Line}
-use Rattle.sheet.specs.Sheet.{lines}
 use Rattle.model.specs.Cty.{Cty}
 use Rattle.model.specs.Decl.{Decl, position, close}
 use Rattle.meaning.specs.Program.{program}
 use Rattle.model.specs.Resolve.{Unfold, gone, newtype, abbreviation, stays, ok, resolve-checked}
-use Rattle.model_laws.specs.Cty.{All, all-of}
-use Rattle.model_laws.specs.Resolve as resolve
+use Rattle.model_laws.specs.Cty.{all-of}
 use Rattle.model.specs.Run.{lay}
 use Rattle.tables.specs.Tables.{decls-of}
 use Rattle.kids.specs.Nodes.{type-of}
 use Rattle.arguments.specs.Params.{params-of}
 use Rattle.normal.specs.Nodes.{Node, post}
 use Rattle.normal.specs.Forms.{place, renamed, nodes}
-use Rattle.normal.specs.FormLaws.{Bound}
 use Rattle.normal.specs.FormsLaws.{Formed, nodes-post, nodes-left}
 use Rattle.normal.specs.TableLaws.{MadeOf, Made, forms-are, Alike, nodes-alike}
 use Rattle.normal.specs.BoundLaws.{program-bound}
@@ -33,7 +30,8 @@ use Rattle.node_words.specs.Own.{label}
 use Rattle.states.specs.States.{body-of, unfold-at, lay-of, Open}
 use Rattle.form_words.specs.Emit.{form-words, form-of, words}
 use Rattle.form_words.specs.CodeLaws.{state-below}
-use Rattle.normal_forms.specs.Tables.{own-words, Table}
+use Rattle.normal_forms.specs.Tables.{Table}
+use Rattle.model_laws.specs.Resolve as resolve
 
 -- how nodes are held: as words
 unfoldable pub held : List Node → List Node
@@ -103,11 +101,8 @@ body-at ls u d = go (eqb (getD u (2 * d) 3) 0) (eqb (getD u (2 * d) 3) 1) refl (
         record { unfolded = (omega arith, omega arith); params = refl; type = refl }
     go false false e1 false e2 = tt
 
-module _ (limit : ℕ) (b u f : List ℕ) (pos : ℕ) (states : length u ≤ 2 * decls-of (lines 6 b)) (table : Table b u f pos (λ d. (d < decls-of (lines 6 b)) × Open u d))
-    (told : (n : ℕ) → Told (lay-of (lines 6 b) u n) (lay (program (lines 6 b)) n)) where
-  abbrev ls : List Line
-  ls = lines 6 b
-
+module _ (limit : ℕ) (ls : List Line) (u f : List ℕ) (pos : ℕ) (states : length u ≤ 2 * decls-of ls) (table : Table ls u f pos (λ d. (d < decls-of ls) × Open u d))
+    (told : (n : ℕ) → Told (lay-of ls u n) (lay (program ls) n)) where
   abbrev ds : List Decl
   ds = program ls
 

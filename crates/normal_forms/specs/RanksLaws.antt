@@ -1,36 +1,34 @@
 -- One declaration after the other, rank by rank. Assumes nothing.
 use mathlib.Core.Logic.{_⊎_, inl, inr, ⊎-elim}
 use mathlib.Core.Path.{_≡_, refl, ap, sym, _∙_, subst}
-use mathlib.Core.List.{List, [], _∷_}
+use mathlib.Core.List.{List}
 use mathlib.Core.Bool.{Bool, true, false}
-use Prim.Native.Nat.{ℕ, zero, suc, _+_, _*_, _≤_, _<_}
+use Prim.Native.Nat.{ℕ, _+_, _*_, _≤_, _<_}
 use native.Mathlib.Omega.{arith}
-use lib.Dec.{eqb, ltb}
+use lib.Dec.{eqb}
 use lib.ListN.{length, getD, set}
 use lib.Seq.{getD-set-same, getD-set-other}
-use borrow.Author.Tests.{eqb-true, eqb-false, ltb-true, ltb-false}
+use borrow.Author.Tests.{eqb-true, eqb-false}
 use Rattle.columns.specs.Column.{pick}
 use Rattle.sheet.specs.Line.{Line}
-use Rattle.sheet.specs.Sheet.{lines}
-use Rattle.model.specs.Cty.{Cty}
 use Rattle.model.specs.Decl.{position}
 use Rattle.meaning.specs.Program.{program}
-use Rattle.model.specs.Resolve.{Unfold, gone, newtype, abbreviation, stays}
-use Rattle.model_laws.specs.Cty.{All, all-map}
+use Rattle.model.specs.Resolve.{gone, newtype, abbreviation, stays}
+use Rattle.model_laws.specs.Cty.{all-map}
 use Rattle.model_laws.specs.Resolve.{Unfolds}
 use Rattle.tables.specs.Tables.{decls-of}
 use Rattle.kids.specs.Nodes.{type-of}
 use Rattle.arguments.specs.Params.{params-of}
 use Rattle.states.specs.States.{body-of, unfold-at, lay-of, Open}
-use Rattle.form_words.specs.Emit.{Asked, Forms}
+use Rattle.form_words.specs.Emit.{Asked}
 use Rattle.form_words.specs.CodeLaws.{state-below}
 use Rattle.normal_forms.specs.Tables.{own-words, with-form, Names, Table, Added}
 use Rattle.normal_forms.specs.TablesLaws.{table-more}
 use Rattle.normal_forms.specs.Ranks.{Ranked, Done, Short, Reached, Formed}
 
 -- the same is done
-pub table-same : (b u f : List ℕ) (pos : ℕ) (P Q : ℕ → Type 0) → ((d : ℕ) → Q d → P d) → ((d : ℕ) → P d → Q d) → Table b u f pos P → Table b u f pos Q
-table-same b u f pos P Q g k t =
+pub table-same : (ls : List Line) (u f : List ℕ) (pos : ℕ) (P Q : ℕ → Type 0) → ((d : ℕ) → Q d → P d) → ((d : ℕ) → P d → Q d) → Table ls u f pos P → Table ls u f pos Q
+table-same ls u f pos P Q g k t =
     record {
       head = t .head;
       room = t .room;
@@ -53,10 +51,7 @@ unfolds-open ls u d h = go (getD u (2 * d) 3) refl (eqb (getD u (2 * d) 3) 0) re
     go x e false e0 false e1 true e2 k = let z : getD u (2 * d) 3 ≡ 2 = eqb-true (getD u (2 * d) 3) 2 e2 in (omega arith, omega arith)
     go x e false e0 false e1 false e2 k = absurd k
 
-module _ (b t u rank : List ℕ) (ranked : Ranked b t u rank) where
-  abbrev ls : List Line
-  ls = lines 6 b
-
+module _ (ls : List Line) (t u rank : List ℕ) (ranked : Ranked ls t u rank) where
   abbrev n : ℕ
   n = decls-of ls
 
@@ -64,12 +59,12 @@ module _ (b t u rank : List ℕ) (ranked : Ranked b t u rank) where
   open-below d o = state-below u d (getD u (2 * d) 3) n refl (o .1) (omega (arith, ranked .long))
 
   -- the unfolded names in a body are done, at a rank that is not below its own
-  pub names-done : (r i d : ℕ) → d < n → Open u d → getD rank d 0 ≤ r → Names ls u (Done b u rank r i) d
+  pub names-done : (r i d : ℕ) → d < n → Open u d → getD rank d 0 ≤ r → Names ls u (Done ls u rank r i) d
   names-done r i d l o q =
-      all-map (λ m. Unfolds (lay-of ls u m) → getD rank (position (program ls) m) 0 < getD rank d 0) (λ m. Unfolds (lay-of ls u m) → Done b u rank r i (position (program ls) m))
+      all-map (λ m. Unfolds (lay-of ls u m) → getD rank (position (program ls) m) 0 < getD rank d 0) (λ m. Unfolds (lay-of ls u m) → Done ls u rank r i (position (program ls) m))
       (λ m k v. let o′ : Open u (position (program ls) m) = unfolds-open ls u (position (program ls) m) v in (open-below (position (program ls) m) o′, o′, omega (arith, k v), λ e. absurd (omega (arith, k v)))) (type-of ls (body-of u d)) (ranked .lower d l o)
 
-  pub asked-body : (f : List ℕ) (pos : ℕ) (P : ℕ → Type 0) (d : ℕ) → Table b u f pos P → d < n → Open u d → Asked b t u f (body-of u d) d
+  pub asked-body : (f : List ℕ) (pos : ℕ) (P : ℕ → Type 0) (d : ℕ) → Table ls u f pos P → d < n → Open u d → Asked ls t u f (body-of u d) d
   asked-body f pos P d t l o =
       record {
         tabled = ranked .tabled;
@@ -81,11 +76,11 @@ module _ (b t u rank : List ℕ) (ranked : Ranked b t u rank) where
 
   module _ (r d : ℕ) (l : d < n) where
     -- a declaration that is not of this rank, or not unfolded
-    pub reached-same : (f : List ℕ) (pos scratch : ℕ) → (Open u d → getD rank d 0 ≡ r → ⊥) → Table b u f pos (Done b u rank r d) → Reached b u rank r (d + 1) scratch f f pos
+    pub reached-same : (f : List ℕ) (pos scratch : ℕ) → (Open u d → getD rank d 0 ≡ r → ⊥) → Table ls u f pos (Done ls u rank r d) → Reached ls u rank r (d + 1) scratch f f pos
     reached-same f pos scratch other t =
         record {
           same = refl;
-          table = λ q. table-same b u f pos (Done b u rank r d) (Done b u rank r (d + 1)) (λ e h. (h .0, h .1, h .2, λ z. below e (h .3 z) (λ y. other (subst (Open u) y (h .1)) (subst (λ (j : ℕ). getD rank j 0 ≡ r) y z)))) (λ e h. (h .0, h .1, h .2, λ z. omega (arith, h .3 z))) t;
+          table = λ q. table-same ls u f pos (Done ls u rank r d) (Done ls u rank r (d + 1)) (λ e h. (h .0, h .1, h .2, λ z. below e (h .3 z) (λ y. other (subst (Open u) y (h .1)) (subst (λ (j : ℕ). getD rank j 0 ≡ r) y z)))) (λ e h. (h .0, h .1, h .2, λ z. omega (arith, h .3 z))) t;
           short = λ q. absurd (omega (arith, t .room));
         }
       where
@@ -93,49 +88,49 @@ module _ (b t u rank : List ℕ) (ranked : Ranked b t u rank) where
         below e h ne = omega arith
 
     -- one that is
-    pub reached-more : (f f′ : List ℕ) (pos scratch e : ℕ) → Open u d → getD rank d 0 ≡ r → Table b u f pos (Done b u rank r d) → Added (own-words ls u f d) scratch d pos f f′ e → Reached b u rank r (d + 1) scratch f f′ e
+    pub reached-more : (f f′ : List ℕ) (pos scratch e : ℕ) → Open u d → getD rank d 0 ≡ r → Table ls u f pos (Done ls u rank r d) → Added (own-words ls u f d) scratch d pos f f′ e → Reached ls u rank r (d + 1) scratch f f′ e
     reached-more f f′ pos scratch e o q t x =
         record {
           same = x .long;
           table = λ k. let z = x .room k in
-              subst (λ (g : List ℕ). Table b u g e (Done b u rank r (d + 1))) (sym (z .1))
-              (subst (λ (j : ℕ). Table b u (with-form f d pos (own-words ls u f d)) j (Done b u rank r (d + 1))) (sym (z .0))
-              (table-same b u (with-form f d pos (own-words ls u f d)) (pos + length (own-words ls u f d)) (λ i. Done b u rank r d i ⊎ (i ≡ d)) (Done b u rank r (d + 1)) (λ i h. split i h (eqb i d) refl) (λ i h. joined i h)
-              (table-more b u f pos (Done b u rank r d) t d l (λ h. absurd (never (h .3 q))) (λ i h. (h .0, names-done r d i (h .0) (h .1) (h .2))) (names-done r d d l o (omega (arith, q))) (omega (arith, z .0, k)))));
+              subst (λ (g : List ℕ). Table ls u g e (Done ls u rank r (d + 1))) (sym (z .1))
+              (subst (λ (j : ℕ). Table ls u (with-form f d pos (own-words ls u f d)) j (Done ls u rank r (d + 1))) (sym (z .0))
+              (table-same ls u (with-form f d pos (own-words ls u f d)) (pos + length (own-words ls u f d)) (λ i. Done ls u rank r d i ⊎ (i ≡ d)) (Done ls u rank r (d + 1)) (λ i h. split i h (eqb i d) refl) (λ i h. joined i h)
+              (table-more ls u f pos (Done ls u rank r d) t d l (λ h. absurd (never (h .3 q))) (λ i h. (h .0, names-done r d i (h .0) (h .1) (h .2))) (names-done r d d l o (omega (arith, q))) (omega (arith, z .0, k)))));
           short = λ k. record { level = r; decl = d; list = f; place = pos; below = l; unfolded = o; of-level = q; table = t; fits = x .full k };
         }
       where
-        here : Done b u rank r (d + 1) d
+        here : Done ls u rank r (d + 1) d
         here = (l, o, omega (arith, q), λ z. omega arith)
 
-        joined : (i : ℕ) → Done b u rank r d i ⊎ (i ≡ d) → Done b u rank r (d + 1) i
+        joined : (i : ℕ) → Done ls u rank r d i ⊎ (i ≡ d) → Done ls u rank r (d + 1) i
         joined i (inl h) = (h .0, h .1, h .2, λ z. omega (arith, h .3 z))
-        joined i (inr z) = subst (λ (j : ℕ). Done b u rank r (d + 1) j) (sym z) here
+        joined i (inr z) = subst (λ (j : ℕ). Done ls u rank r (d + 1) j) (sym z) here
 
         never : d < d → ⊥
         never h = omega arith
 
-        split : (i : ℕ) → Done b u rank r (d + 1) i → (c : Bool) → eqb i d ≡ c → Done b u rank r d i ⊎ (i ≡ d)
+        split : (i : ℕ) → Done ls u rank r (d + 1) i → (c : Bool) → eqb i d ≡ c → Done ls u rank r d i ⊎ (i ≡ d)
         split i h true z = inr (eqb-true i d z)
         split i h false z = inl (h .0, h .1, h .2, λ y. omega (arith, h .3 y, eqb-false i d z))
 
   -- ---- loops
   -- what was reached on the way
-  pub reached-stop : (r i j k sc sc₀ : ℕ) (f₀ g g′ : List ℕ) (e : ℕ) → length g ≡ length f₀ → sc ≡ sc₀ → length f₀ < e → Reached b u rank r i sc g g′ e → Reached b u rank j k sc₀ f₀ g′ e
+  pub reached-stop : (r i j k sc sc₀ : ℕ) (f₀ g g′ : List ℕ) (e : ℕ) → length g ≡ length f₀ → sc ≡ sc₀ → length f₀ < e → Reached ls u rank r i sc g g′ e → Reached ls u rank j k sc₀ f₀ g′ e
   reached-stop r i j k sc sc₀ f₀ g g′ e l m q x =
       record {
         same = x .same ∙ l;
         table = λ z. absurd (omega arith);
-        short = λ z. subst (λ (y : ℕ). Short b u rank y (length f₀)) m (subst (λ (y : ℕ). Short b u rank sc y) l (x .short (omega (arith, l))));
+        short = λ z. subst (λ (y : ℕ). Short ls u rank y (length f₀)) m (subst (λ (y : ℕ). Short ls u rank sc y) l (x .short (omega (arith, l))));
       }
 
-  pub reached-done : (r i sc : ℕ) (f₀ f : List ℕ) (p : ℕ) → length f ≡ length f₀ → Table b u f p (Done b u rank r i) → Reached b u rank r i sc f₀ f p
+  pub reached-done : (r i sc : ℕ) (f₀ f : List ℕ) (p : ℕ) → length f ≡ length f₀ → Table ls u f p (Done ls u rank r i) → Reached ls u rank r i sc f₀ f p
   reached-done r i sc f₀ f p l t = record { same = l; table = λ z. t; short = λ z. absurd (omega (arith, t .room, l)) }
 
   -- the next rank
-  pub next-rank : (r : ℕ) (f : List ℕ) (p : ℕ) → Table b u f p (Done b u rank r n) → Table b u f p (Done b u rank (r + 1) 0)
+  pub next-rank : (r : ℕ) (f : List ℕ) (p : ℕ) → Table ls u f p (Done ls u rank r n) → Table ls u f p (Done ls u rank (r + 1) 0)
   next-rank r f p t =
-      table-same b u f p (Done b u rank r n) (Done b u rank (r + 1) 0) (λ e h. (h .0, h .1, lower-rank (getD rank e 0) (h .2) (λ z. none e (h .3 z)), λ z. h .0)) (λ e h. (h .0, h .1, omega (arith, h .2), λ z. absurd (over (getD rank e 0) (h .2) z))) t
+      table-same ls u f p (Done ls u rank r n) (Done ls u rank (r + 1) 0) (λ e h. (h .0, h .1, lower-rank (getD rank e 0) (h .2) (λ z. none e (h .3 z)), λ z. h .0)) (λ e h. (h .0, h .1, omega (arith, h .2), λ z. absurd (over (getD rank e 0) (h .2) z))) t
     where
       over : (x : ℕ) → x ≤ r → x ≡ r + 1 → ⊥
       over x h z = omega arith
@@ -147,7 +142,7 @@ module _ (b t u rank : List ℕ) (ranked : Ranked b t u rank) where
       lower-rank x h ne = omega arith
 
   -- nothing is done
-  pub first-table : (f : List ℕ) → 2 * n ≤ length f → ((i : ℕ) → i < 2 * n → getD f i 0 ≡ 0) → Table b u f (2 * n) (Done b u rank 0 0)
+  pub first-table : (f : List ℕ) → 2 * n ≤ length f → ((i : ℕ) → i < 2 * n → getD f i 0 ≡ 0) → Table ls u f (2 * n) (Done ls u rank 0 0)
   first-table f h z =
       record {
         head = omega arith;
@@ -166,15 +161,15 @@ module _ (b t u rank : List ℕ) (ranked : Ranked b t u rank) where
       zeroth x k = omega arith
 
   -- every rank is done
-  pub formed-done : (sc : ℕ) (f₀ f : List ℕ) (r p : ℕ) → n ≤ r → length f ≡ length f₀ → Table b u f p (Done b u rank r 0) → Formed b u rank sc f₀ f p
+  pub formed-done : (sc : ℕ) (f₀ f : List ℕ) (r p : ℕ) → n ≤ r → length f ≡ length f₀ → Table ls u f p (Done ls u rank r 0) → Formed ls u rank sc f₀ f p
   formed-done sc f₀ f r p q l t =
       record {
         same = l;
-        table = λ z. table-same b u f p (Done b u rank r 0) (λ d. (d < n) × Open u d) (λ d h. (h .0, h .1, omega (arith, ranked .few d (h .0) (h .1)), λ e. absurd (omega (arith, ranked .few d (h .0) (h .1))))) (λ d h. (h .0, h .1)) t;
+        table = λ z. table-same ls u f p (Done ls u rank r 0) (λ d. (d < n) × Open u d) (λ d h. (h .0, h .1, omega (arith, ranked .few d (h .0) (h .1)), λ e. absurd (omega (arith, ranked .few d (h .0) (h .1))))) (λ d h. (h .0, h .1)) t;
         short = λ z. absurd (omega (arith, t .room, l));
       }
 
-  pub formed-stop : (r i sc sc₀ : ℕ) (f₀ g g′ : List ℕ) (e : ℕ) → length g ≡ length f₀ → sc ≡ sc₀ → length f₀ < e → Reached b u rank r i sc g g′ e → Formed b u rank sc₀ f₀ g′ e
+  pub formed-stop : (r i sc sc₀ : ℕ) (f₀ g g′ : List ℕ) (e : ℕ) → length g ≡ length f₀ → sc ≡ sc₀ → length f₀ < e → Reached ls u rank r i sc g g′ e → Formed ls u rank sc₀ f₀ g′ e
   formed-stop r i sc sc₀ f₀ g g′ e l m q x =
       let y = reached-stop r i r i sc sc₀ f₀ g g′ e l m q x in
       record { same = y .same; table = λ z. absurd (omega arith); short = y .short }

@@ -6,7 +6,6 @@ use mathlib.Core.Bool.{true}
 use Prim.Native.Nat.{ℕ, zero, suc, _+_, _*_, _≤_, _<_}
 use lib.ListN.{length, getD, take, drop, set}
 use Rattle.sheet.specs.Line.{Line}
-use Rattle.sheet.specs.Sheet.{lines}
 use Rattle.model.specs.Decl.{position}
 use Rattle.meaning.specs.Program.{program}
 use Rattle.tables.specs.Tables.{decls-of}
@@ -34,14 +33,14 @@ counts f zero = 0
 counts f (suc n) = counts f n + getD f (2 * n + 1) 0
 
 -- The forms of the declarations that are done are there, one behind the other below place pos and above the cells.
-pub record Table (b u f : List ℕ) (pos : ℕ) (Done : ℕ → Type 0) : Type 0 where
-  pub head : 2 * decls-of (lines 6 b) ≤ pos
+pub record Table (ls : List Line) (u f : List ℕ) (pos : ℕ) (Done : ℕ → Type 0) : Type 0 where
+  pub head : 2 * decls-of ls ≤ pos
   pub room : pos ≤ length f
-  pub cells : (d : ℕ) → d < decls-of (lines 6 b) → getD f (2 * d) 0 + getD f (2 * d + 1) 0 ≤ pos
-  pub above : (d : ℕ) → Done d → 2 * decls-of (lines 6 b) ≤ getD f (2 * d) 0
-  pub right : (d : ℕ) → Done d → form-words f d ≡ own-words (lines 6 b) u f d
-  pub used : pos ≤ 2 * decls-of (lines 6 b) + counts f (decls-of (lines 6 b))
-  pub fresh : (d : ℕ) → d < decls-of (lines 6 b) → Done d ⊎ (getD f (2 * d + 1) 0 ≡ 0)
+  pub cells : (d : ℕ) → d < decls-of ls → getD f (2 * d) 0 + getD f (2 * d + 1) 0 ≤ pos
+  pub above : (d : ℕ) → Done d → 2 * decls-of ls ≤ getD f (2 * d) 0
+  pub right : (d : ℕ) → Done d → form-words f d ≡ own-words ls u f d
+  pub used : pos ≤ 2 * decls-of ls + counts f (decls-of ls)
+  pub fresh : (d : ℕ) → d < decls-of ls → Done d ⊎ (getD f (2 * d + 1) 0 ≡ 0)
 
 -- The words ws are added to the list f as declaration d's, r the place after them; where the list, or the scratch of so
 -- many words, is too short, r is past the end.

@@ -6,12 +6,10 @@ use mathlib.Core.Bool.{Bool, true, false}
 use Prim.Native.Nat.{ℕ, zero, suc, _+_, _-_, _*_, _≤_, _<_}
 use native.Mathlib.Omega.{arith}
 use lib.Dec.{eqb}
-use lib.ListN.{length, getD, take, drop, set, length-append, length-take, length-drop, length-set, take-append-drop, List·getD-append}
-use lib.Seq.{getD-set-same, getD-set-other, take-at, drop-at, drop-append-le, drop-append-add, take-append-le, drop-drop, getD-take, length-take-le}
+use lib.ListN.{length, getD, take, drop, set, length-append, length-drop, length-set, take-append-drop, List·getD-append}
+use lib.Seq.{getD-set-same, getD-set-other, take-at, drop-at, drop-append-le, take-append-le, getD-take, length-take-le}
 use borrow.Author.Tests.{eqb-true, eqb-false}
 use Rattle.sheet.specs.Line.{Line}
-use Rattle.sheet.specs.Sheet.{lines}
-use Rattle.model.specs.Cty.{Cty}
 use Rattle.model.specs.Decl.{position}
 use Rattle.meaning.specs.Program.{program}
 use Rattle.model.specs.Resolve.{Unfold, gone, newtype, abbreviation, stays}
@@ -21,7 +19,6 @@ use Rattle.tables.specs.Tables.{decls-of}
 use Rattle.kids.specs.Nodes.{type-of}
 use Rattle.arguments.specs.Params.{params-of}
 use Rattle.normal.specs.Nodes.{Node}
-use Rattle.normal.specs.Forms.{nodes}
 use Rattle.normal.specs.TableLaws.{Alike, nodes-alike}
 use Rattle.nodes.specs.Words.{word, node-of}
 use Rattle.node_words.specs.Own.{label}
@@ -157,12 +154,9 @@ counts-more f g d x (suc n) h z s l = go (counts-more f g d x n (λ k q. h k (om
         other i = omega arith
 
 -- ---- a declaration more
-module _ (b u f : List ℕ) (pos : ℕ) (Done : ℕ → Type 0) (table : Table b u f pos Done) (d : ℕ) (below : d < decls-of (lines 6 b)) (new : Done d → ⊥)
-    (inner : (e : ℕ) → Done e → (e < decls-of (lines 6 b)) × Names (lines 6 b) u Done e) (names : Names (lines 6 b) u Done d)
-    (inside : pos + length (own-words (lines 6 b) u f d) ≤ length f) where
-  abbrev ls : List Line
-  ls = lines 6 b
-
+module _ (ls : List Line) (u f : List ℕ) (pos : ℕ) (Done : ℕ → Type 0) (table : Table ls u f pos Done) (d : ℕ) (below : d < decls-of ls) (new : Done d → ⊥)
+    (inner : (e : ℕ) → Done e → (e < decls-of ls) × Names ls u Done e) (names : Names ls u Done d)
+    (inside : pos + length (own-words ls u f d) ≤ length f) where
   abbrev ws : List ℕ
   ws = own-words ls u f d
 
@@ -192,7 +186,7 @@ module _ (b u f : List ℕ) (pos : ℕ) (Done : ℕ → Type 0) (table : Table b
       rw (with-other f ws d pos (decls-of ls) (table .head) below inside (2 * e) (omega (arith, table .head)) (λ z. n (half e d z)) (λ z. apart e d z), with-other f ws d pos (decls-of ls) (table .head) below inside (2 * e + 1) (omega (arith, table .head)) (λ z. apart d e (sym z)) (λ z. n (half1 e d z)))
       (omega (arith, table .cells e l))
 
-  pub table-more : Table b u f′ (pos + length ws) Now
+  pub table-more : Table ls u f′ (pos + length ws) Now
   table-more =
       record {
         head = omega (arith, table .head);

@@ -3,7 +3,6 @@ use mathlib.Core.Path.{_≡_}
 use mathlib.Core.List.{List}
 use Prim.Native.Nat.{ℕ, _*_, _≤_}
 use lib.ListN.{length}
-use Rattle.sheet.specs.Sheet.{lines}
 use Rattle.model.specs.Erasure.{erasure-fixpoint}
 use Rattle.model.specs.Run.{unfold-next, layouts-of}
 use Rattle.meaning.specs.Program.{field-line, program}
@@ -12,9 +11,10 @@ use Rattle.tables.specs.Tables.{decls-of}
 use Rattle.keeps.specs.Keeps.{Slotted}
 use Rattle.states.specs.States.{Settled}
 use Rattle.loops.specs.Loops.{First}
+use Rattle.passes.specs.declared.Run.{Run}
+use Rattle.sheet.specs.Line.{Line}
 use Rattle.screening.specs.Screening as screening
 use Rattle.returning.specs.Returning as returning
-use Rattle.passes.specs.declared.Run.{Run}
 
 -- memory for n declarations, in sets of so many words
 pub record Room (n words : ℕ) (u rank fields bodies steps marks queue found : List ℕ) : Type 0 where
@@ -31,13 +31,13 @@ pub record Lent (n types words : ℕ) (sets u rank : List ℕ) : Type 0 where
   pub ranks : length rank ≡ n
 
 -- what becomes of each name, and row 8 with the ranks
-pub record Judged (b u : List ℕ) (r : ℕ) (rank rank′ : List ℕ) : Type 0 where
-  pub settled : Settled b u
-  pub first-of : First (unfold-next (program (lines 6 b)) (layouts-of (program (lines 6 b)))) (decls-of (lines 6 b)) r rank rank′
+pub record Judged (ls : List Line) (u : List ℕ) (r : ℕ) (rank rank′ : List ℕ) : Type 0 where
+  pub settled : Settled ls u
+  pub first-of : First (unfold-next (program ls) (layouts-of (program ls))) (decls-of ls) r rank rank′
 
 -- the rounds, the keep table, and these
-pub record Ran (b keep u : List ℕ) (r : Run) (rank rank′ : List ℕ) : Type 0 where
-  pub counted : r .rounds ≡ erasure-fixpoint (program (lines 6 b)) .rounds
-  pub slotted : Slotted (lines 6 b) keep
-  pub long : count-of field-line (lines 6 b) ≤ length keep
-  pub judged : Judged b u (r .returning) rank rank′
+pub record Ran (ls : List Line) (keep u : List ℕ) (r : Run) (rank rank′ : List ℕ) : Type 0 where
+  pub counted : r .rounds ≡ erasure-fixpoint (program ls) .rounds
+  pub slotted : Slotted ls keep
+  pub long : count-of field-line ls ≤ length keep
+  pub judged : Judged ls u (r .returning) rank rank′

@@ -6,30 +6,30 @@ use Prim.Native.Nat.{ℕ, zero, suc, _-_, _*_, _≤_}
 use native.Mathlib.Omega.{arith}
 use lib.ListN.{length, take, replicate, length-replicate}
 use lib.Seq.{length-take-le}
-use Rattle.sheet.specs.Sheet.{lines}
 use Rattle.meaning.specs.Program.{type-line, field-line}
 use Rattle.meaning.specs.Rows.{count-of}
-use Rattle.refusals.specs.Rows.{Passed}
+use Rattle.declared.specs.Passed.{Passed}
 use Rattle.tables.specs.Tables.{decls-of}
 use Rattle.erasure.specs.declared.Erasure.{Erasure}
 use Rattle.erasure.specs.Fixpoint.{Fixpoint}
 use Rattle.erasure.specs.FixpointLaws.{types-few, decls-few}
 use Rattle.keeps.specs.Keeps.{Erased, Slotted}
 use Rattle.candidates.specs.Candidates.{Ruled}
-use Rattle.returning.specs.Returning as returning
 use Rattle.passes.specs.Passes.{Room, Lent}
+use Rattle.sheet.specs.Line.{Line}
+use Rattle.returning.specs.Returning as returning
 
 -- ---- erasure
-module _ (b : List ℕ) (p : Passed b) (r : Erasure) (f : Fixpoint (lines 6 b) r) where
+module _ (ls : List Line) (p : Passed ls) (r : Erasure) (f : Fixpoint ls r) where
   -- the array of the marks of types serves the keep table,
-  pub erased-of : length (r .node) ≡ 1024 → Erased (lines 6 b) (r .node)
-  erased-of l = record { marks = f .types; size = omega (arith, types-few b p) }
+  pub erased-of : length (r .node) ≡ 1024 → Erased ls (r .node)
+  erased-of l = record { marks = f .types; size = omega (arith, types-few ls p) }
 
   -- and the first marks of declarations serve the layouts
-  pub ruled-of : length (r .decl) ≡ 96 → (n : ℕ) → n ≡ decls-of (lines 6 b) → (keep : List ℕ) → Slotted (lines 6 b) keep → count-of field-line (lines 6 b) ≤ length keep → Ruled (lines 6 b) (take (n - 0) (r .decl)) keep
+  pub ruled-of : length (r .decl) ≡ 96 → (n : ℕ) → n ≡ decls-of ls → (keep : List ℕ) → Slotted ls keep → count-of field-line ls ≤ length keep → Ruled ls (take (n - 0) (r .decl)) keep
   ruled-of l n e keep s k =
-      let h : n - 0 ≡ decls-of (lines 6 b) = omega arith in
-      rw h (record { marked = record { marks = f .marks; long = length-take-le (decls-of (lines 6 b)) (r .decl) (omega (arith, decls-few b p)) }; slotted = s; long = k })
+      let h : n - 0 ≡ decls-of ls = omega arith in
+      rw h (record { marked = record { marks = f .marks; long = length-take-le (decls-of ls) (r .decl) (omega (arith, decls-few ls p)) }; slotted = s; long = k })
 
 -- ---- memory
 -- m rows of at most two words
@@ -44,12 +44,12 @@ front : (n : ℕ) → n ≤ 96 → length {A = ℕ} (take (n - 0) (replicate 96 
 front n h = let e : n - 0 ≡ n = omega arith in rw e (length-take-le n (replicate 96 0) (rw length-replicate h))
 
 -- local arrays are room enough
-pub room-of : (b : List ℕ) → Passed b → (n words : ℕ) (u rank : List ℕ) → n ≡ decls-of (lines 6 b) → words ≤ 2 → length u ≡ 2 * decls-of (lines 6 b) → length rank ≡ decls-of (lines 6 b)
-    → Room (decls-of (lines 6 b)) words u rank (take (n - 0) (replicate 96 0)) (take (n - 0) (replicate 96 0)) (replicate 192 0) (replicate 2 0) (replicate 96 0) (replicate 96 0)
-room-of b p n words u rank e w cells ranks =
-    let d : decls-of (lines 6 b) ≤ 96 = decls-few b p in
-    let h : length {A = ℕ} (take (n - 0) (replicate 96 0)) ≡ decls-of (lines 6 b) = front n (omega arith) ∙ e in
-    let s : decls-of (lines 6 b) * words ≤ length {A = ℕ} (replicate 192 0) = rw length-replicate (two-words (decls-of (lines 6 b)) words 96 d w) in
+pub room-of : (ls : List Line) → Passed ls → (n words : ℕ) (u rank : List ℕ) → n ≡ decls-of ls → words ≤ 2 → length u ≡ 2 * decls-of ls → length rank ≡ decls-of ls
+    → Room (decls-of ls) words u rank (take (n - 0) (replicate 96 0)) (take (n - 0) (replicate 96 0)) (replicate 192 0) (replicate 2 0) (replicate 96 0) (replicate 96 0)
+room-of ls p n words u rank e w cells ranks =
+    let d : decls-of ls ≤ 96 = decls-few ls p in
+    let h : length {A = ℕ} (take (n - 0) (replicate 96 0)) ≡ decls-of ls = front n (omega arith) ∙ e in
+    let s : decls-of ls * words ≤ length {A = ℕ} (replicate 192 0) = rw length-replicate (two-words (decls-of ls) words 96 d w) in
     record {
       screened =
           record {
@@ -66,7 +66,7 @@ pub returned-of : (n words : ℕ) (bodies steps rank bodies′ steps′ : List �
 returned-of n words bodies steps rank bodies′ steps′ r e g = record { limit = r .limit; bodies-long = e ∙ r .bodies-long; steps-long = rw g (r .steps-long); rank-long = r .rank-long }
 
 -- m words are enough for the sets of the sheet's types
-pub lent-of : (b : List ℕ) (n types words m : ℕ) (u rank : List ℕ) → n ≡ decls-of (lines 6 b) → types ≡ count-of type-line (lines 6 b) → n ≤ 64 * words → words ≤ 2 → types * words ≤ m
-    → length u ≡ 2 * decls-of (lines 6 b) → length rank ≡ decls-of (lines 6 b) → Lent (decls-of (lines 6 b)) (count-of type-line (lines 6 b)) words (replicate m 0) u rank
-lent-of b n types words m u rank e g wide few long cells ranks =
+pub lent-of : (ls : List Line) (n types words m : ℕ) (u rank : List ℕ) → n ≡ decls-of ls → types ≡ count-of type-line ls → n ≤ 64 * words → words ≤ 2 → types * words ≤ m
+    → length u ≡ 2 * decls-of ls → length rank ≡ decls-of ls → Lent (decls-of ls) (count-of type-line ls) words (replicate m 0) u rank
+lent-of ls n types words m u rank e g wide few long cells ranks =
     record { wide = omega arith; few = few; long = rw (length-replicate, ← g) long; cells = cells; ranks = ranks }

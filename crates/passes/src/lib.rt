@@ -2,10 +2,9 @@
 ghost use mathlib.Core.Path.{_≡_};
 ghost use Prim.Native.Nat.{_*_, _≤_};
 ghost use lib.ListN.{length};
-ghost use Rattle.sheet.specs.Sheet.{lines};
 ghost use Rattle.meaning.specs.Program.{type-line, field-line};
 ghost use Rattle.meaning.specs.Rows.{count-of};
-ghost use Rattle.tables.specs.Tables.{Tabled, decls-of};
+ghost use Rattle.tables.specs.Tables.{Tabled, decls-of, lines-in};
 ghost use Rattle.candidates.specs.Candidates.{Ruled};
 ghost use Rattle.namesets.specs.Mentions.{Mentioned};
 ghost use Rattle.passes.specs.Passes.{Room, Lent, Judged, Ran};
@@ -18,7 +17,6 @@ pub struct Run {
 
 // The verdicts, what becomes of each name, and row 8, in lent memory.
 fn judged(
-    s: &[u8],
     t: &[u32],
     decl: &[u8],
     keep: &[u8],
@@ -33,13 +31,12 @@ fn judged(
     queue: &mut [u16],
     found: &mut [u8],
 ) -> usize
-    requires { ⌜ Tabled (now s) (now t) × Ruled (lines 6 (now s)) (now decl) (now keep) ⌝ }
-    requires { ⌜ Mentioned (lines 6 (now s)) words (now sets) (count-of type-line (lines 6 (now s))) ⌝ }
-    requires { ⌜ Room (decls-of (lines 6 (now s))) words (now u) (now rank) (now fields) (now bodies) (now steps) (now marks) (now queue) (now found) ⌝ }
-    ensures { λ r. ⌜ Judged (now (s .entry)) (now (u .exit)) r (now (rank .entry)) (now (rank .exit)) ⌝ }
+    requires { ⌜ Tabled (now t) × Ruled (lines-in (now t)) (now decl) (now keep) ⌝ }
+    requires { ⌜ Mentioned (lines-in (now t)) words (now sets) (count-of type-line (lines-in (now t))) ⌝ }
+    requires { ⌜ Room (decls-of (lines-in (now t))) words (now u) (now rank) (now fields) (now bodies) (now steps) (now marks) (now queue) (now found) ⌝ }
+    ensures { λ r. ⌜ Judged (lines-in (now (t .entry))) (now (u .exit)) r (now (rank .entry)) (now (rank .exit)) ⌝ }
 {
     let vs = screening::verdicts(
-        s,
         t,
         decl,
         keep,
@@ -52,13 +49,12 @@ fn judged(
         queue,
         found,
     );
-    name_states::states(s, t, vs, u);
-    returning::returning(s, t, u, sets, words, bodies, steps, rank)
+    name_states::states(t, vs, u);
+    returning::returning(t, u, sets, words, bodies, steps, rank)
 }
 
 // The same, with the sets of the names of types in lent memory.
 fn mentioned(
-    s: &[u8],
     t: &[u32],
     decl: &[u8],
     keep: &[u8],
@@ -67,12 +63,12 @@ fn mentioned(
     u: &mut [u16],
     rank: &mut [u16],
 ) -> usize
-    requires { ⌜ Tabled (now s) (now t) × Ruled (lines 6 (now s)) (now decl) (now keep) ⌝ }
-    requires { ⌜ Lent (decls-of (lines 6 (now s))) (count-of type-line (lines 6 (now s))) words (now sets) (now u) (now rank) ⌝ }
-    ensures { λ r. ⌜ Judged (now (s .entry)) (now (u .exit)) r (now (rank .entry)) (now (rank .exit)) ⌝ }
+    requires { ⌜ Tabled (now t) × Ruled (lines-in (now t)) (now decl) (now keep) ⌝ }
+    requires { ⌜ Lent (decls-of (lines-in (now t))) (count-of type-line (lines-in (now t))) words (now sets) (now u) (now rank) ⌝ }
+    ensures { λ r. ⌜ Judged (lines-in (now (t .entry))) (now (u .exit)) r (now (rank .entry)) (now (rank .exit)) ⌝ }
 {
-    mentions::mentions(s, t, sets, words);
-    let n = tables::decls(s, t);
+    mentions::mentions(t, sets, words);
+    let n = tables::decls(t);
     let mut fields = [0u16; 96];
     let mut bodies = [0u16; 96];
     let mut steps = [0u64; 192];
@@ -80,7 +76,6 @@ fn mentioned(
     let mut queue = [0u16; 96];
     let mut found = [0u8; 96];
     judged(
-        s,
         t,
         decl,
         keep,
@@ -109,32 +104,32 @@ fn words_for(n: usize) -> usize
 }
 
 // In as many words as the sheet's types need: few for nearly every sheet.
-fn named(s: &[u8], t: &[u32], decl: &[u8], keep: &[u8], u: &mut [u16], rank: &mut [u16]) -> usize
-    requires { ⌜ Tabled (now s) (now t) × Ruled (lines 6 (now s)) (now decl) (now keep) ⌝ }
-    requires { ⌜ (length (now u) ≡ 2 * decls-of (lines 6 (now s))) × (length (now rank) ≡ decls-of (lines 6 (now s))) ⌝ }
-    ensures { λ r. ⌜ Judged (now (s .entry)) (now (u .exit)) r (now (rank .entry)) (now (rank .exit)) ⌝ }
+fn named(t: &[u32], decl: &[u8], keep: &[u8], u: &mut [u16], rank: &mut [u16]) -> usize
+    requires { ⌜ Tabled (now t) × Ruled (lines-in (now t)) (now decl) (now keep) ⌝ }
+    requires { ⌜ (length (now u) ≡ 2 * decls-of (lines-in (now t))) × (length (now rank) ≡ decls-of (lines-in (now t))) ⌝ }
+    ensures { λ r. ⌜ Judged (lines-in (now (t .entry))) (now (u .exit)) r (now (rank .entry)) (now (rank .exit)) ⌝ }
 {
-    let words = words_for(tables::decls(s, t));
-    if tables::types(s, t) * words <= 192 {
+    let words = words_for(tables::decls(t));
+    if tables::types(t) * words <= 192 {
         let mut sets = [0u64; 192];
-        return mentioned(s, t, decl, keep, &mut sets, words, u, rank);
+        return mentioned(t, decl, keep, &mut sets, words, u, rank);
     }
     let mut sets = [0u64; 2048];
-    mentioned(s, t, decl, keep, &mut sets, words, u, rank)
+    mentioned(t, decl, keep, &mut sets, words, u, rank)
 }
 
 // All passes: the keep table, what becomes of each name, and the ranks of declarations where none returns to itself.
-pub fn passes(s: &[u8], t: &[u32], keep: &mut [u8], u: &mut [u16], rank: &mut [u16]) -> Run
-    requires { ⌜ Tabled (now s) (now t) × (count-of field-line (lines 6 (now s)) ≤ length (now keep)) ⌝ }
-    requires { ⌜ (length (now u) ≡ 2 * decls-of (lines 6 (now s))) × (length (now rank) ≡ decls-of (lines 6 (now s))) ⌝ }
-    ensures { λ r. ⌜ Ran (now (s .entry)) (now (keep .exit)) (now (u .exit)) r (now (rank .entry)) (now (rank .exit)) ⌝ }
+pub fn passes(t: &[u32], keep: &mut [u8], u: &mut [u16], rank: &mut [u16]) -> Run
+    requires { ⌜ Tabled (now t) × (count-of field-line (lines-in (now t)) ≤ length (now keep)) ⌝ }
+    requires { ⌜ (length (now u) ≡ 2 * decls-of (lines-in (now t))) × (length (now rank) ≡ decls-of (lines-in (now t))) ⌝ }
+    ensures { λ r. ⌜ Ran (lines-in (now (t .entry))) (now (keep .exit)) (now (u .exit)) r (now (rank .entry)) (now (rank .exit)) ⌝ }
 {
-    let e = fixpoints::erasure_fixpoint(s, t);
+    let e = fixpoints::erasure_fixpoint(t);
     let node = e.node;
     let decl = e.decl;
-    keeps::keep_fields(s, t, &node, keep);
-    let n = tables::decls(s, t);
-    let returning = named(s, t, &decl[0..n], keep, u, rank);
+    keeps::keep_fields(t, &node, keep);
+    let n = tables::decls(t);
+    let returning = named(t, &decl[0..n], keep, u, rank);
     Run {
         rounds: e.rounds,
         returning,

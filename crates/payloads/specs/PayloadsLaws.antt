@@ -7,19 +7,18 @@ use native.Mathlib.Omega.{arith}
 use lib.Dec.{eqb}
 use borrow.Author.Tests.{ne-eqb}
 use Rattle.columns.specs.Column.{pick}
-use Rattle.sheet.specs.Line.{number}
-use Rattle.sheet.specs.Sheet.{lines}
+use Rattle.sheet.specs.Line.{number, Line}
 use Rattle.model.specs.Cty.{Cty, TUnit, TAny, TExn, TVar, TInt, TFloat, TConst, TArrow, TApp, TTuple, TBuf, TRef, TInline, walk, uninline}
 use Rattle.model.specs.Decl.{member, close}
 use Rattle.meaning.specs.Program.{type-line, field-line, tree, trees}
 use Rattle.meaning.specs.Rows.{count-of}
 use Rattle.type_lines.specs.TypeLists.{types-of}
-use Rattle.refusals.specs.Rows.{Passed}
+use Rattle.declared.specs.Passed.{Passed}
 use Rattle.declared.specs.TypeLaws.{good-inline, good-type-at, type-tree}
-use Rattle.bodies.specs.BodiesLaws as bodies
 use Rattle.kids.specs.Nodes.{type-of, kind-of, y-line}
 use Rattle.kept.specs.Kept.{field-type}
 use Rattle.payloads.specs.Payloads.{Payload}
+use Rattle.bodies.specs.BodiesLaws as bodies
 
 -- ---- closing
 -- An outer `TInline` goes before the parameters are looked at or after.
@@ -66,23 +65,23 @@ plain-tree ts xs kind a b c h =
     arm false x w e f = f
 
 -- y is the type of F line f
-module _ (b : List ℕ) (p : Passed b) (f : ℕ) (h : f < count-of field-line (lines 6 b)) (y : ℕ) (is : y ≡ field-type (lines 6 b) f) where
-  pub inside : y < count-of type-line (lines 6 b)
-  inside = rw is (bodies.field-types b p f h)
+module _ (ls : List Line) (p : Passed ls) (f : ℕ) (h : f < count-of field-line ls) (y : ℕ) (is : y ≡ field-type ls f) where
+  pub inside : y < count-of type-line ls
+  inside = rw is (bodies.field-types ls p f h)
 
-  pub payload-inline : (r : ℕ) → kind-of (lines 6 b) y ≡ 12 → r ≡ number (y-line (lines 6 b) y) 1 → Payload (lines 6 b) f r
+  pub payload-inline : (r : ℕ) → kind-of ls y ≡ 12 → r ≡ number (y-line ls y) 1 → Payload ls f r
   unfolding tree uninline
   payload-inline r e q =
-      let l : number (y-line (lines 6 b) y) 1 < y = good-inline _ _ _ _ (good-type-at b p y inside) e in
+      let l : number (y-line ls y) 1 < y = good-inline _ _ _ _ (good-type-at ls p y inside) e in
       rw q
       (record {
         inside = omega (arith, inside, l);
-        type = sym (ap uninline (type-tree b p y inside) ∙ rw e) ∙ ap (λ (z : ℕ). uninline (type-of (lines 6 b) z)) is;
+        type = sym (ap uninline (type-tree ls p y inside) ∙ rw e) ∙ ap (λ (z : ℕ). uninline (type-of ls z)) is;
       })
 
-  pub payload-plain : (kind-of (lines 6 b) y ≡ 12 → ⊥) → Payload (lines 6 b) f y
+  pub payload-plain : (kind-of ls y ≡ 12 → ⊥) → Payload ls f y
   payload-plain n =
       record {
         inside = inside;
-        type = type-tree b p y inside ∙ plain-tree (trees (lines 6 b)) (types-of (lines 6 b)) _ _ _ _ n ∙ sym (ap uninline (type-tree b p y inside)) ∙ ap (λ (z : ℕ). uninline (type-of (lines 6 b) z)) is;
+        type = type-tree ls p y inside ∙ plain-tree (trees ls) (types-of ls) _ _ _ _ n ∙ sym (ap uninline (type-tree ls p y inside)) ∙ ap (λ (z : ℕ). uninline (type-of ls z)) is;
       }

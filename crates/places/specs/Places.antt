@@ -85,7 +85,7 @@ pub record Writes (f : Writing) (p r : Place) (out out′ : List ℕ) : Type 0 w
 
 -- ---- types
 -- Y line y's type in declaration d can be written: its words are the nodes of what it resolves to, at most n.
-pub record Typed (b t u f : List ℕ) (y d n : ℕ) : Type 0 where
-  pub asked : Asked b t u f y d
-  pub nodes : map node-of (words (lines 6 b) u f d false y) ≡ post (left-type (lines 6 b) d y)
-  pub small : size (left-type (lines 6 b) d y) ≤ n
+pub record Typed (ls : List Line) (t u f : List ℕ) (y d n : ℕ) : Type 0 where
+  pub asked : Asked ls t u f y d
+  pub nodes : map node-of (words ls u f d false y) ≡ post (left-type ls d y)
+  pub small : size (left-type ls d y) ≤ n

@@ -1,9 +1,8 @@
 -- What is written one after the other, and the room for it. Assumes nothing.
-use mathlib.Core.Path.{_≡_, refl, ap, ap₂, sym, _∙_, subst, fun-ext}
+use mathlib.Core.Path.{_≡_, refl, ap, sym, _∙_, subst, fun-ext}
 use mathlib.Core.List.{List, [], _∷_, _++_, map, append-assoc, append-nil}
-use Prim.Native.Nat.{ℕ, zero, suc, _+_, _*_, _-_, _≤_, _<_}
+use Prim.Native.Nat.{ℕ, suc, _+_, _*_, _-_, _≤_, _<_}
 use native.Mathlib.Omega.{arith}
-use native.Mathlib.Numerals.{add-one}
 use mathlib.Core.Bool.{Bool, true, false}
 use borrow.Author.Tests.{leb-true, leb-false}
 use lib.Dec.{leb}
@@ -14,7 +13,7 @@ use Rattle.sheet.specs.Line.{Line, row, encode}
 use Rattle.sheet.specs.LineLaws.{row-length}
 use Rattle.sheet.specs.ListLaws.{Every, every-append}
 use Rattle.sheet.specs.Output.{putAt, puts}
-use Rattle.sheet.specs.OutputLaws.{Whole, length-put}
+use Rattle.sheet.specs.OutputLaws.{Whole}
 use Rattle.model.specs.Cty.{Cty, size}
 use Rattle.meaning.specs.Program.{type-line}
 use Rattle.meaning.specs.Output.{Written, last, emit, Lines}
@@ -24,16 +23,17 @@ use Rattle.normal.specs.NodesLaws.{length-post, emit-args, emit-types}
 use Rattle.emitter.specs.Lines.{arg-row}
 use Rattle.emitter.specs.LinesLaws.{puts-last, length-puts, args-whole}
 use Rattle.emitter.specs.declared.Pen.{Pen}
-use Rattle.emitter.specs.Pens as pens
 use Rattle.emitter.specs.Pens.{Sheet, sheet, moved, write-line, write-lines}
 use Rattle.emitter.specs.LaidLaws.{laid, puts-put, Shows, Space, shows-type}
 use Rattle.nodes.specs.Words.{node-of}
 use Rattle.node_words.specs.Put.{Put}
 use Rattle.form_words.specs.Emit.{words}
-use Rattle.sheet.specs.Sheet.{lines}
+use Rattle.sheet.specs.Sheet.{lines, line}
 use Rattle.lefts.specs.Lefts.{left-type}
 use Rattle.places.specs.declared.Place.{Place}
 use Rattle.places.specs.Places.{Writing, none, one, numbered, typed, more, seq, Growing, At, Inside, Room, Writes, Typed}
+use Rattle.model.specs.Erasure.{start}
+use Rattle.emitter.specs.Pens as pens
 
 -- ---- lengths
 fives-whole : (ts : List (List ℕ)) → Every (λ ns. length ns ≡ 5) ts → Whole 6 (map (row type-line) ts)
@@ -268,13 +268,13 @@ type-writes c p q out out′ st st′ e =
     }
 
 -- ---- the words of a type in the scratch
-module _ (b t u f : List ℕ) (y d : ℕ) (scratch : List ℕ) (ready : Typed b t u f y d (length scratch)) (r : ℕ) (res : List ℕ)
-    (put : Put (words (lines 6 b) u f d false y) scratch 0 r res) where
+module _ (ls : List Line) (t u f : List ℕ) (y d : ℕ) (scratch : List ℕ) (ready : Typed ls t u f y d (length scratch)) (r : ℕ) (res : List ℕ)
+    (put : Put (words ls u f d false y) scratch 0 r res) where
   abbrev ws : List ℕ
-  ws = words (lines 6 b) u f d false y
+  ws = words ls u f d false y
 
-  count-words : length ws ≡ size (left-type (lines 6 b) d y)
-  count-words = sym (length-map ws node-of) ∙ (ap length (ready .nodes) ∙ length-post (left-type (lines 6 b) d y))
+  count-words : length ws ≡ size (left-type ls d y)
+  count-words = sym (length-map ws node-of) ∙ (ap length (ready .nodes) ∙ length-post (left-type ls d y))
 
   pub words-fit : r ≤ length scratch
   words-fit = go (leb r (length scratch)) refl
@@ -283,7 +283,7 @@ module _ (b t u f : List ℕ) (y d : ℕ) (scratch : List ℕ) (ready : Typed b 
       go true e = leb-true r (length scratch) e
       go false e = let l : length scratch < r = leb-false r (length scratch) e in absurd (omega (arith, put .full l, count-words, ready .small))
 
-  pub nodes-taken : map node-of (take (r - 0) (drop 0 res)) ≡ post (left-type (lines 6 b) d y)
+  pub nodes-taken : map node-of (take (r - 0) (drop 0 res)) ≡ post (left-type ls d y)
   nodes-taken =
       let x = put .room words-fit in
       let e : r - 0 ≡ r = omega arith in

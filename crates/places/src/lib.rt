@@ -8,6 +8,7 @@ ghost use lib.ListN.{length};
 ghost use Rattle.sheet.specs.Line.{row};
 ghost use Rattle.sheet.specs.Sheet.{lines};
 ghost use Rattle.lefts.specs.Lefts.{left-type};
+ghost use Rattle.tables.specs.Tables.{lines-in};
 ghost use Rattle.places.specs.Places.{one, typed, Room, Writes, Typed};
 use emitter::Pen;
 use forms::emit;
@@ -41,7 +42,6 @@ pub fn put_line(out: &mut [u8], letter: u8, numbers: [u32; 5], p: Place) -> Plac
 
 // The A and Y lines of what Y line y's type resolves to in declaration d.
 pub fn put_type(
-    s: &[u8],
     t: &[u32],
     u: &[u16],
     f: &[u64],
@@ -52,12 +52,12 @@ pub fn put_type(
     d: usize,
     p: Place,
 ) -> Place
-    requires { ⌜ Typed (now s) (now t) (now u) (now f) y d (length (now scratch)) ⌝ }
+    requires { ⌜ Typed (lines-in (now t)) (now t) (now u) (now f) y d (length (now scratch)) ⌝ }
     requires { ⌜ length (now scratch) ≤ length (now stack) ⌝ }
-    requires { ⌜ Room (typed (left-type (lines 6 (now s)) d y)) p (now out) ⌝ }
-    ensures { λ r. ⌜ Writes (typed (left-type (lines 6 (now (s .entry))) d y)) p r (now (out .entry)) (now (out .exit)) ⌝ }
+    requires { ⌜ Room (typed (left-type (lines-in (now t)) d y)) p (now out) ⌝ }
+    ensures { λ r. ⌜ Writes (typed (left-type (lines-in (now (t .entry))) d y)) p r (now (out .entry)) (now (out .exit)) ⌝ }
 {
-    let n = emit(s, t, u, f, y, d, false, scratch, 0);
+    let n = emit(t, u, f, y, d, false, scratch, 0);
     let pen = Pen {
         lists: p.lists,
         nodes: p.nodes,

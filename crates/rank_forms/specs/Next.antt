@@ -8,6 +8,7 @@ use lib.ListN.{getD}
 use Rattle.normal_forms.specs.Tables.{Table}
 use Rattle.normal_forms.specs.Ranks.{Done}
 use Rattle.normal_forms.specs.RanksLaws.{table-same}
+use Rattle.sheet.specs.Line.{Line}
 
 -- e is the first number from `from` on, below n, of rank r, or n
 pub record Next (rank : List ℕ) (r from n e : ℕ) : Type 0 where
@@ -31,9 +32,9 @@ pub nowhere : (rank : List ℕ) (n r from end : ℕ) → Within rank n r from en
 nowhere rank n r from end h q = record { low = omega arith; high = omega arith; passed = λ i a l z. let x = h .inside i l z in omega (arith, x .0, x .1) }
 
 -- what is passed changes nothing of what is done
-pub skip-table : (b u rank f : List ℕ) (p r from n e : ℕ) → Next rank r from n e → Table b u f p (Done b u rank r from) → Table b u f p (Done b u rank r e)
-skip-table b u rank f p r from n e h =
-    table-same b u f p (Done b u rank r from) (Done b u rank r e)
+pub skip-table : (ls : List Line) (u rank f : List ℕ) (p r from n e : ℕ) → Next rank r from n e → Table ls u f p (Done ls u rank r from) → Table ls u f p (Done ls u rank r e)
+skip-table ls u rank f p r from n e h =
+    table-same ls u f p (Done ls u rank r from) (Done ls u rank r e)
     (λ d q. (q .0, q .1, q .2, λ z. below d (q .3 z) z (decLt d from)))
     (λ d q. (q .0, q .1, q .2, λ z. omega (arith, q .3 z, h .low)))
   where

@@ -3,15 +3,13 @@ mod own_forms;
 
 ghost use Prim.Native.Nat.{_+_, _*_, _≤_, _<_};
 ghost use lib.ListN.{length};
-ghost use Rattle.sheet.specs.Sheet.{lines};
-ghost use Rattle.tables.specs.Tables.{decls-of};
+ghost use Rattle.tables.specs.Tables.{decls-of, lines-in};
 ghost use Rattle.normal_forms.specs.Tables.{Table};
 ghost use Rattle.normal_forms.specs.Ranks.{Ranked, Done, Reached};
 ghost use Rattle.rank_forms.specs.Next.{Next, Within};
 
 // Declaration d's normal form, if it is unfolded and of rank r.
 fn form_at(
-    s: &[u8],
     t: &[u32],
     u: &[u16],
     rank: &[u16],
@@ -21,8 +19,8 @@ fn form_at(
     d: usize,
     pos: usize,
 ) -> usize
-    requires { ⌜ Ranked (now s) (now t) (now u) (now rank) × (d < decls-of (lines 6 (now s))) × Table (now s) (now u) (now f) pos (Done (now s) (now u) (now rank) r d) ⌝ }
-    ensures { λ e. ⌜ Reached (now (s .entry)) (now (u .entry)) (now (rank .entry)) r (d + 1) (length (now (scratch .entry))) (now (f .entry)) (now (f .exit)) e ⌝ }
+    requires { ⌜ Ranked (lines-in (now t)) (now t) (now u) (now rank) × (d < decls-of (lines-in (now t))) × Table (lines-in (now t)) (now u) (now f) pos (Done (lines-in (now t)) (now u) (now rank) r d) ⌝ }
+    ensures { λ e. ⌜ Reached (lines-in (now (t .entry))) (now (u .entry)) (now (rank .entry)) r (d + 1) (length (now (scratch .entry))) (now (f .entry)) (now (f .exit)) e ⌝ }
 {
     let x = u[2 * d];
     if x == 0 {
@@ -34,7 +32,7 @@ fn form_at(
     if rank[d] as usize != r {
         return pos;
     }
-    own_forms::normal_form(s, t, u, f, d, scratch, pos)
+    own_forms::normal_form(t, u, f, d, scratch, pos)
 }
 
 // The first of the n declarations from `from` on that has rank r, or n.
@@ -54,7 +52,6 @@ fn next_of_rank(rank: &[u16], r: usize, from: usize, n: usize) -> usize
 
 // The normal forms of rank r, whose declarations stand from place `from` to before `end`, from place pos on.
 pub fn forms_of_rank(
-    s: &[u8],
     t: &[u32],
     u: &[u16],
     rank: &[u16],
@@ -65,9 +62,9 @@ pub fn forms_of_rank(
     end: usize,
     pos: usize,
 ) -> usize
-    requires { ⌜ Ranked (now s) (now t) (now u) (now rank) × Table (now s) (now u) (now f) pos (Done (now s) (now u) (now rank) r 0) ⌝ }
-    requires { ⌜ Within (now rank) (decls-of (lines 6 (now s))) r from end ⌝ }
-    ensures { λ e. ⌜ Reached (now (s .entry)) (now (u .entry)) (now (rank .entry)) r (decls-of (lines 6 (now (s .entry)))) (length (now (scratch .entry))) (now (f .entry)) (now (f .exit)) e ⌝ }
+    requires { ⌜ Ranked (lines-in (now t)) (now t) (now u) (now rank) × Table (lines-in (now t)) (now u) (now f) pos (Done (lines-in (now t)) (now u) (now rank) r 0) ⌝ }
+    requires { ⌜ Within (now rank) (decls-of (lines-in (now t))) r from end ⌝ }
+    ensures { λ e. ⌜ Reached (lines-in (now (t .entry))) (now (u .entry)) (now (rank .entry)) r (decls-of (lines-in (now (t .entry)))) (length (now (scratch .entry))) (now (f .entry)) (now (f .exit)) e ⌝ }
 {
     let mut p = pos;
     if from >= end {
@@ -75,7 +72,7 @@ pub fn forms_of_rank(
     }
     let mut d = next_of_rank(rank, r, from, end);
     while d < end {
-        p = form_at(s, t, u, rank, f, scratch, r, d, p);
+        p = form_at(t, u, rank, f, scratch, r, d, p);
         if p > f.len() {
             return p;
         }

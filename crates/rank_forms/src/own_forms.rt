@@ -3,8 +3,7 @@ ghost use mathlib.Core.Path.{_≡_};
 ghost use mathlib.Core.List.{_++_};
 ghost use Prim.Native.Nat.{_+_, _*_, _≤_, _<_};
 ghost use lib.ListN.{length, take, drop};
-ghost use Rattle.sheet.specs.Sheet.{lines};
-ghost use Rattle.tables.specs.Tables.{decls-of};
+ghost use Rattle.tables.specs.Tables.{decls-of, lines-in};
 ghost use Rattle.form_words.specs.Emit.{Asked};
 ghost use Rattle.normal_forms.specs.Tables.{own-words, Added};
 ghost use Rattle.states.specs.States.{body-of};
@@ -22,7 +21,6 @@ fn copy_words(f: &mut [u64], at: usize, ws: &[u64], n: usize)
 // The normal form of declaration d at place pos of the list, and the place after it; a place past the end where the list or
 // the scratch is too short.
 pub fn normal_form(
-    s: &[u8],
     t: &[u32],
     u: &[u16],
     f: &mut [u64],
@@ -30,11 +28,11 @@ pub fn normal_form(
     scratch: &mut [u64],
     pos: usize,
 ) -> usize
-    requires { ⌜ Asked (now s) (now t) (now u) (now f) (body-of (now u) d) d × (2 * d + 1 < length (now u)) × (2 * decls-of (lines 6 (now s)) ≤ pos) × (pos ≤ length (now f)) ⌝ }
-    ensures { λ r. ⌜ Added (own-words (lines 6 (now (s .entry))) (now (u .entry)) (now (f .entry)) d) (length (now (scratch .entry))) d pos (now (f .entry)) (now (f .exit)) r ⌝ }
+    requires { ⌜ Asked (lines-in (now t)) (now t) (now u) (now f) (body-of (now u) d) d × (2 * d + 1 < length (now u)) × (2 * decls-of (lines-in (now t)) ≤ pos) × (pos ≤ length (now f)) ⌝ }
+    ensures { λ r. ⌜ Added (own-words (lines-in (now (t .entry))) (now (u .entry)) (now (f .entry)) d) (length (now (scratch .entry))) d pos (now (f .entry)) (now (f .exit)) r ⌝ }
 {
     let y = u[2 * d + 1] as usize;
-    let n = forms::emit(s, t, u, f, y, d, true, scratch, 0);
+    let n = forms::emit(t, u, f, y, d, true, scratch, 0);
     if n > scratch.len() {
         return f.len() + 1;
     }

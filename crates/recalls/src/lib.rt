@@ -2,11 +2,11 @@
 ghost use mathlib.Core.Path.{_≡_};
 ghost use Prim.Native.Nat.{_+_, _*_, _≤_, _<_};
 ghost use lib.ListN.{length, getD};
-ghost use Rattle.sheet.specs.Sheet as sheet;
 ghost use Rattle.meaning.specs.Program as program;
 ghost use Rattle.meaning.specs.Rows as rows;
 ghost use Rattle.memory.specs.Slots.{Slots};
 ghost use Rattle.resolving.specs.Resolver as resolver;
+ghost use Rattle.tables.specs.Tables.{lines-in};
 
 // What becomes of declaration d's name; a foreign name is left.
 pub fn state(u: &[u16], d: usize) -> usize
@@ -30,7 +30,6 @@ pub fn body(u: &[u16], d: usize) -> usize
 // The outcome of name n at the `count` outcomes from place `at` on, where it is not unfolded or the
 // call is remembered; else 0.
 pub fn answered(
-    s: &[u8],
     t: &[u32],
     u: &[u16],
     out: &[u16],
@@ -39,12 +38,12 @@ pub fn answered(
     at: usize,
     count: usize,
 ) -> usize
-    requires { ⌜ resolver.Setup (now s) (now t) (now u) × (n < rows.count-of program.name-line (sheet.lines 6 (now s))) ⌝ }
+    requires { ⌜ resolver.Setup (lines-in (now t)) (now t) (now u) × (n < rows.count-of program.name-line (lines-in (now t))) ⌝ }
     requires { ⌜ resolver.Args (now out) at count (at + count) ⌝ }
-    requires { ⌜ Slots (resolver.call-of (sheet.lines 6 (now s)) (now u)) (now slots) ⌝ }
-    ensures { λ r. ⌜ resolver.Answered (sheet.lines 6 (now (s .entry))) (now (u .entry)) n at count (now (out .entry)) (now (slots .entry)) r ⌝ }
+    requires { ⌜ Slots (resolver.call-of (lines-in (now t)) (now u)) (now slots) ⌝ }
+    ensures { λ r. ⌜ resolver.Answered (lines-in (now (t .entry))) (now (u .entry)) n at count (now (out .entry)) (now (slots .entry)) r ⌝ }
 {
-    let d = tables::decl_of(s, t, n);
+    let d = tables::decl_of(t, n);
     let what = state(u, d);
     if what == resolving::GONE {
         return arguments::ONE;

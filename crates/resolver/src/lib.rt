@@ -2,9 +2,9 @@
 // `VALUE` it says why there is no outcome.
 mod resolution;
 
-ghost use Rattle.sheet.specs.Sheet as sheet;
 ghost use Rattle.memory.specs.Slots.{Slots};
 ghost use Rattle.resolving.specs.Resolver as resolver;
+ghost use Rattle.tables.specs.Tables.{lines-in};
 
 pub const NO_FUEL: usize = resolving::NO_FUEL;
 
@@ -19,7 +19,6 @@ pub const VALUE: usize = resolving::VALUE;
 // The outcome of Y line y's type as it stands in declaration d. With 97 * 1,024 places there is
 // room for it.
 pub fn resolved(
-    s: &[u8],
     t: &[u32],
     u: &[u16],
     out: &mut [u16],
@@ -27,12 +26,12 @@ pub fn resolved(
     d: usize,
     y: usize,
 ) -> usize
-    requires { ⌜ resolver.Place (now s) (now t) (now u) y d ⌝ }
-    requires { ⌜ Slots (resolver.call-of (sheet.lines 6 (now s)) (now u)) (now slots) ⌝ }
-    ensures { λ r. ⌜ resolver.Found (resolver.type-of-decl (sheet.lines 6 (now (s .entry))) (now (u .entry)) d y) 97 0 0 (now (out .entry)) (now (out .exit)) (resolver.call-of (sheet.lines 6 (now (s .entry))) (now (u .entry))) (now (slots .exit)) r ⌝ }
+    requires { ⌜ resolver.Place (lines-in (now t)) (now t) (now u) y d ⌝ }
+    requires { ⌜ Slots (resolver.call-of (lines-in (now t)) (now u)) (now slots) ⌝ }
+    ensures { λ r. ⌜ resolver.Found (resolver.type-of-decl (lines-in (now (t .entry))) (now (u .entry)) d y) 97 0 0 (now (out .entry)) (now (out .exit)) (resolver.call-of (lines-in (now (t .entry))) (now (u .entry))) (now (slots .exit)) r ⌝ }
 {
-    if weighing::weigh(s, t, y, d, out, 0, 0, 0) > sums::LIMIT {
+    if weighing::weigh(t, y, d, out, 0, 0, 0) > sums::LIMIT {
         return TEN;
     }
-    resolution::node(s, t, u, out, slots, 96, y, d, 0, 0, 0, 0)
+    resolution::node(t, u, out, slots, 96, y, d, 0, 0, 0, 0)
 }

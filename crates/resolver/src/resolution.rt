@@ -4,7 +4,6 @@ ghost use mathlib.Core.Path.{_≡_};
 ghost use Prim.Native.Nat.{_+_, _*_, _≤_, _<_};
 ghost use lib.Dec.{eqb};
 ghost use lib.ListN.{getD};
-ghost use Rattle.sheet.specs.Sheet as sheet;
 ghost use Rattle.model.specs.Cty as cty;
 ghost use Rattle.meaning.specs.Program as program;
 ghost use Rattle.meaning.specs.Rows as rows;
@@ -21,7 +20,6 @@ ghost use Rattle.states.specs.States as states;
 // The outcome of Y line y's type in declaration d, whose arguments have the `count` outcomes from
 // place `at` on, the last `over` of them for the type itself. Places from `top` on are free.
 pub fn node(
-    s: &[u8],
     t: &[u32],
     u: &[u16],
     out: &mut [u16],
@@ -34,24 +32,24 @@ pub fn node(
     over: usize,
     top: usize,
 ) -> usize
-    requires { ⌜ resolver.Place (now s) (now t) (now u) y d ⌝ }
-    requires { ⌜ resolver.Args (now out) at count top × (over ≤ count) × (nodes.kind-of (sheet.lines 6 (now s)) y ≡ 3 → over ≡ 0) ⌝ }
-    requires { ⌜ Slots (resolver.call-of (sheet.lines 6 (now s)) (now u)) (now slots) ⌝ }
-    ensures { λ r. ⌜ resolver.Found (resolver.eval-of (sheet.lines 6 (now (s .entry))) (now (u .entry)) d (scratch.part at count (now (out .entry))) y (resolver.last-of at count over (now (out .entry)))) k (top + cty.size (nodes.type-of (sheet.lines 6 (now (s .entry))) y) + over) top (now (out .entry)) (now (out .exit)) (resolver.call-of (sheet.lines 6 (now (s .entry))) (now (u .entry))) (now (slots .exit)) r ⌝ }
+    requires { ⌜ resolver.Place (tables.lines-in (now t)) (now t) (now u) y d ⌝ }
+    requires { ⌜ resolver.Args (now out) at count top × (over ≤ count) × (nodes.kind-of (tables.lines-in (now t)) y ≡ 3 → over ≡ 0) ⌝ }
+    requires { ⌜ Slots (resolver.call-of (tables.lines-in (now t)) (now u)) (now slots) ⌝ }
+    ensures { λ r. ⌜ resolver.Found (resolver.eval-of (tables.lines-in (now (t .entry))) (now (u .entry)) d (scratch.part at count (now (out .entry))) y (resolver.last-of at count over (now (out .entry)))) k (top + cty.size (nodes.type-of (tables.lines-in (now (t .entry))) y) + over) top (now (out .entry)) (now (out .exit)) (resolver.call-of (tables.lines-in (now (t .entry))) (now (u .entry))) (now (slots .exit)) r ⌝ }
 {
-    let kind = tables::type_number(s, t, y, 0);
-    let a = tables::type_number(s, t, y, 1) as usize;
+    let kind = tables::type_number(t, y, 0);
+    let a = tables::type_number(t, y, 1) as usize;
     if kind == 3 {
-        return arguments::argument(s, t, d, out, at, count, a);
+        return arguments::argument(t, d, out, at, count, a);
     }
-    let r = args(s, t, u, out, slots, k, y, d, at, count, top);
+    let r = args(t, u, out, slots, k, y, d, at, count, top);
     if r < resolving::VALUE {
         return r;
     }
-    let n = kids::kids(s, t, y);
+    let n = kids::kids(t, y);
     if kind == 8 {
         if calls::copy(out, at + (count - over), top + n, over) {
-            return apply(s, t, u, out, slots, k, a, top, n + over);
+            return apply(t, u, out, slots, k, a, top, n + over);
         }
         return resolving::NO_ROOM;
     }
@@ -60,7 +58,6 @@ pub fn node(
 
 // The outcomes of its parts, from left to right, to places from `top` on.
 fn args(
-    s: &[u8],
     t: &[u32],
     u: &[u16],
     out: &mut [u16],
@@ -72,20 +69,20 @@ fn args(
     count: usize,
     top: usize,
 ) -> usize
-    requires { ⌜ resolver.Place (now s) (now t) (now u) y d ⌝ }
+    requires { ⌜ resolver.Place (tables.lines-in (now t)) (now t) (now u) y d ⌝ }
     requires { ⌜ resolver.Args (now out) at count top ⌝ }
-    requires { ⌜ Slots (resolver.call-of (sheet.lines 6 (now s)) (now u)) (now slots) ⌝ }
-    ensures { λ r. ⌜ resolver.FoundAll (resolver.evals-of (sheet.lines 6 (now (s .entry))) (now (u .entry)) d (scratch.part at count (now (out .entry))) y (nodes.kids-of (sheet.lines 6 (now (s .entry))) y)) k (top + cty.sizes (weigh.kid-types (sheet.lines 6 (now (s .entry))) y (nodes.kids-of (sheet.lines 6 (now (s .entry))) y))) top (nodes.kids-of (sheet.lines 6 (now (s .entry))) y) (now (out .entry)) (now (out .exit)) (resolver.call-of (sheet.lines 6 (now (s .entry))) (now (u .entry))) (now (slots .exit)) r ⌝ }
+    requires { ⌜ Slots (resolver.call-of (tables.lines-in (now t)) (now u)) (now slots) ⌝ }
+    ensures { λ r. ⌜ resolver.FoundAll (resolver.evals-of (tables.lines-in (now (t .entry))) (now (u .entry)) d (scratch.part at count (now (out .entry))) y (nodes.kids-of (tables.lines-in (now (t .entry))) y)) k (top + cty.sizes (weigh.kid-types (tables.lines-in (now (t .entry))) y (nodes.kids-of (tables.lines-in (now (t .entry))) y))) top (nodes.kids-of (tables.lines-in (now (t .entry))) y) (now (out .entry)) (now (out .exit)) (resolver.call-of (tables.lines-in (now (t .entry))) (now (u .entry))) (now (slots .exit)) r ⌝ }
 {
-    let n = kids::kids(s, t, y);
+    let n = kids::kids(t, y);
     let mut next = top;
     let mut last = y;
     for i in 0..n {
         if next >= out.len() {
             return resolving::NO_ROOM;
         }
-        let kid = kids::kid(s, t, y, i);
-        let r = once(s, t, u, out, slots, k, kid, d, at, count, last, next);
+        let kid = kids::kid(t, y, i);
+        let r = once(t, u, out, slots, k, kid, d, at, count, last, next);
         if r < resolving::VALUE {
             return r;
         }
@@ -99,7 +96,6 @@ fn args(
 // The outcome of a part, Y line y's type. Where the part before it is the same Y line, its outcome
 // stands before place `top`, and is not found anew.
 fn once(
-    s: &[u8],
     t: &[u32],
     u: &[u16],
     out: &mut [u16],
@@ -112,20 +108,19 @@ fn once(
     last: usize,
     top: usize,
 ) -> usize
-    requires { ⌜ resolver.Place (now s) (now t) (now u) y d ⌝ }
-    requires { ⌜ resolver.Args (now out) at count top × resolver.Again (sheet.lines 6 (now s)) (now u) d (scratch.part at count (now out)) y last top (now out) ⌝ }
-    requires { ⌜ Slots (resolver.call-of (sheet.lines 6 (now s)) (now u)) (now slots) ⌝ }
-    ensures { λ r. ⌜ resolver.Found (resolver.eval-of (sheet.lines 6 (now (s .entry))) (now (u .entry)) d (scratch.part at count (now (out .entry))) y (resolver.last-of at count 0 (now (out .entry)))) k (top + cty.size (nodes.type-of (sheet.lines 6 (now (s .entry))) y) + 0) top (now (out .entry)) (now (out .exit)) (resolver.call-of (sheet.lines 6 (now (s .entry))) (now (u .entry))) (now (slots .exit)) r ⌝ }
+    requires { ⌜ resolver.Place (tables.lines-in (now t)) (now t) (now u) y d ⌝ }
+    requires { ⌜ resolver.Args (now out) at count top × resolver.Again (tables.lines-in (now t)) (now u) d (scratch.part at count (now out)) y last top (now out) ⌝ }
+    requires { ⌜ Slots (resolver.call-of (tables.lines-in (now t)) (now u)) (now slots) ⌝ }
+    ensures { λ r. ⌜ resolver.Found (resolver.eval-of (tables.lines-in (now (t .entry))) (now (u .entry)) d (scratch.part at count (now (out .entry))) y (resolver.last-of at count 0 (now (out .entry)))) k (top + cty.size (nodes.type-of (tables.lines-in (now (t .entry))) y) + 0) top (now (out .entry)) (now (out .exit)) (resolver.call-of (tables.lines-in (now (t .entry))) (now (u .entry))) (now (slots .exit)) r ⌝ }
 {
     if y == last {
         return out[top - 1] as usize;
     }
-    node(s, t, u, out, slots, k, y, d, at, count, 0, top)
+    node(t, u, out, slots, k, y, d, at, count, 0, top)
 }
 
 // The outcome of name n at the `count` outcomes from place `at` on. Places behind them are free.
 fn apply(
-    s: &[u8],
     t: &[u32],
     u: &[u16],
     out: &mut [u16],
@@ -135,24 +130,23 @@ fn apply(
     at: usize,
     count: usize,
 ) -> usize
-    requires { ⌜ resolver.Setup (now s) (now t) (now u) × (n < rows.count-of program.name-line (sheet.lines 6 (now s))) ⌝ }
+    requires { ⌜ resolver.Setup (tables.lines-in (now t)) (now t) (now u) × (n < rows.count-of program.name-line (tables.lines-in (now t))) ⌝ }
     requires { ⌜ resolver.Args (now out) at count (at + count) ⌝ }
-    requires { ⌜ Slots (resolver.call-of (sheet.lines 6 (now s)) (now u)) (now slots) ⌝ }
-    ensures { λ r. ⌜ resolver.Found (resolver.call-of (sheet.lines 6 (now (s .entry))) (now (u .entry)) n (scratch.part at count (now (out .entry)))) k (at + count) (at + count) (now (out .entry)) (now (out .exit)) (resolver.call-of (sheet.lines 6 (now (s .entry))) (now (u .entry))) (now (slots .exit)) r ⌝ }
+    requires { ⌜ Slots (resolver.call-of (tables.lines-in (now t)) (now u)) (now slots) ⌝ }
+    ensures { λ r. ⌜ resolver.Found (resolver.call-of (tables.lines-in (now (t .entry))) (now (u .entry)) n (scratch.part at count (now (out .entry)))) k (at + count) (at + count) (now (out .entry)) (now (out .exit)) (resolver.call-of (tables.lines-in (now (t .entry))) (now (u .entry))) (now (slots .exit)) r ⌝ }
 {
-    let known = recalls::answered(s, t, u, out, slots, n, at, count);
+    let known = recalls::answered(t, u, out, slots, n, at, count);
     if known != 0 {
         return known;
     }
-    let d = tables::decl_of(s, t, n);
-    let r = enter(s, t, u, out, slots, k, d, at, count);
+    let d = tables::decl_of(t, n);
+    let r = enter(t, u, out, slots, k, d, at, count);
     remembering::remember(slots, n, out, at, count, r);
     r
 }
 
 // The outcome of a call of declaration d, which is unfolded.
 fn enter(
-    s: &[u8],
     t: &[u32],
     u: &[u16],
     out: &mut [u16],
@@ -162,29 +156,16 @@ fn enter(
     at: usize,
     count: usize,
 ) -> usize
-    requires { ⌜ resolver.Place (now s) (now t) (now u) (getD (now u) (2 * d + 1) 0) d × (states.unfold-at (sheet.lines 6 (now s)) (now u) d ≡ call.unfolded (eqb (getD (now u) (2 * d) 3) 1) (params.params-of (sheet.lines 6 (now s)) d) (nodes.type-of (sheet.lines 6 (now s)) (getD (now u) (2 * d + 1) 0))) ⌝ }
+    requires { ⌜ resolver.Place (tables.lines-in (now t)) (now t) (now u) (getD (now u) (2 * d + 1) 0) d × (states.unfold-at (tables.lines-in (now t)) (now u) d ≡ call.unfolded (eqb (getD (now u) (2 * d) 3) 1) (params.params-of (tables.lines-in (now t)) d) (nodes.type-of (tables.lines-in (now t)) (getD (now u) (2 * d + 1) 0))) ⌝ }
     requires { ⌜ resolver.Args (now out) at count (at + count) ⌝ }
-    requires { ⌜ Slots (resolver.call-of (sheet.lines 6 (now s)) (now u)) (now slots) ⌝ }
-    ensures { λ r. ⌜ resolver.Found (resolver.enter-of (sheet.lines 6 (now (s .entry))) (now (u .entry)) d (scratch.part at count (now (out .entry)))) k (at + count) (at + count) (now (out .entry)) (now (out .exit)) (resolver.call-of (sheet.lines 6 (now (s .entry))) (now (u .entry))) (now (slots .exit)) r ⌝ }
+    requires { ⌜ Slots (resolver.call-of (tables.lines-in (now t)) (now u)) (now slots) ⌝ }
+    ensures { λ r. ⌜ resolver.Found (resolver.enter-of (tables.lines-in (now (t .entry))) (now (u .entry)) d (scratch.part at count (now (out .entry)))) k (at + count) (at + count) (now (out .entry)) (now (out .exit)) (resolver.call-of (tables.lines-in (now (t .entry))) (now (u .entry))) (now (slots .exit)) r ⌝ }
 {
     let y = recalls::body(u, d);
-    let r = entries::entry(s, t, u, k, y, d, out, at, count);
+    let r = entries::entry(t, u, k, y, d, out, at, count);
     if r != entries::OPEN {
         return r;
     }
-    let over = count - calls::params(s, t, d);
-    node(
-        s,
-        t,
-        u,
-        out,
-        slots,
-        k - 1,
-        y,
-        d,
-        at,
-        count,
-        over,
-        at + count,
-    )
+    let over = count - calls::params(t, d);
+    node(t, u, out, slots, k - 1, y, d, at, count, over, at + count)
 }

@@ -2,16 +2,15 @@
 use mathlib.Core.Logic.{_⊎_}
 use mathlib.Core.Path.{_≡_}
 use mathlib.Core.List.{List, []}
-use Prim.Native.Nat.{ℕ, suc, _+_, _-_, _*_, _≤_, _<_}
+use Prim.Native.Nat.{ℕ, _+_, _-_, _*_, _≤_, _<_}
 use lib.ListN.{length, getD, drop}
 use Rattle.sheet.specs.Line.{Line}
-use Rattle.sheet.specs.Sheet.{lines}
-use Rattle.model.specs.Cty.{size, sizes}
+use Rattle.model.specs.Cty.{size}
 use Rattle.model.specs.Decl.{position}
 use Rattle.meaning.specs.Program.{type-line, program}
 use Rattle.meaning.specs.Rows.{count-of}
 use Rattle.model.specs.Resolve.{Result, ok}
-use Rattle.tables.specs.Tables.{decls-of, Tabled}
+use Rattle.tables.specs.Tables.{decls-of, TableOf}
 use Rattle.outcomes.specs.Outcome.{called, eval, evals, ev}
 use Rattle.outcomes.specs.Answer.{Told}
 use Rattle.outcomes.specs.Laws.Fuel.{Leads}
@@ -23,13 +22,13 @@ use Rattle.weighing.specs.Weigh.{kid-types}
 use Rattle.memory.specs.Slots.{Slots}
 
 -- two cells for each declaration, and a Y line where a name is unfolded
-pub record States (b u : List ℕ) : Type 0 where
-  pub long : length u ≡ 2 * decls-of (lines 6 b)
-  pub bodies : (d : ℕ) → d < decls-of (lines 6 b) → (getD u (2 * d) 3 ≡ 1) ⊎ (getD u (2 * d) 3 ≡ 2) → getD u (2 * d + 1) 0 < count-of type-line (lines 6 b)
+pub record States (ls : List Line) (u : List ℕ) : Type 0 where
+  pub long : length u ≡ 2 * decls-of ls
+  pub bodies : (d : ℕ) → d < decls-of ls → (getD u (2 * d) 3 ≡ 1) ⊎ (getD u (2 * d) 3 ≡ 2) → getD u (2 * d + 1) 0 < count-of type-line ls
 
-pub record Setup (b t u : List ℕ) : Type 0 where
-  pub tabled : Tabled b t
-  pub states : States b u
+pub record Setup (ls : List Line) (t u : List ℕ) : Type 0 where
+  pub tabled : TableOf ls t
+  pub states : States ls u
 
 -- ---- evaluations, by fuel
 module _ (ls : List Line) (u : List ℕ) where
@@ -63,10 +62,10 @@ pub record Args (out : List ℕ) (at count top : ℕ) : Type 0 where
   pub room : top ≤ length out
   pub nodes : Nodes (part at count out)
 
-pub record Place (b t u : List ℕ) (y d : ℕ) : Type 0 where
-  pub setup : Setup b t u
-  pub type : y < count-of type-line (lines 6 b)
-  pub decl : d < decls-of (lines 6 b)
+pub record Place (ls : List Line) (t u : List ℕ) (y d : ℕ) : Type 0 where
+  pub setup : Setup ls t u
+  pub type : y < count-of type-line ls
+  pub decl : d < decls-of ls
 
 -- Where Y line y is the one last evaluated, its outcome stands before place `top`.
 pub record Again (ls : List Line) (u : List ℕ) (d : ℕ) (os : List ℕ) (y last top : ℕ) (out : List ℕ) : Type 0 where

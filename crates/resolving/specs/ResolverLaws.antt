@@ -5,27 +5,25 @@ use mathlib.Core.List.{List, [], _∷_, _++_}
 use mathlib.Core.Bool.{Bool, true, false}
 use Prim.Native.Nat.{ℕ, zero, suc, _+_, _-_, _*_, _≤_, _<_}
 use native.Mathlib.Omega.{arith}
-use native.Mathlib.Numerals.{add-one}
 use lib.Dec.{eqb, leb}
 use lib.ListN.{length, getD, set, drop}
 use lib.Seq.{getD-set-same}
 use borrow.Author.Tests.{eqb-true, eqb-false, ne-eqb, leb-true, leb-false, le-leb}
 use Rattle.sheet.specs.Line.{Line, number}
-use Rattle.sheet.specs.Sheet.{lines}
-use Rattle.model.specs.Cty.{Cty, Ctys, TVar, TApp, nil, cons, append, size, sizes}
+use Rattle.model.specs.Cty.{Cty, Ctys, TVar, nil, cons, size, sizes}
 use Rattle.model.specs.Decl.{position}
 use Rattle.meaning.specs.Program.{name-line, type-line, program}
 use Rattle.meaning.specs.Rows.{count-of}
-use Rattle.model.specs.Resolve.{Unfold, gone, newtype, abbreviation, stays, Result, ok, fault, spent, bind}
+use Rattle.model.specs.Resolve.{Unfold, gone, stays, Result, ok, fault, spent, bind}
 use Rattle.model_laws.specs.Cty.{size-positive}
 use Rattle.model_laws.specs.Names.{position-le}
 use Rattle.meaning.specs.Laws.Program.{length-program}
 use Rattle.limits.specs.Limits.{counts-of}
-use Rattle.refusals.specs.Rows.{Passed}
-use Rattle.refusals.specs.RowsLaws.{passed-kept}
+use Rattle.declared.specs.Passed.{Passed}
+use Rattle.declared.specs.PassedLaws.{passed-kept}
 use Rattle.tables.specs.Tables.{decls-of}
 use Rattle.outcomes.specs.Outcome.{other, app, one, total, attached, built, argument, weight, instance-head, instance-shape, nodes, extra, called, eval, evals, entered, ev, fits}
-use Rattle.outcomes.specs.Answer.{parts, listed, nine, answer, Told}
+use Rattle.outcomes.specs.Answer.{listed, answer, Told}
 use Rattle.outcomes.specs.Scratch.{part, Same, capped, Says, Nodes}
 use Rattle.outcomes.specs.Laws.Shape.{attached-none, sizes-append}
 use Rattle.outcomes.specs.Laws.Fuel.{Leads, leads-same}
@@ -41,7 +39,7 @@ use Rattle.weighing.specs.Weigh.{kid-types, weight-of}
 use Rattle.calls.specs.CallsLaws.{Copied}
 use Rattle.memory.specs.Slots.{Slots, Written, Recalled, slots-written}
 use Rattle.states.specs.States.{unfold-at, lay-of}
-use Rattle.resolving.specs.Resolver.{States, Setup, call-of, enter-of, eval-of, evals-of, type-of-decl, last-of, Args, Place, Again, Short, Found, FoundAll, Done, Answered, Entered}
+use Rattle.resolving.specs.Resolver.{Setup, call-of, enter-of, eval-of, evals-of, type-of-decl, last-of, Args, Place, Again, Short, Found, FoundAll, Done, Answered, Entered}
 
 -- a cell past the end
 pub getD-past : (xs : List ℕ) (i v : ℕ) → length xs ≤ i → getD xs i v ≡ v
@@ -86,10 +84,7 @@ says-told : (e : ℕ → Result ℕ) (k : ℕ) (S : Type 0) (x : Result ℕ) (r 
 says-told e k S x r q s =
     told-known e k r S r (s .decided) (λ j. subst (λ (y : Result ℕ). Leads (e j) y) (q j ∙ s .is) (leads-same (e j)))
 
-module _ (b t u : List ℕ) where
-  abbrev ls : List Line
-  ls = lines 6 b
-
+module _ (ls : List Line) (t u : List ℕ) where
   abbrev lay : ℕ → Unfold
   lay = lay-of ls u
 
@@ -97,8 +92,8 @@ module _ (b t u : List ℕ) where
   call = call-of ls u
 
   -- ---- a node
-  module _ (y d : ℕ) (place : Place b t u y d) where
-    passed : Passed b
+  module _ (y d : ℕ) (place : Place ls t u y d) where
+    passed : Passed ls
     passed = place .setup .tabled .passed
 
     abbrev kids : Ctys
@@ -127,7 +122,7 @@ module _ (b t u : List ℕ) where
       eval-var : over ≡ 0 → kind-of ls y ≡ 3 → (j : ℕ) → E j ≡ ok (argument (params-of ls d) os (number (y-line ls y) 1))
       unfolding eval
       eval-var e k j =
-          ap (λ (c : Cty). eval 1024 lay (ev 1024 lay j) (params-of ls d) os c es) (var-type b passed y (place .type) k)
+          ap (λ (c : Cty). eval 1024 lay (ev 1024 lay j) (params-of ls d) os c es) (var-type ls passed y (place .type) k)
           ∙ ap (λ (x : List ℕ). ok (attached (argument (params-of ls d) os (number (y-line ls y) 1)) x)) (no-surplus e)
           ∙ ap ok (attached-none (argument (params-of ls d) os (number (y-line ls y) 1)))
 
@@ -160,17 +155,17 @@ module _ (b t u : List ℕ) where
       node-size m = go (eqb (kind-of ls y) 8) refl
         where
           go : (c : Bool) → eqb (kind-of ls y) 8 ≡ c → size (type-of ls y) ≡ suc (sizes kids)
-          go true e = ap size (app-type b passed y (place .type) (eqb-true (kind-of ls y) 8 e)) ∙ omega arith
+          go true e = ap size (app-type ls passed y (place .type) (eqb-true (kind-of ls y) 8 e)) ∙ omega arith
           go false e =
-              size-parts (type-of ls y) ∙ ap (λ (ts : Ctys). suc (sizes ts)) (plain-type b passed y (place .type) m (eqb-false (kind-of ls y) 8 e) .has-parts)
+              size-parts (type-of ls y) ∙ ap (λ (ts : Ctys). suc (sizes ts)) (plain-type ls passed y (place .type) m (eqb-false (kind-of ls y) 8 e) .has-parts)
 
       eval-app : kind-of ls y ≡ 8 → (j : ℕ) → E j ≡ bind (all j) (λ xs. called 1024 (ev 1024 lay j) (xs ++ es) (lay (number (y-line ls y) 1)))
       unfolding eval
-      eval-app k j = ap (λ (c : Cty). eval 1024 lay (ev 1024 lay j) (params-of ls d) os c es) (app-type b passed y (place .type) k)
+      eval-app k j = ap (λ (c : Cty). eval 1024 lay (ev 1024 lay j) (params-of ls d) os c es) (app-type ls passed y (place .type) k)
 
       eval-other : (kind-of ls y ≡ 3 → ⊥) → (kind-of ls y ≡ 8 → ⊥) → (j : ℕ) → E j ≡ bind (all j) (λ xs. built 1024 xs other)
       eval-other m n j =
-          let p = plain-type b passed y (place .type) m n in
+          let p = plain-type ls passed y (place .type) m n in
           eval-plain 1024 lay (ev 1024 lay j) (params-of ls d) os (type-of ls y) es (p .is-plain)
           ∙ ap (λ (ts : Ctys). bind (evals 1024 lay (ev 1024 lay j) (params-of ls d) os ts) (λ xs. built 1024 xs other)) (p .has-parts)
 
@@ -381,7 +376,7 @@ module _ (b t u : List ℕ) where
           }
 
   -- ---- a call of an unfolded declaration
-  module _ (y d : ℕ) (place : Place b t u y d) (new : Bool) (is : unfold-at ls u d ≡ unfolded new (params-of ls d) (type-of ls y))
+  module _ (y d : ℕ) (place : Place ls t u y d) (new : Bool) (is : unfold-at ls u d ≡ unfolded new (params-of ls d) (type-of ls y))
       (at count : ℕ) (out : List ℕ) (args : Args out at count (at + count)) (slots : List ℕ) (held : Slots call slots) where
     abbrev zs : List ℕ
     zs = part at count out
@@ -487,7 +482,7 @@ module _ (b t u : List ℕ) where
               v = number (y-line ls y) 1
 
               var : body ≡ TVar v
-              var = var-type b (place .setup .tabled .passed) y (place .type) z
+              var = var-type ls (place .setup .tabled .passed) y (place .type) z
 
               applied : eqb (instance-head ps zs (TVar v)) app ≡ true
               applied = ap (λ (c : Cty). eqb (instance-head ps zs c) app) (sym var) ∙ fits-app ps zs body new h (omega (arith, zs-length))
@@ -534,7 +529,7 @@ module _ (b t u : List ℕ) where
                   mul-pred i z = omega arith
 
   -- ---- a name
-  module _ (setup : Setup b t u) (n d what at count : ℕ) (ed : d ≡ position (program ls) n) (ew : what ≡ getD u (2 * d) 3)
+  module _ (setup : Setup ls t u) (n d what at count : ℕ) (ed : d ≡ position (program ls) n) (ew : what ≡ getD u (2 * d) 3)
       (out : List ℕ) (args : Args out at count (at + count)) (slots : List ℕ) (held : Slots call slots) where
     lay-is : lay n ≡ unfold-at ls u d
     lay-is = ap (unfold-at ls u) (sym ed)
@@ -557,7 +552,7 @@ module _ (b t u : List ℕ) where
         go true e = let q : what ≡ 1 = eqb-true what 1 e in rw (sym ew ∙ q) refl
         go false e = let q : what ≡ 2 = omega (arith, eqb-false what 1 e) in rw (sym ew ∙ q) refl
 
-    pub unfolded-place : (what ≡ 0 → ⊥) → what ≤ 2 → Place b t u (getD u (2 * d + 1) 0) d
+    pub unfolded-place : (what ≡ 0 → ⊥) → what ≤ 2 → Place ls t u (getD u (2 * d + 1) 0) d
     unfolded-place z h =
         let l : d < decls-of ls = inside (leb (length u) (2 * d)) refl in
         record { setup = setup; type = setup .states .bodies d l (one-or-two (eqb what 1) refl); decl = l }
@@ -606,7 +601,7 @@ module _ (b t u : List ℕ) where
         }
 
   -- ---- a type as it stands
-  module _ (y d : ℕ) (place : Place b t u y d) (out : List ℕ) where
+  module _ (y d : ℕ) (place : Place ls t u y d) (out : List ℕ) where
     abbrev qs : List ℕ
     qs = params-of ls d
 
@@ -703,7 +698,7 @@ module _ (b t u : List ℕ) where
   pub unfolded-at : (y d what : ℕ) → what ≡ getD u (2 * d) 3 → unfold-at ls u d ≡ unfolded (eqb (getD u (2 * d) 3) 1) (params-of ls d) (type-of ls y) → unfold-at ls u d ≡ unfolded (eqb what 1) (params-of ls d) (type-of ls y)
   unfolded-at y d what e is = is ∙ ap (λ (x : ℕ). unfolded (eqb x 1) (params-of ls d) (type-of ls y)) (sym e)
 
-  module _ (y d : ℕ) (place : Place b t u y d) (new : Bool) (is : unfold-at ls u d ≡ unfolded new (params-of ls d) (type-of ls y))
+  module _ (y d : ℕ) (place : Place ls t u y d) (new : Bool) (is : unfold-at ls u d ≡ unfolded new (params-of ls d) (type-of ls y))
       (at count : ℕ) (out : List ℕ) (args : Args out at count (at + count)) (k : ℕ) where
     -- an answer, whatever is remembered
     entered-now : (r : ℕ) → (r ≡ 1 → ⊥) → ((slots : List ℕ) → Slots call slots → Found (enter-of ls u d (part at count out)) k (at + count) (at + count) out out call slots r) → Entered ls u y d at count out k r
@@ -743,7 +738,7 @@ module _ (b t u : List ℕ) where
             }
 
   -- ---- a call with nothing unfolded
-  module _ (setup : Setup b t u) (n d what at count : ℕ) (ed : d ≡ position (program ls) n) (ew : what ≡ getD u (2 * d) 3)
+  module _ (setup : Setup ls t u) (n d what at count : ℕ) (ed : d ≡ position (program ls) n) (ew : what ≡ getD u (2 * d) 3)
       (out : List ℕ) (args : Args out at count (at + count)) (slots : List ℕ) (held : Slots call slots) where
     pub answered-gone : what ≡ 0 → Answered ls u n at count out slots 4
     answered-gone z = record { found = λ q k. apply-gone setup n d what at count ed ew out args slots held k z; here = λ e. absurd (omega arith); least = λ e. absurd (omega arith) }
@@ -757,8 +752,8 @@ module _ (b t u : List ℕ) where
         record { found = λ q k. apply-known n at count out k r slots held f q; here = λ _ g. z (e ∙ g); least = λ _. subst (λ (x : ℕ). x ≤ 2) e h }
 
   -- the declaration of an unfolded name, and its body
-  pub unfolded-here : (setup : Setup b t u) (n d at count : ℕ) → d ≡ position (program ls) n → (out : List ℕ) → Args out at count (at + count) → (slots : List ℕ) → Slots call slots → (r : ℕ) → Answered ls u n at count out slots r → r ≡ 0
-      → Place b t u (getD u (2 * d + 1) 0) d × (unfold-at ls u d ≡ unfolded (eqb (getD u (2 * d) 3) 1) (params-of ls d) (type-of ls (getD u (2 * d + 1) 0)))
+  pub unfolded-here : (setup : Setup ls t u) (n d at count : ℕ) → d ≡ position (program ls) n → (out : List ℕ) → Args out at count (at + count) → (slots : List ℕ) → Slots call slots → (r : ℕ) → Answered ls u n at count out slots r → r ≡ 0
+      → Place ls t u (getD u (2 * d + 1) 0) d × (unfold-at ls u d ≡ unfolded (eqb (getD u (2 * d) 3) 1) (params-of ls d) (type-of ls (getD u (2 * d + 1) 0)))
   unfolded-here setup n d at count ed out args slots held r w z =
       let e : getD u (2 * d) 3 ≡ getD u (2 * position (program ls) n) 3 = ap (λ (i : ℕ). getD u (2 * i) 3) ed in
       let here : getD u (2 * d) 3 ≡ 0 → ⊥ = λ q. w .here z (sym e ∙ q) in
@@ -767,26 +762,26 @@ module _ (b t u : List ℕ) where
         unfolded-is setup n d (getD u (2 * d) 3) at count ed refl out args slots held here least,
       )
 
-  pub body-here : (y d : ℕ) → y ≡ getD u (2 * d + 1) 0 → Place b t u (getD u (2 * d + 1) 0) d × (unfold-at ls u d ≡ unfolded (eqb (getD u (2 * d) 3) 1) (params-of ls d) (type-of ls (getD u (2 * d + 1) 0)))
-      → Place b t u y d × (unfold-at ls u d ≡ unfolded (eqb (getD u (2 * d) 3) 1) (params-of ls d) (type-of ls y))
-  body-here y d e p = subst (λ (i : ℕ). Place b t u i d × (unfold-at ls u d ≡ unfolded (eqb (getD u (2 * d) 3) 1) (params-of ls d) (type-of ls i))) (sym e) p
+  pub body-here : (y d : ℕ) → y ≡ getD u (2 * d + 1) 0 → Place ls t u (getD u (2 * d + 1) 0) d × (unfold-at ls u d ≡ unfolded (eqb (getD u (2 * d) 3) 1) (params-of ls d) (type-of ls (getD u (2 * d + 1) 0)))
+      → Place ls t u y d × (unfold-at ls u d ≡ unfolded (eqb (getD u (2 * d) 3) 1) (params-of ls d) (type-of ls y))
+  body-here y d e p = subst (λ (i : ℕ). Place ls t u i d × (unfold-at ls u d ≡ unfolded (eqb (getD u (2 * d) 3) 1) (params-of ls d) (type-of ls i))) (sym e) p
 
 -- a name's declaration, or their number
-pub decl-least : (b : List ℕ) → Passed b → (n : ℕ) → position (program (lines 6 b)) n ≤ 96
-decl-least b passed n = omega (arith, position-le (program (lines 6 b)) n, length-program (lines 6 b), decls-few b passed)
+pub decl-least : (ls : List Line) → Passed ls → (n : ℕ) → position (program ls) n ≤ 96
+decl-least ls passed n = omega (arith, position-le (program ls) n, length-program ls, decls-few ls passed)
 
 -- ---- for the code
-module _ (b : List ℕ) (passed : Passed b) (y : ℕ) (h : y < count-of type-line (lines 6 b)) where
-  pub kid-below : (i : ℕ) → i < kids-of (lines 6 b) y → kid-of (lines 6 b) y i < y
-  kid-below = node-at b passed y h .lower
+module _ (ls : List Line) (passed : Passed ls) (y : ℕ) (h : y < count-of type-line ls) where
+  pub kid-below : (i : ℕ) → i < kids-of ls y → kid-of ls y i < y
+  kid-below = node-at ls passed y h .lower
 
-  pub name-within : kind-of (lines 6 b) y ≡ 8 → number (y-line (lines 6 b) y) 1 < count-of name-line (lines 6 b)
-  name-within = node-at b passed y h .named
+  pub name-within : kind-of ls y ≡ 8 → number (y-line ls y) 1 < count-of name-line ls
+  name-within = node-at ls passed y h .named
 
 -- names are few
-pub names-few : (b : List ℕ) → Passed b → count-of name-line (lines 6 b) ≤ 256
+pub names-few : (ls : List Line) → Passed ls → count-of name-line ls ≤ 256
 unfolding counts-of
-names-few b passed = passed-kept b passed .names
+names-few ls passed = passed-kept ls passed .names
 
 pub capped-least : (r n : ℕ) → r ≡ capped 1024 n → r ≤ 1025
 capped-least r n e = omega (arith, capped-most 1024 n)

@@ -12,9 +12,7 @@ use lib.Seq.{getD-take, getD-set-same, getD-set-other}
 use borrow.Author.Tests.{eqb-true, eqb-false, eq-eqb, ne-eqb, lt-ltb, le-ltb, ltb-true, ltb-false}
 use Rattle.columns.specs.Column.{pick, _⇒_∥_}
 use Rattle.sheet.specs.Line.{Line}
-use Rattle.sheet.specs.Sheet.{first, count, lines}
-use Rattle.sheet.specs.SheetLaws.{length-lines}
-use Rattle.sheet.specs.FirstLaws.{first-le, first-before, none-first}
+use Rattle.sheet.specs.FirstLaws.{first-le, first-before}
 use Rattle.model.specs.Cty.{Cty, names-of-cty}
 use Rattle.model.specs.Decl.{Decl, dtype-at, position, close}
 use Rattle.model.specs.Layout.{positions, names-in, type-names, steps}
@@ -24,19 +22,17 @@ use Rattle.model.specs.Run.{layouts-of, lay, unfold-next, returns}
 use Rattle.model_laws.specs.Cty.{names-all, close-names}
 use Rattle.model_laws.specs.Layout.{names-in-iff, unfold-below}
 use Rattle.model_laws.specs.Names.{position-distinct}
-use Rattle.model_laws.specs.Resolve as resolve
 use Rattle.model_laws.specs.Resolve.{Unfolds}
 use Rattle.locality.specs.Laws.Fuel.{NoReturn, rank-of, ranked}
 use Rattle.meaning.specs.Program.{type-line, program}
-use Rattle.meaning.specs.Rows.{count-of, row6}
+use Rattle.meaning.specs.Rows.{count-of}
 use Rattle.meaning.specs.Laws.Program.{length-program}
-use Rattle.answer.specs.Laws.Pass.{distinct-program}
-use Rattle.refusals.specs.Rows.{Passed}
-use Rattle.tables.specs.Tables.{decls-of, Tabled}
+use Rattle.declared.specs.PassedLaws.{distinct-names}
+use Rattle.declared.specs.Passed.{Passed}
+use Rattle.tables.specs.Tables.{decls-of, TableOf}
 use Rattle.kids.specs.Nodes.{type-of}
 use Rattle.arguments.specs.Params.{params-of}
 use Rattle.namesets.specs.Mentions.{Mentioned}
-use Rattle.search.specs.Search as search
 use Rattle.search.specs.SearchLaws.{Holds, holds-steps}
 use Rattle.edges.specs.Edges.{Edges}
 use Rattle.edges.specs.EdgesLaws.{Bodies, edges-hold}
@@ -46,25 +42,24 @@ use Rattle.resolving.specs.ResolverLaws.{getD-any}
 use Rattle.states.specs.States.{state, body-of, unfold-at, lay-of, Open, closed, Settled}
 use Rattle.normal_forms.specs.Ranks.{Ranked}
 use Rattle.returning.specs.Returning.{through, Through}
+use Rattle.model_laws.specs.Resolve as resolve
+use Rattle.search.specs.Search as search
 
 -- ---- what becomes of declaration d
-module _ (b : List ℕ) (p : Passed b) (u : List ℕ) (s : Settled b u) where
-  abbrev ls : List Line
-  ls = lines 6 b
-
+module _ (ls : List Line) (p : Passed ls) (u : List ℕ) (s : Settled ls u) where
   abbrev ds : List Decl
-  ds = program (lines 6 b)
+  ds = program ls
 
   -- row 8 goes on through these steps
   abbrev pub next : ℕ → List ℕ
-  next = unfold-next (program (lines 6 b)) (layouts-of (program (lines 6 b)))
+  next = unfold-next (program ls) (layouts-of (program ls))
 
   -- its name is of no other declaration, so that what is told by names is told by numbers
   unfolds-at : (d : ℕ) → d < decls-of ls → getD (unfolds ds (layouts-of ds)) d stays ≡ closed (unfold-at ls u d)
   unfolding unfold-name
   unfolds-at d h =
       let l : d < length ds = rw (length-program ls) h in
-      let e : position ds (dtype-at ds d .dt-name) ≡ d = position-distinct ds (distinct-program ls (λ i k. none-first (row6 ls) (count 6 b) (p .distinct) i (omega (arith, length-lines 6 b)))) d l in
+      let e : position ds (dtype-at ds d .dt-name) ≡ d = position-distinct ds (distinct-names ls p) d l in
       rw e at (s .names (dtype-at ds d .dt-name))
 
   next-at : (d : ℕ) → d < decls-of ls → next d ≡ type-names ds (unfolded (closed (unfold-at ls u d)))
@@ -131,15 +126,15 @@ module _ (b : List ℕ) (p : Passed b) (u : List ℕ) (s : Settled b u) where
         go g = first-as next (decls-of ls) words after steps-hold q q′ r (omega (arith, g .is, first-le (cyclic (search.steps (decls-of ls) words after) (decls-of ls)) (decls-of ls))) g
 
 -- ---- where no declaration returns
-module _ (b : List ℕ) (p : Passed b) (u : List ℕ) (s : Settled b u) (q q′ : List ℕ)
-    (f : First (unfold-next (program (lines 6 b)) (layouts-of (program (lines 6 b)))) (decls-of (lines 6 b)) (decls-of (lines 6 b)) q q′) where
+module _ (ls : List Line) (p : Passed ls) (u : List ℕ) (s : Settled ls u) (q q′ : List ℕ)
+    (f : First (unfold-next (program ls) (layouts-of (program ls))) (decls-of ls) (decls-of ls) q q′) where
   abbrev all : List Line
-  all = lines 6 b
+  all = ls
 
   abbrev decls : List Decl
-  decls = program (lines 6 b)
+  decls = program ls
 
-  below : (x y : ℕ) → List·Memᴰ y (next b p u s x) → y < decls-of all
+  below : (x y : ℕ) → List·Memᴰ y (next ls p u s x) → y < decls-of all
   below x y m = rw (length-program all) at (unfold-below decls (layouts-of decls) x y m)
 
   -- row 8 passes
@@ -147,7 +142,7 @@ module _ (b : List ℕ) (p : Passed b) (u : List ℕ) (s : Settled b u) (q q′ 
   unfolding returns
   no-return i h =
       let l : length decls ≡ decls-of all = length-program all in
-      rw l (first-before (cyclic (next b p u s) (decls-of all)) (decls-of all) i (omega (arith, f .is, l)))
+      rw l (first-before (cyclic (next ls p u s) (decls-of all)) (decls-of all) i (omega (arith, f .is, l)))
 
   -- an unfolded name is declared
   unfolds-below : (i : ℕ) → Unfolds (unfold-at all u i) → i < decls-of all
@@ -162,13 +157,13 @@ module _ (b : List ℕ) (p : Passed b) (u : List ℕ) (s : Settled b u) (q q′ 
           absurd (rw z at w)
 
   -- The ranks serve the normal forms, in a list of as many cells as there are declarations.
-  pub ranked-by : (t rank : List ℕ) → Tabled b t → length rank ≡ decls-of all → ((d : ℕ) → d < decls-of all → getD rank d 0 ≡ getD q′ d 0) → Ranked b t u rank
+  pub ranked-by : (t rank : List ℕ) → TableOf ls t → length rank ≡ decls-of all → ((d : ℕ) → d < decls-of all → getD rank d 0 ≡ getD q′ d 0) → Ranked ls t u rank
   ranked-by t rank tabled long same =
       record {
         tabled = tabled;
         long = s .long;
         ranks = long;
-        few = λ d h o. rw (same d h) (ranks-below (next b p u s) (decls-of all) below q q′ f d h);
+        few = λ d h o. rw (same d h) (ranks-below (next ls p u s) (decls-of all) below q q′ f d h);
         bodies = s .bodies;
         lower = λ d h o. names-all (λ n. Unfolds (lay-of all u n) → getD rank (position decls n) 0 < getD rank d 0) (type-of all (body-of u d)) (λ n m w. falls d h o n m w);
       }
@@ -177,14 +172,14 @@ module _ (b : List ℕ) (p : Passed b) (u : List ℕ) (s : Settled b u) (q q′ 
       falls d h o n m w =
           let i : position decls n < decls-of all = unfolds-below (position decls n) w in
           let k : List·Memᴰ (position decls n) (names-in decls (type-of all (body-of u d))) = names-in-iff decls (type-of all (body-of u d)) (position decls n) .1 (record { name = n; named = m; placed = refl; below = rw (length-program all) i }) in
-          rw (same d h, same (position decls n) i) (ranks-fall (next b p u s) (decls-of all) below q q′ f d (position decls n) h (subst (List·Memᴰ (position decls n)) (sym (open-next b p u s d h o)) k))
+          rw (same d h, same (position decls n) i) (ranks-fall (next ls p u s) (decls-of all) below q q′ f d (position decls n) h (subst (List·Memᴰ (position decls n)) (sym (open-next ls p u s d h o)) k))
 
   -- in the list that was lent, where it has no more,
-  pub ranked-all : (t : List ℕ) → Tabled b t → length q′ ≡ decls-of all → Ranked b t u q′
+  pub ranked-all : (t : List ℕ) → TableOf ls t → length q′ ≡ decls-of all → Ranked ls t u q′
   ranked-all t tabled long = ranked-by t q′ tabled long (λ d h. refl)
 
   -- or in its front.
-  pub ranked-front : (t : List ℕ) → Tabled b t → decls-of all ≤ length q′ → Ranked b t u (take (decls-of all) q′)
+  pub ranked-front : (t : List ℕ) → TableOf ls t → decls-of all ≤ length q′ → Ranked ls t u (take (decls-of all) q′)
   ranked-front t tabled long = ranked-by t (take (decls-of all) q′) tabled (omega (arith, length-take (decls-of all) q′)) (λ d h. getD-take (decls-of all) q′ d 0 h)
 
   -- The names have ranks in the terms of the source.

@@ -2,7 +2,6 @@
 ghost use mathlib.Core.Path.{_≡_};
 ghost use Prim.Native.Nat.{_+_, _*_, _≤_, _<_};
 ghost use lib.ListN.{length};
-ghost use Rattle.sheet.specs.Sheet as sheet;
 ghost use Rattle.model.specs.Run as run;
 ghost use Rattle.meaning.specs.Program as program;
 ghost use Rattle.meaning.specs.Rows as rows;
@@ -28,13 +27,13 @@ fn body(u: &[u16], types: u16, d: usize) -> u16
 }
 
 // The bodies that row 8 goes on through.
-fn put_bodies(s: &[u8], t: &[u32], u: &[u16], bodies: &mut [u16])
-    requires { ⌜ tables.Tabled (now s) (now t) ⌝ }
-    requires { ⌜ length (now u) ≡ 2 * tables.decls-of (sheet.lines 6 (now s)) ⌝ }
-    requires { ⌜ length (now bodies) ≡ tables.decls-of (sheet.lines 6 (now s)) ⌝ }
-    ensures { λ _. ⌜ Through (sheet.lines 6 (now (s .entry))) (now (u .entry)) (tables.decls-of (sheet.lines 6 (now (s .entry)))) (now (bodies .exit)) ⌝ }
+fn put_bodies(t: &[u32], u: &[u16], bodies: &mut [u16])
+    requires { ⌜ tables.Tabled (now t) ⌝ }
+    requires { ⌜ length (now u) ≡ 2 * tables.decls-of (tables.lines-in (now t)) ⌝ }
+    requires { ⌜ length (now bodies) ≡ tables.decls-of (tables.lines-in (now t)) ⌝ }
+    ensures { λ _. ⌜ Through (tables.lines-in (now (t .entry))) (now (u .entry)) (tables.decls-of (tables.lines-in (now (t .entry)))) (now (bodies .exit)) ⌝ }
 {
-    let types = tables::types(s, t) as u16;
+    let types = tables::types(t) as u16;
     for d in 0..bodies.len() {
         bodies[d] = body(u, types, d);
     }
@@ -42,7 +41,6 @@ fn put_bodies(s: &[u8], t: &[u32], u: &[u16], bodies: &mut [u16])
 
 // The first declaration that returns to itself, or the number of declarations; and the ranks of all before it.
 pub fn returning(
-    s: &[u8],
     t: &[u32],
     u: &[u16],
     sets: &[u64],
@@ -51,15 +49,15 @@ pub fn returning(
     steps: &mut [u64],
     rank: &mut [u16],
 ) -> usize
-    requires { ⌜ tables.Tabled (now s) (now t) ⌝ }
-    requires { ⌜ Settled (now s) (now u) ⌝ }
-    requires { ⌜ Mentioned (sheet.lines 6 (now s)) words (now sets) (rows.count-of program.type-line (sheet.lines 6 (now s))) ⌝ }
-    requires { ⌜ Room (tables.decls-of (sheet.lines 6 (now s))) words (now bodies) (now steps) (now rank) ⌝ }
-    ensures { λ r. ⌜ First (run.unfold-next (program.program (sheet.lines 6 (now (s .entry)))) (run.layouts-of (program.program (sheet.lines 6 (now (s .entry)))))) (tables.decls-of (sheet.lines 6 (now (s .entry)))) r (now (rank .entry)) (now (rank .exit)) ⌝ }
+    requires { ⌜ tables.Tabled (now t) ⌝ }
+    requires { ⌜ Settled (tables.lines-in (now t)) (now u) ⌝ }
+    requires { ⌜ Mentioned (tables.lines-in (now t)) words (now sets) (rows.count-of program.type-line (tables.lines-in (now t))) ⌝ }
+    requires { ⌜ Room (tables.decls-of (tables.lines-in (now t))) words (now bodies) (now steps) (now rank) ⌝ }
+    ensures { λ r. ⌜ First (run.unfold-next (program.program (tables.lines-in (now (t .entry)))) (run.layouts-of (program.program (tables.lines-in (now (t .entry)))))) (tables.decls-of (tables.lines-in (now (t .entry)))) r (now (rank .entry)) (now (rank .exit)) ⌝ }
 {
-    put_bodies(s, t, u, bodies);
-    let types = tables::types(s, t);
+    put_bodies(t, u, bodies);
+    let types = tables::types(t);
     edges::edges(sets, words, types, bodies, steps);
-    let n = tables::decls(s, t);
+    let n = tables::decls(t);
     ranks::ranks(steps, words, n, rank)
 }

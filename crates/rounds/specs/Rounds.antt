@@ -6,7 +6,7 @@ use mathlib.Core.Bool.{Bool, true, false}
 use Prim.Native.Nat.{ℕ, suc, _+_, _<_}
 use lib.ListN.{length, getD}
 use Rattle.sheet.specs.Line.{Line}
-use Rattle.model.specs.Decl.{Decl, position, bit}
+use Rattle.model.specs.Decl.{position, bit}
 use Rattle.model.specs.Erasure.{rule, update, Settled, settle, start, round}
 use Rattle.meaning.specs.Program.{type-line, import-line, is, program}
 use Rattle.meaning.specs.Rows.{count-of}

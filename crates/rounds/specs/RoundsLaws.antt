@@ -1,43 +1,40 @@
 -- The marks of types and the places of declarations, where one declaration more is erased; and rounds. Assumes nothing.
-use mathlib.Core.Path.{_≡_, refl, ap, ap₂, sym, _∙_}
-use mathlib.Core.Logic.{_≢_, inl, inr, ⊎-elim}
+use mathlib.Core.Path.{_≡_, refl, ap, sym, _∙_}
+use mathlib.Core.Logic.{inr, ⊎-elim}
 use mathlib.Core.List.{List, [], _∷_, map}
 use mathlib.Core.Bool.{Bool, true, false, _&&_}
 use Prim.Native.Nat.{ℕ, zero, suc, _+_, _-_, _≤_, _<_}
 use native.Mathlib.Omega.{arith}
-use lib.Dec.{T, eqb, ltb}
+use lib.Dec.{eqb}
 use lib.ListN.{length, getD, set, length-map, length-set}
 use lib.Seq.{getD-set-same, getD-set-other, set-getD}
-use borrow.Author.Tests.{eqb-true, eqb-false, eq-eqb, ne-eqb, ltb-true, ltb-false}
-use Rattle.sheet.specs.Line.{Line, number}
-use Rattle.sheet.specs.Sheet.{lines}
+use borrow.Author.Tests.{eqb-true, eqb-false, eq-eqb, ne-eqb}
+use Rattle.sheet.specs.Line.{Line}
 use Rattle.sheet.specs.ListLaws.{contrary}
-use Rattle.model.specs.Cty.{Cty, Ctys, TUnit, nil, cons}
-use Rattle.model.specs.Decl.{Decl, origin-at, here, imported, position, bit}
-use Rattle.model.specs.Erasure.{is-pure, cty-erased, ctys-erased, marked, rule-of, rule, update, sweep, same, Settled, settle, start-of, start, round}
-use Rattle.meaning.specs.Program.{name-line, arg-line, type-line, field-line, import-line, is, list-of, trees, program}
+use Rattle.model.specs.Cty.{TUnit}
+use Rattle.model.specs.Decl.{origin-at, here, imported, position, bit}
+use Rattle.model.specs.Erasure.{is-pure, cty-erased, marked, rule-of, rule, update, sweep, same, Settled, settle, start-of, start, round}
+use Rattle.meaning.specs.Program.{name-line, type-line, import-line, is, trees, program}
 use Rattle.meaning.specs.Rows.{count-of}
 use Rattle.model_laws.specs.Lists.{trues, true-of}
-use Rattle.model_laws.specs.Rounds.{At, Le, At-lt, cases-eq, trues-le, same-eq, same-refl, Sound, length-round}
+use Rattle.model_laws.specs.Rounds.{At, Le, cases-eq, trues-le, same-eq, same-refl, Sound}
 use Rattle.model_laws.specs.Erasure.{cty-erased-mono, rule-mono, start-at}
-use Rattle.meaning.specs.Laws.Program.{length-program}
 use Rattle.type_lines.specs.TypeLists.{types-of}
 use Rattle.limits.specs.Limits.{counts-of}
-use Rattle.refusals.specs.Rows.{Passed}
-use Rattle.refusals.specs.RowsLaws.{passed-kept}
-use Rattle.tables.specs.Tables.{nth, head-line, decls-of, first-of}
+use Rattle.declared.specs.Passed.{Passed}
+use Rattle.declared.specs.PassedLaws.{passed-kept}
+use Rattle.tables.specs.Tables.{nth, head-line, decls-of}
 use Rattle.declared.specs.TypeLaws.{good-arrow, good-tuple, good-inline, good-type-at}
-use Rattle.declared.specs.DeclLaws.{origin-import, verdict-is}
-use Rattle.marks.specs.Marks.{part, arg-of, marks-of, type-erased, Placed, Marks}
+use Rattle.declared.specs.DeclLaws.{origin-import}
+use Rattle.marks.specs.Marks.{part, arg-of, marks-of, type-erased}
 use Rattle.marks.specs.MarksLaws.{arg-is, bit-zero, marks-at, erased-unit, erased-arrow, erased-app, erased-inline, erased-other, tuple-same}
-use Rattle.bodies.specs.Bodies.{field-type, decl-erased, Erased, Places, State}
-use Rattle.rounds.specs.declared.Round.{Round}
-use Rattle.rounds.specs.Rounds.{Uses, Running, Still, Stands, Updated, Swept, Ended, ends-in}
+use Rattle.bodies.specs.Bodies.{field-type, State}
+use Rattle.rounds.specs.Rounds.{Running, Still, Stands, Updated}
 
 -- ---- the limits
-pub decls-few : (b : List ℕ) → Passed b → decls-of (lines 6 b) ≤ 96
+pub decls-few : (ls : List Line) → Passed ls → decls-of ls ≤ 96
 unfolding counts-of
-decls-few b p = passed-kept b p .decls
+decls-few ls p = passed-kept ls p .decls
 
 pub marks-few : (ls : List Line) (decl : List ℕ) → length decl ≡ decls-of ls → trues (marks-of decl) ≤ decls-of ls
 marks-few ls decl e = omega (arith, trues-le (marks-of decl), length-map decl (λ x. eqb x 1))
@@ -51,39 +48,39 @@ type-mono ls m n l y e =
     (cty-erased-mono (marked (program ls) m) (marked (program ls) n) (getD (trees ls) y TUnit) (λ k _. l (position (program ls) k)) (rw e tt))
 
 -- ---- types below the first that names a declaration
-module _ (b : List ℕ) (p : Passed b) (m n : List Bool) where
+module _ (ls : List Line) (p : Passed ls) (m n : List Bool) where
   -- a type is erased alike where its children and its name are
-  same-type : (y : ℕ) → y < count-of type-line (lines 6 b) → ((a : ℕ) → a < y → type-erased (lines 6 b) n a ≡ type-erased (lines 6 b) m a)
-      → (part (lines 6 b) y 0 ≡ 8 → marked (program (lines 6 b)) n (part (lines 6 b) y 1) ≡ marked (program (lines 6 b)) m (part (lines 6 b) y 1))
-      → type-erased (lines 6 b) n y ≡ type-erased (lines 6 b) m y
+  same-type : (y : ℕ) → y < count-of type-line ls → ((a : ℕ) → a < y → type-erased ls n a ≡ type-erased ls m a)
+      → (part ls y 0 ≡ 8 → marked (program ls) n (part ls y 1) ≡ marked (program ls) m (part ls y 1))
+      → type-erased ls n y ≡ type-erased ls m y
   same-type y h f g = go (eqb k 0) (eqb k 7) (eqb k 8) (eqb k 9) (eqb k 12) refl refl refl refl refl
     where
       k : ℕ
-      k = part (lines 6 b) y 0
+      k = part ls y 0
 
-      go : (u v w x z : Bool) → eqb k 0 ≡ u → eqb k 7 ≡ v → eqb k 8 ≡ w → eqb k 9 ≡ x → eqb k 12 ≡ z → type-erased (lines 6 b) n y ≡ type-erased (lines 6 b) m y
-      go true v w x z u' v' w' x' z' = let e = eqb-true k 0 u' in erased-unit b p n y h e ∙ sym (erased-unit b p m y h e)
+      go : (u v w x z : Bool) → eqb k 0 ≡ u → eqb k 7 ≡ v → eqb k 8 ≡ w → eqb k 9 ≡ x → eqb k 12 ≡ z → type-erased ls n y ≡ type-erased ls m y
+      go true v w x z u' v' w' x' z' = let e = eqb-true k 0 u' in erased-unit ls p n y h e ∙ sym (erased-unit ls p m y h e)
       go false true w x z u' v' w' x' z' =
           let e = eqb-true k 7 v' in
-          let l = good-arrow (count-of name-line (lines 6 b)) (types-of (lines 6 b)) y (nth type-line (lines 6 b) y) (good-type-at b p y h) e .2 in
-          erased-arrow b p n y h e ∙ ap (λ (q : Bool). is-pure (part (lines 6 b) y 2) && q) (f (part (lines 6 b) y 3) l) ∙ sym (erased-arrow b p m y h e)
-      go false false true x z u' v' w' x' z' = let e = eqb-true k 8 w' in erased-app b p n y h e ∙ g e ∙ sym (erased-app b p m y h e)
+          let l = good-arrow (count-of name-line ls) (types-of ls) y (nth type-line ls y) (good-type-at ls p y h) e .2 in
+          erased-arrow ls p n y h e ∙ ap (λ (q : Bool). is-pure (part ls y 2) && q) (f (part ls y 3) l) ∙ sym (erased-arrow ls p m y h e)
+      go false false true x z u' v' w' x' z' = let e = eqb-true k 8 w' in erased-app ls p n y h e ∙ g e ∙ sym (erased-app ls p m y h e)
       go false false false true z u' v' w' x' z' =
           let e = eqb-true k 9 x' in
-          tuple-same b p m n y h e
-          (λ j l. f (arg-of (lines 6 b) (part (lines 6 b) y 1 + j))
-          (rw (arg-is (lines 6 b) (part (lines 6 b) y 1 + j)) at (good-tuple (count-of name-line (lines 6 b)) (types-of (lines 6 b)) y (nth type-line (lines 6 b) y) (good-type-at b p y h) e j l .1)))
+          tuple-same ls p m n y h e
+          (λ j l. f (arg-of ls (part ls y 1 + j))
+          (rw (arg-is ls (part ls y 1 + j)) at (good-tuple (count-of name-line ls) (types-of ls) y (nth type-line ls y) (good-type-at ls p y h) e j l .1)))
       go false false false false true u' v' w' x' z' =
           let e = eqb-true k 12 z' in
-          let l = good-inline (count-of name-line (lines 6 b)) (types-of (lines 6 b)) y (nth type-line (lines 6 b) y) (good-type-at b p y h) e in
-          erased-inline b p n y h e ∙ f (part (lines 6 b) y 1) l ∙ sym (erased-inline b p m y h e)
+          let l = good-inline (count-of name-line ls) (types-of ls) y (nth type-line ls y) (good-type-at ls p y h) e in
+          erased-inline ls p n y h e ∙ f (part ls y 1) l ∙ sym (erased-inline ls p m y h e)
       go false false false false false u' v' w' x' z' =
-          erased-other b p n y h (eqb-false k 0 u') (eqb-false k 7 v') (eqb-false k 8 w') (eqb-false k 9 x') (eqb-false k 12 z')
-          ∙ sym (erased-other b p m y h (eqb-false k 0 u') (eqb-false k 7 v') (eqb-false k 8 w') (eqb-false k 9 x') (eqb-false k 12 z'))
+          erased-other ls p n y h (eqb-false k 0 u') (eqb-false k 7 v') (eqb-false k 8 w') (eqb-false k 9 x') (eqb-false k 12 z')
+          ∙ sym (erased-other ls p m y h (eqb-false k 0 u') (eqb-false k 7 v') (eqb-false k 8 w') (eqb-false k 9 x') (eqb-false k 12 z'))
 
   -- and so are all types below the first that names the one declaration whose mark differs
-  same-below : (u : ℕ) → u ≤ count-of type-line (lines 6 b) → ((y : ℕ) → y < u → part (lines 6 b) y 0 ≡ 8 → marked (program (lines 6 b)) n (part (lines 6 b) y 1) ≡ marked (program (lines 6 b)) m (part (lines 6 b) y 1))
-      → (y : ℕ) → y < u → type-erased (lines 6 b) n y ≡ type-erased (lines 6 b) m y
+  same-below : (u : ℕ) → u ≤ count-of type-line ls → ((y : ℕ) → y < u → part ls y 0 ≡ 8 → marked (program ls) n (part ls y 1) ≡ marked (program ls) m (part ls y 1))
+      → (y : ℕ) → y < u → type-erased ls n y ≡ type-erased ls m y
   same-below zero w f y l = absurd (omega arith)
   same-below (suc u) w f y l =
       cases-eq y u
@@ -106,7 +103,7 @@ trues-set (x ∷ m) zero h e = rw e (omega arith)
 trues-set (x ∷ m) (suc d) h e = rw (trues-set m d (omega arith) e) (omega arith)
 
 -- ---- a declaration in a round
-module _ (b : List ℕ) (p : Passed b) (used decl node member field wait : List ℕ) (right d : ℕ) (R : Running (lines 6 b) used decl node member field wait right) (h : d < decls-of (lines 6 b)) where
+module _ (ls : List Line) (p : Passed ls) (used decl node member field wait : List ℕ) (right d : ℕ) (R : Running ls used decl node member field wait right) (h : d < decls-of ls) where
   m : List Bool
   m = marks-of decl
 
@@ -114,7 +111,7 @@ module _ (b : List ℕ) (p : Passed b) (used decl node member field wait : List 
   inside = rw (length-map decl (λ x. eqb x 1)) (omega (arith, R .state .decl-size))
 
   -- nothing changes
-  pub updated-still : rule (program (lines 6 b)) (marks-of decl) d ≡ getD (marks-of decl) d false → Updated (lines 6 b) used decl decl node member field wait d (record { erased = 0; right = right })
+  pub updated-still : rule (program ls) (marks-of decl) d ≡ getD (marks-of decl) d false → Updated ls used decl decl node member field wait d (record { erased = 0; right = right })
   unfolding update
   updated-still e = record { running = R; marks = sym (ap (set (marks-of decl) d) e ∙ set-getD (marks-of decl) d false); counted = omega arith; still = λ _. refl }
 
@@ -126,40 +123,40 @@ module _ (b : List ℕ) (p : Passed b) (used decl node member field wait : List 
   mark-unset e = marks-at decl d ∙ ne-eqb (getD decl d 0) 1 e
 
   -- an erased declaration stays erased
-  pub stays-erased : getD decl d 0 ≡ 1 → Updated (lines 6 b) used decl decl node member field wait d (record { erased = 0; right = right })
+  pub stays-erased : getD decl d 0 ≡ 1 → Updated ls used decl decl node member field wait d (record { erased = 0; right = right })
   stays-erased e =
       let q = mark-set e in
-      updated-still (true-of (rule (program (lines 6 b)) (marks-of decl) d) (R .sound d (rw q tt)) ∙ sym q)
+      updated-still (true-of (rule (program ls) (marks-of decl) d) (R .sound d (rw q tt)) ∙ sym q)
 
   -- one that waits for a kept type is kept
-  pub stays-waiting : (getD decl d 0 ≡ 1 → ⊥) → getD wait d 0 < right → getD node (getD wait d 0) 0 ≡ 0 → Updated (lines 6 b) used decl decl node member field wait d (record { erased = 0; right = right })
+  pub stays-waiting : (getD decl d 0 ≡ 1 → ⊥) → getD wait d 0 < right → getD node (getD wait d 0) 0 ≡ 0 → Updated ls used decl decl node member field wait d (record { erased = 0; right = right })
   stays-waiting n l e =
       let y : ℕ = getD wait d 0 in
       let s = R .state in
-      let v : type-erased (lines 6 b) (marks-of decl) y ≡ false = bit-zero (getD node y 0) (type-erased (lines 6 b) (marks-of decl) y) (s .marks .right y l) e in
+      let v : type-erased ls (marks-of decl) y ≡ false = bit-zero (getD node y 0) (type-erased ls (marks-of decl) y) (s .marks .right y l) e in
       updated-still (s .places .waits d h (omega (arith, s .marks .low)) (marks-of decl) v ∙ sym (mark-unset n))
 
   -- an import has its verdict
-  pub stays-import : (getD decl d 0 ≡ 1 → ⊥) → is import-line (head-line (lines 6 b) d) ≡ true → Updated (lines 6 b) used decl decl node member field wait d (record { erased = 0; right = right })
+  pub stays-import : (getD decl d 0 ≡ 1 → ⊥) → is import-line (head-line ls d) ≡ true → Updated ls used decl decl node member field wait d (record { erased = 0; right = right })
   unfolding rule rule-of start-of
-  stays-import n e = updated-still (go (origin-at (program (lines 6 b)) d) refl ∙ sym (mark-unset n))
+  stays-import n e = updated-still (go (origin-at (program ls) d) refl ∙ sym (mark-unset n))
     where
-      go : (o : _) → origin-at (program (lines 6 b)) d ≡ o → rule (program (lines 6 b)) (marks-of decl) d ≡ false
-      go here q = let z : _≡_ {A = ℕ} 0 1 = cc (origin-import (lines 6 b) d h e) in absurd (omega arith)
+      go : (o : _) → origin-at (program ls) d ≡ o → rule (program ls) (marks-of decl) d ≡ false
+      go here q = let z : _≡_ {A = ℕ} 0 1 = cc (origin-import ls d h e) in absurd (omega arith)
       go (imported ti) q = verdict (ti .ti-erased) refl
         where
-          verdict : (v : Bool) → ti .ti-erased ≡ v → rule (program (lines 6 b)) (marks-of decl) d ≡ false
+          verdict : (v : Bool) → ti .ti-erased ≡ v → rule (program ls) (marks-of decl) d ≡ false
           verdict true w =
-              let a : At (start (program (lines 6 b))) d = rw (start-at (program (lines 6 b)) d, q, w) tt in
+              let a : At (start (program ls)) d = rw (start-at (program ls) d, q, w) tt in
               contrary (getD (marks-of decl) d false) (true-of (getD (marks-of decl) d false) (R .above d a)) (mark-unset n)
           verdict false w = rw q w
 
   -- so it stays as it is where a round passes it
-  pub stays : Still (lines 6 b) decl node wait d right → Updated (lines 6 b) used decl decl node member field wait d (record { erased = 0; right = right })
+  pub stays : Still ls decl node wait d right → Updated ls used decl decl node member field wait d (record { erased = 0; right = right })
   stays = ⊎-elim stays-erased (⊎-elim (λ w. stays-waiting (w .0) (w .1) (w .2)) (λ w. stays-import (w .0) (w .1)))
 
   -- one that the rules erase becomes erased
-  module _ (low : ℕ) (lo : low ≤ right) (lu : low ≤ getD used d 0) (n : getD decl d 0 ≡ 1 → ⊥) (e : rule (program (lines 6 b)) (marks-of decl) d ≡ true) where
+  module _ (low : ℕ) (lo : low ≤ right) (lu : low ≤ getD used d 0) (n : getD decl d 0 ≡ 1 → ⊥) (e : rule (program ls) (marks-of decl) d ≡ true) where
     more : List Bool
     more = set (marks-of decl) d true
 
@@ -169,13 +166,13 @@ module _ (b : List ℕ) (p : Passed b) (used decl node member field wait : List 
     up : Le (marks-of decl) (set (marks-of decl) d true)
     up = le-set (marks-of decl) d inside
 
-    same-low : (y : ℕ) → y < low → type-erased (lines 6 b) (set (marks-of decl) d true) y ≡ type-erased (lines 6 b) (marks-of decl) y
+    same-low : (y : ℕ) → y < low → type-erased ls (set (marks-of decl) d true) y ≡ type-erased ls (marks-of decl) y
     unfolding marked
     same-low =
-        same-below b p (marks-of decl) (set (marks-of decl) d true) low (omega (arith, R .state .marks .low))
-        (λ y l k. getD-set-other (marks-of decl) d (position (program (lines 6 b)) (part (lines 6 b) y 1)) true false (λ q. R .uses .none d h y (omega arith) (omega (arith, R .state .marks .low)) k q))
+        same-below ls p (marks-of decl) (set (marks-of decl) d true) low (omega (arith, R .state .marks .low))
+        (λ y l k. getD-set-other (marks-of decl) d (position (program ls) (part ls y 1)) true false (λ q. R .uses .none d h y (omega arith) (omega (arith, R .state .marks .low)) k q))
 
-    state-more : State (lines 6 b) (set decl d 1) node member field wait low
+    state-more : State ls (set decl d 1) node member field wait low
     state-more =
         let s = R .state in
         let k = s .marks in
@@ -189,7 +186,7 @@ module _ (b : List ℕ) (p : Passed b) (used decl node member field wait : List 
                 member-size = k .member-size;
                 low = omega (arith, k .low);
                 right = λ y l. k .right y (omega arith) ∙ ap bit (sym (same-low y l));
-                placed = λ y l z. let w = k .placed y l z in record { within = w .within; erased = λ j i. type-mono (lines 6 b) (marks-of decl) (set (marks-of decl) d true) up (arg-of (lines 6 b) (part (lines 6 b) y 1 + j)) (w .erased j i) };
+                placed = λ y l z. let w = k .placed y l z in record { within = w .within; erased = λ j i. type-mono ls (marks-of decl) (set (marks-of decl) d true) up (arg-of ls (part ls y 1 + j)) (w .erased j i) };
               });
           places =
               rw marks-more
@@ -197,17 +194,17 @@ module _ (b : List ℕ) (p : Passed b) (used decl node member field wait : List 
                 field-size = q .field-size;
                 wait-size = q .wait-size;
                 within = q .within;
-                passed = λ i l f a c. type-mono (lines 6 b) (marks-of decl) (set (marks-of decl) d true) up (field-type (lines 6 b) f) (q .passed i l f a c);
+                passed = λ i l f a c. type-mono ls (marks-of decl) (set (marks-of decl) d true) up (field-type ls f) (q .passed i l f a c);
                 waits = q .waits;
               });
         }
 
-    sound-more : Sound (rule (program (lines 6 b))) (set (marks-of decl) d true)
+    sound-more : Sound (rule (program ls)) (set (marks-of decl) d true)
     sound-more i a =
-        rule-mono (program (lines 6 b)) (marks-of decl) (set (marks-of decl) d true) up i
+        rule-mono (program ls) (marks-of decl) (set (marks-of decl) d true) up i
         (cases-eq i d (λ q. rw (q, e) tt) (λ q. R .sound i (rw (getD-set-other (marks-of decl) d i true false q) at a)))
 
-    pub updated-erased : Updated (lines 6 b) used decl (set decl d 1) node member field wait d (record { erased = 1; right = low })
+    pub updated-erased : Updated ls used decl (set decl d 1) node member field wait d (record { erased = 1; right = low })
     unfolding update
     updated-erased =
         record {

@@ -10,7 +10,6 @@ use lib.ListN.{length, getD, replicate}
 use borrow.Author.Tests.{eqb-true, eqb-false, ltb-true, ltb-false}
 use Rattle.columns.specs.Column.{pick, _⇒_∥_}
 use Rattle.sheet.specs.Line.{Line}
-use Rattle.sheet.specs.Sheet.{lines}
 use Rattle.sheet.specs.ListLaws.{Every}
 use Rattle.model.specs.Cty.{Cty}
 use Rattle.model.specs.Decl.{Decl, close}
@@ -60,15 +59,12 @@ module _ (res : Cty → Result Cty) (c : Cty) (cs : List Cty) where
       go spent f = let g : outcome (res c) ≡ spent = ap outcome f in let z : _≡_ {A = ℕ} 0 1 = cc in absurd (omega arith)
 
 -- ---- what the search says of one declaration
-module _ (b t u keep : List ℕ) (asked : Asked b t u keep) (d : ℕ) (h : d < decls-of (lines 6 b)) where
-  abbrev ls : List Line
-  ls = lines 6 b
-
+module _ (ls : List Line) (t u keep : List ℕ) (asked : Asked ls t u keep) (d : ℕ) (h : d < decls-of ls) where
   abbrev ds : List Decl
   ds = program ls
 
   few : length ds ≤ 96
-  few = omega (arith, length-program ls, decls-few b (asked .tabled .passed))
+  few = omega (arith, length-program ls, decls-few ls (asked .tabled .passed))
 
   no-return : NoReturn ds
   no-return i l = asked .no-return i (omega (arith, length-program ls))
@@ -129,45 +125,45 @@ module _ (b t u keep : List ℕ) (asked : Asked b t u keep) (d : ℕ) (h : d < d
       let q = stopped room ys r l n a in
       (q .0, code-fine res (type-at y) (map type-at ys) (f .outcome) (fine-is y f) ∙ q .1)
 
-  fault-is : fault-of b d ≡ fault-code res (map type-at (resolves-of ls u keep d))
+  fault-is : fault-of ls d ≡ fault-code res (map type-at (resolves-of ls u keep d))
   unfolding decl-fault
-  fault-is = ap (fault-code res) (sym (resolves-are b (asked .tabled .passed) u keep (asked .slotted) (asked .settled) d h))
+  fault-is = ap (fault-code res) (sym (resolves-are ls (asked .tabled .passed) u keep (asked .slotted) (asked .settled) d h))
 
-  pub fine-fault : AllFine ls u keep d → fault-of b d ≡ 0
+  pub fine-fault : AllFine ls u keep d → fault-of ls d ≡ 0
   fine-fault f = fault-is ∙ all-fine (resolves-of ls u keep d) f
 
-  pub stopped-fault : (room r : ℕ) → r < 4 → (r ≡ 1 → ⊥) → Answers ls u d room (resolves-of ls u keep d) r → (2 ≤ r) × (fault-of b d ≡ pick (eqb r 2) 9 10)
+  pub stopped-fault : (room r : ℕ) → r < 4 → (r ≡ 1 → ⊥) → Answers ls u d room (resolves-of ls u keep d) r → (2 ≤ r) × (fault-of ls d ≡ pick (eqb r 2) 9 10)
   stopped-fault room r l n a = let q = stopped room (resolves-of ls u keep d) r l n a in (q .0, fault-is ∙ q .1)
 
   pub short-fault : (room : ℕ) → Answers ls u d room (resolves-of ls u keep d) 1 → room < 1024 * 97
   short-fault room a = short room (resolves-of ls u keep d) a
 
 -- ---- what an attempt comes to
-pub comes : (b t u keep : List ℕ) → Asked b t u keep → (room : ℕ) (f : First) → Firstly (lines 6 b) u keep room f → Comes b room (outcome-of (f .answer) (f .decl))
+pub comes : (ls : List Line) (t u keep : List ℕ) → Asked ls t u keep → (room : ℕ) (f : First) → Firstly ls u keep room f → Comes ls room (outcome-of (f .answer) (f .decl))
 unfolding outcome-of
-comes b t u keep asked room f w = go (eqb (f .answer) 1) refl (eqb (f .answer) 2) refl (eqb (f .answer) 3) refl
+comes ls t u keep asked room f w = go (eqb (f .answer) 1) refl (eqb (f .answer) 2) refl (eqb (f .answer) 3) refl
   where
     r : ℕ
     r = f .answer
 
-    before : f .decl ≤ decls-of (lines 6 b) → (i : ℕ) → i < f .decl → fault-of b i ≡ 0
-    before l i q = fine-fault b t u keep asked i (omega arith) (w .fine i q)
+    before : f .decl ≤ decls-of ls → (i : ℕ) → i < f .decl → fault-of ls i ≡ 0
+    before l i q = fine-fault ls t u keep asked i (omega arith) (w .fine i q)
 
-    stop : (c : ℕ) → f .answer < 4 → (f .answer ≡ 1 → ⊥) → pick (eqb (f .answer) 2) 9 10 ≡ c → (c ≡ 0 → ⊥) → FaultAt b c (f .decl)
+    stop : (c : ℕ) → f .answer < 4 → (f .answer ≡ 1 → ⊥) → pick (eqb (f .answer) 2) 9 10 ≡ c → (c ≡ 0 → ⊥) → FaultAt ls c (f .decl)
     stop c l n e z =
         let s = w .stops l in
         record {
           inside = s .0;
           before = before (omega (arith, s .0));
-          is = sym e ∙ sym (stopped-fault b t u keep asked (f .decl) (s .0) room (f .answer) l n (s .1) .1);
+          is = sym e ∙ sym (stopped-fault ls t u keep asked (f .decl) (s .0) room (f .answer) l n (s .1) .1);
           any = z;
         }
 
-    go : (x : Bool) → eqb (f .answer) 1 ≡ x → (y : Bool) → eqb (f .answer) 2 ≡ y → (z : Bool) → eqb (f .answer) 3 ≡ z → Comes b room (x ⇒ NoRoom ∥ y ⇒ Fault 9 (f .decl) ∥ z ⇒ Fault 10 (f .decl) ∥ Clear)
+    go : (x : Bool) → eqb (f .answer) 1 ≡ x → (y : Bool) → eqb (f .answer) 2 ≡ y → (z : Bool) → eqb (f .answer) 3 ≡ z → Comes ls room (x ⇒ NoRoom ∥ y ⇒ Fault 9 (f .decl) ∥ z ⇒ Fault 10 (f .decl) ∥ Clear)
     go true e y g z k =
         let a : f .answer ≡ 1 = eqb-true (f .answer) 1 e in
         let s = w .stops (omega arith) in
-        short-fault b t u keep asked (f .decl) (s .0) room (subst (λ (n : ℕ). Answers (lines 6 b) u (f .decl) room (resolves-of (lines 6 b) u keep (f .decl)) n) a (s .1))
+        short-fault ls t u keep asked (f .decl) (s .0) room (subst (λ (n : ℕ). Answers ls u (f .decl) room (resolves-of ls u keep (f .decl)) n) a (s .1))
     go false e true g z k = let a : f .answer ≡ 2 = eqb-true (f .answer) 2 g in stop 9 (omega arith) (λ q. omega arith) (ap (λ (c : Bool). pick c 9 10) g) (λ q. omega arith)
     go false e false g true k = let a : f .answer ≡ 3 = eqb-true (f .answer) 3 k in stop 10 (omega arith) (λ q. omega arith) (ap (λ (c : Bool). pick c 9 10) g) (λ q. omega arith)
     go false e false g false k = λ d h. all d h (ltb (f .answer) 4) refl
@@ -175,19 +171,19 @@ comes b t u keep asked room f w = go (eqb (f .answer) 1) refl (eqb (f .answer) 2
         n1 : f .answer ≡ 1 → ⊥
         n1 = eqb-false (f .answer) 1 e
 
-        all : (d : ℕ) → d < decls-of (lines 6 b) → (c : Bool) → ltb (f .answer) 4 ≡ c → fault-of b d ≡ 0
+        all : (d : ℕ) → d < decls-of ls → (c : Bool) → ltb (f .answer) 4 ≡ c → fault-of ls d ≡ 0
         all d h true q =
             let l : f .answer < 4 = ltb-true (f .answer) 4 q in
             let s = w .stops l in
-            absurd (omega (arith, stopped-fault b t u keep asked (f .decl) (s .0) room (f .answer) l n1 (s .1) .0, eqb-false (f .answer) 2 g, eqb-false (f .answer) 3 k))
+            absurd (omega (arith, stopped-fault ls t u keep asked (f .decl) (s .0) room (f .answer) l n1 (s .1) .0, eqb-false (f .answer) 2 g, eqb-false (f .answer) 3 k))
         all d h false q =
-            let l : f .decl ≡ decls-of (lines 6 b) = w .all (ltb-false (f .answer) 4 q) in
+            let l : f .decl ≡ decls-of ls = w .all (ltb-false (f .answer) 4 q) in
             before (omega arith) d (omega arith)
 
 -- ---- for the code
 -- what the search asks
-pub asked-kept : (b t u keep : List ℕ) → Asked b t u keep → Kept b t u keep
-asked-kept b t u keep a =
+pub asked-kept : (ls : List Line) (t u keep : List ℕ) → Asked ls t u keep → Kept ls t u keep
+asked-kept ls t u keep a =
     record {
       setup =
           record {
@@ -207,5 +203,5 @@ pub slots-zero : (call : ℕ → List ℕ → ℕ → Result ℕ) (n : ℕ) → 
 slots-zero call n = slots-none call (replicate n 0) (zeros n)
 
 -- an attempt with n places
-pub attempted : (b t u keep : List ℕ) → Asked b t u keep → (n : ℕ) (f : First) (r : Outcome) → Firstly (lines 6 b) u keep n f → r ≡ outcome-of (f .answer) (f .decl) → Comes b n r
-attempted b t u keep asked n f r w e = subst (λ (x : Outcome). Comes b n x) (sym e) (comes b t u keep asked n f w)
+pub attempted : (ls : List Line) (t u keep : List ℕ) → Asked ls t u keep → (n : ℕ) (f : First) (r : Outcome) → Firstly ls u keep n f → r ≡ outcome-of (f .answer) (f .decl) → Comes ls n r
+attempted ls t u keep asked n f r w e = subst (λ (x : Outcome). Comes ls n x) (sym e) (comes ls t u keep asked n f w)

@@ -4,70 +4,21 @@
 use mathlib.Core.Path.{_≡_, refl, ap, ap₂, sym, _∙_, subst, fun-ext}
 use mathlib.Core.List.{List, [], _∷_, _++_}
 use mathlib.Core.Bool.{Bool, true, false}
-use Prim.Native.Nat.{ℕ, zero, suc, _+_, _≤_, _<_}
+use Prim.Native.Nat.{ℕ, zero, suc, _+_, _≤_}
 use native.Mathlib.Omega.{arith}
-use lib.Dec.{eqb, leb, ltb}
-use lib.ListN.{length, drop}
+use lib.Dec.{eqb, ltb}
+use lib.ListN.{length}
 use borrow.Author.Tests.{le-leb, eqb-true, eqb-false}
 use Rattle.columns.specs.Column.{pick}
-use Rattle.model.specs.Cty.{
-  Cty,
-  Ctys,
-  TUnit,
-  TAny,
-  TExn,
-  TVar,
-  TInt,
-  TFloat,
-  TConst,
-  TArrow,
-  TApp,
-  TTuple,
-  TBuf,
-  TRef,
-  TInline,
-  nil,
-  cons,
-  others,
-  walk,
-  walks,
-  zip,
-  subst-cty,
-}
+use Rattle.model.specs.Cty.{Cty, Ctys, TUnit, TAny, TExn, TVar, TInt, TFloat, TConst, TArrow, TApp, TTuple, TBuf, TRef, TInline, nil, cons, others, walk, walks, zip, subst-cty}
 use Rattle.model.specs.Decl.{member, close}
 use Rattle.model.specs.Resolve.{Unfold, gone, newtype, abbreviation, stays, attach, Result, ok, fault, spent, bind, resolve-checked}
 use Rattle.model_laws.specs.Cty.{attach-nil, subst-none}
 use Rattle.model_laws.specs.Resolve.{Unspent}
-use Rattle.outcomes.specs.Outcome.{
-  coded,
-  nodes,
-  head,
-  other,
-  app,
-  one,
-  outcome,
-  mapped,
-  shapes,
-  total,
-  attached,
-  built,
-  argument,
-  weight,
-  weights,
-  instance-head,
-  instance-shape,
-  Next,
-  extra,
-  surplus-called,
-  called,
-  eval,
-  evals,
-  entered,
-  ev,
-}
+use Rattle.outcomes.specs.Outcome.{coded, nodes, head, other, app, one, outcome, mapped, shapes, total, attached, built, argument, weight, weights, instance-head, instance-shape, Next, extra, surplus-called, called, eval, evals, entered, ev}
 use Rattle.outcomes.specs.Answer.{nine, answer, Told}
 use Rattle.outcomes.specs.Laws.Ev.{ev-law}
-use Rattle.outcomes.specs.Laws.Fuel.{Leads, leads-unspent}
+use Rattle.outcomes.specs.Laws.Fuel.{leads-unspent}
 use Rattle.states.specs.States.{closed}
 
 argument-unbound : (ps os : List ℕ) (v : ℕ) → member v ps ≡ false → argument ps os v ≡ one

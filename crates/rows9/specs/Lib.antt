@@ -1,5 +1,4 @@
 pub mod Closing
 pub mod Attempts
 pub mod AttemptsLaws
-pub mod Rows9
 pub mod Rows9Laws

@@ -2,9 +2,9 @@
 // clearing the arrays would take longer than the resolution. Only a full array of outcomes stops an attempt.
 ghost use mathlib.Core.Path.{_≡_};
 ghost use lib.ListN.{length};
-ghost use Rattle.sheet.specs.Sheet as sheet;
 ghost use Rattle.memory.specs.Slots.{Slots};
 ghost use Rattle.resolving.specs.Resolver as resolver;
+ghost use Rattle.tables.specs.Tables.{lines-in};
 ghost use Rattle.rows9.specs.Attempts as attempts;
 
 // Every type resolves; the code and the declaration of the first fault; the array was full.
@@ -31,60 +31,60 @@ fn told(answer: usize, decl: usize) -> Outcome
 }
 
 // With these arrays.
-fn tried(s: &[u8], t: &[u32], u: &[u16], keep: &[u8], out: &mut [u16], slots: &mut [u16]) -> Outcome
-    requires { ⌜ attempts.Asked (now s) (now t) (now u) (now keep) ⌝ }
-    requires { ⌜ Slots (resolver.call-of (sheet.lines 6 (now s)) (now u)) (now slots) ⌝ }
-    ensures { λ r. ⌜ attempts.Comes (now (s .entry)) (length (now (out .entry))) r ⌝ }
+fn tried(t: &[u32], u: &[u16], keep: &[u8], out: &mut [u16], slots: &mut [u16]) -> Outcome
+    requires { ⌜ attempts.Asked (lines-in (now t)) (now t) (now u) (now keep) ⌝ }
+    requires { ⌜ Slots (resolver.call-of (lines-in (now t)) (now u)) (now slots) ⌝ }
+    ensures { λ r. ⌜ attempts.Comes (lines-in (now (t .entry))) (length (now (out .entry))) r ⌝ }
 {
-    let f = faults::first_fault(s, t, u, keep, out, slots);
+    let f = faults::first_fault(t, u, keep, out, slots);
     let answer = f.answer;
     let decl = f.decl;
     told(answer, decl)
 }
 
 // With 2,048 slots.
-fn remembering(s: &[u8], t: &[u32], u: &[u16], keep: &[u8], out: &mut [u16]) -> Outcome
-    requires { ⌜ attempts.Asked (now s) (now t) (now u) (now keep) ⌝ }
-    ensures { λ r. ⌜ attempts.Comes (now (s .entry)) (length (now (out .entry))) r ⌝ }
+fn remembering(t: &[u32], u: &[u16], keep: &[u8], out: &mut [u16]) -> Outcome
+    requires { ⌜ attempts.Asked (lines-in (now t)) (now t) (now u) (now keep) ⌝ }
+    ensures { λ r. ⌜ attempts.Comes (lines-in (now (t .entry))) (length (now (out .entry))) r ⌝ }
 {
     let mut slots = [0u16; 22528];
-    tried(s, t, u, keep, out, &mut slots)
+    tried(t, u, keep, out, &mut slots)
 }
 
 // 512 outcomes and 64 slots.
-pub fn small(s: &[u8], t: &[u32], u: &[u16], keep: &[u8]) -> Outcome
-    requires { ⌜ attempts.Asked (now s) (now t) (now u) (now keep) ⌝ }
-    ensures { λ r. ⌜ attempts.Comes (now (s .entry)) 512 r ⌝ }
+pub fn small(t: &[u32], u: &[u16], keep: &[u8]) -> Outcome
+    requires { ⌜ attempts.Asked (lines-in (now t)) (now t) (now u) (now keep) ⌝ }
+    ensures { λ r. ⌜ attempts.Comes (lines-in (now (t .entry))) 512 r ⌝ }
 {
     let mut out = [0u16; 512];
     let mut slots = [0u16; 704];
-    tried(s, t, u, keep, &mut out, &mut slots)
+    tried(t, u, keep, &mut out, &mut slots)
 }
 
 // 768 outcomes and 1,024 slots: where more declarations are unfolded, few slots would be slow.
-pub fn middle(s: &[u8], t: &[u32], u: &[u16], keep: &[u8]) -> Outcome
-    requires { ⌜ attempts.Asked (now s) (now t) (now u) (now keep) ⌝ }
-    ensures { λ r. ⌜ attempts.Comes (now (s .entry)) 768 r ⌝ }
+pub fn middle(t: &[u32], u: &[u16], keep: &[u8]) -> Outcome
+    requires { ⌜ attempts.Asked (lines-in (now t)) (now t) (now u) (now keep) ⌝ }
+    ensures { λ r. ⌜ attempts.Comes (lines-in (now (t .entry))) 768 r ⌝ }
 {
     let mut out = [0u16; 768];
     let mut slots = [0u16; 11264];
-    tried(s, t, u, keep, &mut out, &mut slots)
+    tried(t, u, keep, &mut out, &mut slots)
 }
 
 // 1,000 outcomes and 2,048 slots: where many are.
-pub fn wide(s: &[u8], t: &[u32], u: &[u16], keep: &[u8]) -> Outcome
-    requires { ⌜ attempts.Asked (now s) (now t) (now u) (now keep) ⌝ }
-    ensures { λ r. ⌜ attempts.Comes (now (s .entry)) 1000 r ⌝ }
+pub fn wide(t: &[u32], u: &[u16], keep: &[u8]) -> Outcome
+    requires { ⌜ attempts.Asked (lines-in (now t)) (now t) (now u) (now keep) ⌝ }
+    ensures { λ r. ⌜ attempts.Comes (lines-in (now (t .entry))) 1000 r ⌝ }
 {
     let mut out = [0u16; 1000];
-    remembering(s, t, u, keep, &mut out)
+    remembering(t, u, keep, &mut out)
 }
 
 // 97 * 1,024 outcomes, of which any sheet has enough, and 2,048 slots.
-pub fn large(s: &[u8], t: &[u32], u: &[u16], keep: &[u8]) -> Outcome
-    requires { ⌜ attempts.Asked (now s) (now t) (now u) (now keep) ⌝ }
-    ensures { λ r. ⌜ attempts.Comes (now (s .entry)) 99328 r ⌝ }
+pub fn large(t: &[u32], u: &[u16], keep: &[u8]) -> Outcome
+    requires { ⌜ attempts.Asked (lines-in (now t)) (now t) (now u) (now keep) ⌝ }
+    ensures { λ r. ⌜ attempts.Comes (lines-in (now (t .entry))) 99328 r ⌝ }
 {
     let mut out = [0u16; 99328];
-    remembering(s, t, u, keep, &mut out)
+    remembering(t, u, keep, &mut out)
 }

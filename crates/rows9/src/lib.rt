@@ -7,9 +7,10 @@ ghost use mathlib.Core.Path.{_≡_};
 ghost use mathlib.Core.List.{[], _∷_};
 ghost use Prim.Native.Nat.{_≤_};
 ghost use Rattle.answer.specs.Answer as answer;
+ghost use Rattle.sheet.specs.Format.{base};
 ghost use Rattle.tables.specs.Tables as tables;
+ghost use Rattle.head_rows.specs.HeadRows as head_rows;
 ghost use Rattle.rows9.specs.Attempts as attempts;
-ghost use Rattle.rows9.specs.Rows9 as rows9;
 
 // 1 for the state of an unfolded declaration.
 fn unfolds(state: u16) -> usize
@@ -38,55 +39,55 @@ fn unfolded(u: &[u16]) -> usize {
 }
 
 // The first attempt.
-fn attempt(s: &[u8], t: &[u32], u: &[u16], keep: &[u8]) -> Outcome
-    requires { ⌜ attempts.Asked (now s) (now t) (now u) (now keep) ⌝ }
-    ensures { λ r. ⌜ attempts.Comes (now (s .entry)) 512 r ⌝ }
+fn attempt(t: &[u32], u: &[u16], keep: &[u8]) -> Outcome
+    requires { ⌜ attempts.Asked (tables.lines-in (now t)) (now t) (now u) (now keep) ⌝ }
+    ensures { λ r. ⌜ attempts.Comes (tables.lines-in (now (t .entry))) 512 r ⌝ }
 {
     let n = unfolded(u);
     if n <= 4 {
-        return attempts::small(s, t, u, keep);
+        return attempts::small(t, u, keep);
     }
     if n <= 16 {
-        return attempts::middle(s, t, u, keep);
+        return attempts::middle(t, u, keep);
     }
-    attempts::wide(s, t, u, keep)
+    attempts::wide(t, u, keep)
 }
 
 // Comes back with the large arrays where those of the first attempt were full.
-fn completed(s: &[u8], t: &[u32], u: &[u16], keep: &[u8], r: Outcome) -> Outcome
-    requires { ⌜ attempts.Asked (now s) (now t) (now u) (now keep) ⌝ }
-    requires { ⌜ attempts.Comes (now s) 512 r ⌝ }
-    ensures { λ r. ⌜ attempts.Comes (now (s .entry)) 99328 r ⌝ }
+fn completed(t: &[u32], u: &[u16], keep: &[u8], r: Outcome) -> Outcome
+    requires { ⌜ attempts.Asked (tables.lines-in (now t)) (now t) (now u) (now keep) ⌝ }
+    requires { ⌜ attempts.Comes (tables.lines-in (now t)) 512 r ⌝ }
+    ensures { λ r. ⌜ attempts.Comes (tables.lines-in (now (t .entry))) 99328 r ⌝ }
 {
     match r {
         Outcome::Clear => Outcome::Clear,
         Outcome::Fault { code, decl } => Outcome::Fault { code, decl },
-        Outcome::NoRoom => attempts::large(s, t, u, keep),
+        Outcome::NoRoom => attempts::large(t, u, keep),
     }
 }
 
 // The place is the declaration's line. There is room by now.
-fn refused(s: &[u8], t: &[u32], r: Outcome) -> Refusal
-    requires { ⌜ tables.Tabled (now s) (now t) ⌝ }
-    requires { ⌜ attempts.Comes (now s) 99328 r ⌝ }
-    ensures { λ r. ⌜ r ≡ answer.refusal (rows9.faults-row (now (s .entry)) ∷ []) ⌝ }
+fn refused(t: &[u32], r: Outcome) -> Refusal
+    requires { ⌜ tables.Tabled (now t) ⌝ }
+    requires { ⌜ attempts.Comes (tables.lines-in (now t)) 99328 r ⌝ }
+    ensures { λ r. ⌜ r ≡ answer.refusal (head_rows.faults-row base (tables.lines-in (now (t .entry))) ∷ []) ⌝ }
 {
     match r {
         Outcome::Clear => Refusal::Accepted,
         Outcome::Fault { code, decl } => Refusal::Refused {
             code,
-            place: tables::line_of(s, t, decl),
+            place: tables::line_of(t, decl),
         },
         Outcome::NoRoom => Refusal::Accepted,
     }
 }
 
 // Rows 9 and 10.
-pub fn rows9_10(s: &[u8], t: &[u32], u: &[u16], keep: &[u8]) -> Refusal
-    requires { ⌜ attempts.Asked (now s) (now t) (now u) (now keep) ⌝ }
-    ensures { λ r. ⌜ r ≡ answer.refusal (rows9.faults-row (now (s .entry)) ∷ []) ⌝ }
+pub fn rows9_10(t: &[u32], u: &[u16], keep: &[u8]) -> Refusal
+    requires { ⌜ attempts.Asked (tables.lines-in (now t)) (now t) (now u) (now keep) ⌝ }
+    ensures { λ r. ⌜ r ≡ answer.refusal (head_rows.faults-row base (tables.lines-in (now (t .entry))) ∷ []) ⌝ }
 {
-    let first = attempt(s, t, u, keep);
-    let last = completed(s, t, u, keep, first);
-    refused(s, t, last)
+    let first = attempt(t, u, keep);
+    let last = completed(t, u, keep, first);
+    refused(t, last)
 }

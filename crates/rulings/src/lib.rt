@@ -5,16 +5,13 @@ use bodies::Ruled;
 ghost use mathlib.Core.Path.{_≡_};
 ghost use mathlib.Core.Bool.{false};
 ghost use Prim.Native.Nat.{_<_};
-ghost use Rattle.sheet.specs.Sheet as sheet;
 ghost use Rattle.meaning.specs.Program as program;
 ghost use Rattle.meaning.specs.Rows as rows;
 ghost use Rattle.tables.specs.Tables as tables;
-ghost use Rattle.marks.specs.Marks as marks;
 ghost use Rattle.bodies.specs.Bodies as bodies;
 
 // The type that declaration d abbreviates is erased.
 fn abbrev_erased(
-    s: &[u8],
     t: &[u32],
     decl: &[u8],
     node: &mut [u8],
@@ -24,13 +21,13 @@ fn abbrev_erased(
     d: usize,
     right: usize,
 ) -> Ruled
-    requires { ⌜ tables.Tabled (now s) (now t) ⌝ }
-    requires { ⌜ (d < tables.decls-of (sheet.lines 6 (now s))) × bodies.ByType (sheet.lines 6 (now s)) d × (bodies.last-of (sheet.lines 6 (now s)) d < rows.count-of program.type-line (sheet.lines 6 (now s))) ⌝ }
-    requires { ⌜ bodies.State (sheet.lines 6 (now s)) (now decl) (now node) (now member) (now field) (now wait) right ⌝ }
-    ensures { λ r. ⌜ bodies.Ruling (sheet.lines 6 (now (s .entry))) (now (decl .entry)) (now (node .exit)) (now (member .exit)) (now (field .exit)) (now (wait .exit)) d r ⌝ }
+    requires { ⌜ tables.Tabled (now t) ⌝ }
+    requires { ⌜ (d < tables.decls-of (tables.lines-in (now t))) × bodies.ByType (tables.lines-in (now t)) d × (bodies.last-of (tables.lines-in (now t)) d < rows.count-of program.type-line (tables.lines-in (now t))) ⌝ }
+    requires { ⌜ bodies.State (tables.lines-in (now t)) (now decl) (now node) (now member) (now field) (now wait) right ⌝ }
+    ensures { λ r. ⌜ bodies.Ruling (tables.lines-in (now (t .entry))) (now (decl .entry)) (now (node .exit)) (now (member .exit)) (now (field .exit)) (now (wait .exit)) d r ⌝ }
 {
-    let y = tables::decl_number(s, t, d, 4) as usize;
-    let low = marks::mark_types(s, t, decl, node, member, right, y + 1);
+    let y = tables::decl_number(t, d, 4) as usize;
+    let low = marks::mark_types(t, decl, node, member, right, y + 1);
     if node[y] == 0 {
         wait[d] = y as u16;
         return Ruled {
@@ -46,7 +43,6 @@ fn abbrev_erased(
 
 // Layout's `dtype_erased` of a local declaration.
 pub fn dtype_erased(
-    s: &[u8],
     t: &[u32],
     decl: &[u8],
     node: &mut [u8],
@@ -56,12 +52,12 @@ pub fn dtype_erased(
     d: usize,
     right: usize,
 ) -> Ruled
-    requires { ⌜ tables.Tabled (now s) (now t) ⌝ }
-    requires { ⌜ (d < tables.decls-of (sheet.lines 6 (now s))) × (program.is program.import-line (tables.head-line (sheet.lines 6 (now s)) d) ≡ false) ⌝ }
-    requires { ⌜ bodies.State (sheet.lines 6 (now s)) (now decl) (now node) (now member) (now field) (now wait) right ⌝ }
-    ensures { λ r. ⌜ bodies.Ruling (sheet.lines 6 (now (s .entry))) (now (decl .entry)) (now (node .exit)) (now (member .exit)) (now (field .exit)) (now (wait .exit)) d r ⌝ }
+    requires { ⌜ tables.Tabled (now t) ⌝ }
+    requires { ⌜ (d < tables.decls-of (tables.lines-in (now t))) × (program.is program.import-line (tables.head-line (tables.lines-in (now t)) d) ≡ false) ⌝ }
+    requires { ⌜ bodies.State (tables.lines-in (now t)) (now decl) (now node) (now member) (now field) (now wait) right ⌝ }
+    ensures { λ r. ⌜ bodies.Ruling (tables.lines-in (now (t .entry))) (now (decl .entry)) (now (node .exit)) (now (member .exit)) (now (field .exit)) (now (wait .exit)) d r ⌝ }
 {
-    let by = ways::way(s, t, d);
+    let by = ways::way(t, d);
     match by {
         0 => Ruled {
             erased: true,
@@ -71,7 +67,7 @@ pub fn dtype_erased(
             erased: false,
             right,
         },
-        2 => abbrev_erased(s, t, decl, node, member, field, wait, d, right),
-        _ => kept_fields::fields_erased(s, t, decl, node, member, field, wait, d, right),
+        2 => abbrev_erased(t, decl, node, member, field, wait, d, right),
+        _ => kept_fields::fields_erased(t, decl, node, member, field, wait, d, right),
     }
 }

@@ -1,6 +1,5 @@
 // From the marks and the kept fields to the verdicts: candidates, the guard against cycles, layouts.
 use layouts::Verdict;
-ghost use Rattle.sheet.specs.Sheet as sheet;
 ghost use Rattle.meaning.specs.Program as program;
 ghost use Rattle.meaning.specs.Rows as rows;
 ghost use Rattle.tables.specs.Tables as tables;
@@ -11,7 +10,6 @@ ghost use Rattle.screening.specs.Screening.{Room};
 
 // The verdict on every declaration, in lent memory.
 pub fn verdicts(
-    s: &[u8],
     t: &[u32],
     decl: &[u8],
     keep: &[u8],
@@ -24,13 +22,13 @@ pub fn verdicts(
     queue: &mut [u16],
     found: &mut [u8],
 ) -> [Verdict; 96]
-    requires { ⌜ tables.Tabled (now s) (now t) ⌝ }
-    requires { ⌜ Ruled (sheet.lines 6 (now s)) (now decl) (now keep) ⌝ }
-    requires { ⌜ Mentioned (sheet.lines 6 (now s)) words (now sets) (rows.count-of program.type-line (sheet.lines 6 (now s))) ⌝ }
-    requires { ⌜ Room (tables.decls-of (sheet.lines 6 (now s))) words (now fields) (now bodies) (now steps) (now marks) (now queue) (now found) ⌝ }
-    ensures { λ r. ⌜ Laid (sheet.lines 6 (now (s .entry))) r ⌝ }
+    requires { ⌜ tables.Tabled (now t) ⌝ }
+    requires { ⌜ Ruled (tables.lines-in (now t)) (now decl) (now keep) ⌝ }
+    requires { ⌜ Mentioned (tables.lines-in (now t)) words (now sets) (rows.count-of program.type-line (tables.lines-in (now t))) ⌝ }
+    requires { ⌜ Room (tables.decls-of (tables.lines-in (now t))) words (now fields) (now bodies) (now steps) (now marks) (now queue) (now found) ⌝ }
+    ensures { λ r. ⌜ Laid (tables.lines-in (now (t .entry))) r ⌝ }
 {
-    candidates::candidates(s, t, decl, keep, fields, bodies);
-    guard::dropped(s, t, sets, words, bodies, steps, marks, queue, found);
-    laying::compute_layouts(s, t, decl, keep, fields, found)
+    candidates::candidates(t, decl, keep, fields, bodies);
+    guard::dropped(t, sets, words, bodies, steps, marks, queue, found);
+    laying::compute_layouts(t, decl, keep, fields, found)
 }

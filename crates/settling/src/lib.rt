@@ -1,13 +1,11 @@
 // Rounds until one erases nothing.
 mod sweeps;
 
-ghost use Rattle.sheet.specs.Sheet as sheet;
 ghost use Rattle.tables.specs.Tables as tables;
 ghost use Rattle.rounds.specs.Rounds as rounds;
 
 // Rounds until one erases nothing; then the marks of all types.
 pub fn settle(
-    s: &[u8],
     t: &[u32],
     used: &[u16],
     decl: &mut [u8],
@@ -16,20 +14,20 @@ pub fn settle(
     field: &mut [u16],
     wait: &mut [u16],
 ) -> usize
-    requires { ⌜ tables.Tabled (now s) (now t) ⌝ }
-    requires { ⌜ rounds.Running (sheet.lines 6 (now s)) (now used) (now decl) (now node) (now member) (now field) (now wait) 0 ⌝ }
-    ensures { λ r. ⌜ rounds.Ended (sheet.lines 6 (now (s .entry))) (now (decl .entry)) (now (decl .exit)) (now (node .exit)) r ⌝ }
+    requires { ⌜ tables.Tabled (now t) ⌝ }
+    requires { ⌜ rounds.Running (tables.lines-in (now t)) (now used) (now decl) (now node) (now member) (now field) (now wait) 0 ⌝ }
+    ensures { λ r. ⌜ rounds.Ended (tables.lines-in (now (t .entry))) (now (decl .entry)) (now (decl .exit)) (now (node .exit)) r ⌝ }
 {
     let mut n = 0;
     let mut right = 0;
     loop {
         n += 1;
-        let r = sweeps::sweep(s, t, used, decl, node, member, field, wait, right);
+        let r = sweeps::sweep(t, used, decl, node, member, field, wait, right);
         right = r.right;
         if r.erased == 0 {
             break;
         }
     }
-    marks::mark_types(s, t, decl, node, member, right, tables::types(s, t));
+    marks::mark_types(t, decl, node, member, right, tables::types(t));
     n
 }

@@ -1,13 +1,11 @@
 // A round of erasure: each declaration sees what the round has set so far.
 use rounds::Round;
 ghost use Prim.Native.Nat.{_<_};
-ghost use Rattle.sheet.specs.Sheet as sheet;
 ghost use Rattle.tables.specs.Tables as tables;
 ghost use Rattle.rounds.specs.Rounds as rounds;
 
 // One round over the declarations, each of which sees what the round has set so far.
 pub fn sweep(
-    s: &[u8],
     t: &[u32],
     used: &[u16],
     decl: &mut [u8],
@@ -17,16 +15,16 @@ pub fn sweep(
     wait: &mut [u16],
     right: usize,
 ) -> Round
-    requires { ⌜ tables.Tabled (now s) (now t) ⌝ }
-    requires { ⌜ rounds.Running (sheet.lines 6 (now s)) (now used) (now decl) (now node) (now member) (now field) (now wait) right ⌝ }
-    ensures { λ r. ⌜ rounds.Swept (sheet.lines 6 (now (s .entry))) (now (used .entry)) (now (decl .entry)) (now (decl .exit)) (now (node .exit)) (now (member .exit)) (now (field .exit)) (now (wait .exit)) r ⌝ }
+    requires { ⌜ tables.Tabled (now t) ⌝ }
+    requires { ⌜ rounds.Running (tables.lines-in (now t)) (now used) (now decl) (now node) (now member) (now field) (now wait) right ⌝ }
+    ensures { λ r. ⌜ rounds.Swept (tables.lines-in (now (t .entry))) (now (used .entry)) (now (decl .entry)) (now (decl .exit)) (now (node .exit)) (now (member .exit)) (now (field .exit)) (now (wait .exit)) r ⌝ }
 {
     let n = decl.len();
     let mut erased = 0;
     let mut low = right;
     let mut d = 0;
     while d < n {
-        let r = updates::update(s, t, used, decl, node, member, field, wait, d, low);
+        let r = updates::update(t, used, decl, node, member, field, wait, d, low);
         erased += r.erased;
         low = r.right;
         d += 1;

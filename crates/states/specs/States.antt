@@ -7,7 +7,6 @@ use lib.Dec.{eqb}
 use lib.ListN.{length, getD}
 use Rattle.columns.specs.Column.{pick, _⇒_∥_}
 use Rattle.sheet.specs.Line.{Line}
-use Rattle.sheet.specs.Sheet.{lines}
 use Rattle.model.specs.Decl.{close, Layout, L-erased, L-newtype, L-struct, L-abbrev, L-opaque, position}
 use Rattle.model.specs.Resolve.{Unfold, gone, newtype, abbreviation, stays}
 use Rattle.model.specs.Run.{lay, layout-of-decl}
@@ -72,8 +71,8 @@ resolves-of ls u keep d =
     kept-types ls keep (first-of field-line ls d) (first-of field-line ls (d + 1) - first-of field-line ls d)
 
 -- The cells say what becomes of every declaration of a sheet, and so of every name.
-pub record Settled (b u : List ℕ) : Type 0 where
-  pub long : length u ≡ 2 * decls-of (lines 6 b)
-  pub bodies : (d : ℕ) → d < decls-of (lines 6 b) → Open u d → body-of u d < count-of type-line (lines 6 b)
-  pub shapes : (d : ℕ) → d < decls-of (lines 6 b) → Shape (lines 6 b) u d (layout-of-decl (program (lines 6 b)) d)
-  pub names : (n : ℕ) → lay (program (lines 6 b)) n ≡ closed (lay-of (lines 6 b) u n)
+pub record Settled (ls : List Line) (u : List ℕ) : Type 0 where
+  pub long : length u ≡ 2 * decls-of ls
+  pub bodies : (d : ℕ) → d < decls-of ls → Open u d → body-of u d < count-of type-line ls
+  pub shapes : (d : ℕ) → d < decls-of ls → Shape ls u d (layout-of-decl (program ls) d)
+  pub names : (n : ℕ) → lay (program ls) n ≡ closed (lay-of ls u n)

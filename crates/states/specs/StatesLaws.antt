@@ -10,7 +10,6 @@ use lib.ListN.{getD}
 use borrow.Author.Tests.{eqb-true, eqb-false, ne-eqb}
 use Rattle.columns.specs.Column.{pick, _⇒_∥_}
 use Rattle.sheet.specs.Line.{Line}
-use Rattle.sheet.specs.Sheet.{lines}
 use Rattle.sheet.specs.ListLaws.{Every, every-mem}
 use Rattle.model.specs.Cty.{Cty}
 use Rattle.model.specs.Decl.{Field, CtorLayout, close, Layout, L-erased, L-newtype, L-struct, L-abbrev, L-opaque}
@@ -18,17 +17,17 @@ use Rattle.model.specs.Run.{field-types, resolves, layout-of-decl}
 use Rattle.meaning.specs.Program.{type-line, ctor-line, field-line, program}
 use Rattle.meaning.specs.Rows.{count-of}
 use Rattle.meaning.specs.Laws.Output.{types-of-fields, types-of-ctors}
-use Rattle.refusals.specs.Rows.{Passed}
+use Rattle.declared.specs.Passed.{Passed}
 use Rattle.tables.specs.Tables.{decls-of, first-of}
 use Rattle.declared.specs.DeclLaws.{whole-at}
 use Rattle.kids.specs.Nodes.{type-of}
 use Rattle.arguments.specs.Params.{params-of}
-use Rattle.bodies.specs.BodiesLaws as bodies
 use Rattle.bodies.specs.BodiesLaws.{first-le, last-types}
 use Rattle.keeps.specs.Keeps.{Slotted}
 use Rattle.kept.specs.Kept.{ctors-at, kept-ctor, body-kind, body-last, field-type, field-at, ctor-fields, fields-by, ctors-by, ctors-kept}
 use Rattle.kept.specs.KeptLaws.{fields-in, kept-bare, kept-record, kept-variant, ctors-are, total-bare, total-record, total-variant}
 use Rattle.states.specs.States.{state, body-of, Shape, kept-types, resolves-of, Settled}
+use Rattle.bodies.specs.BodiesLaws as bodies
 
 -- ---- the types of kept fields
 module _ (ls : List Line) (keep : List ℕ) where
@@ -82,78 +81,78 @@ types-of-layouts (cl ∷ cls) = go (types-of-layouts cls) (cl .cl-fields)
     go e (f ∷ fs) = ap (λ (r : List Cty). f .fd-type ∷ r) (go e fs)
 
 -- ---- a declaration
-module _ (b : List ℕ) (p : Passed b) (keep : List ℕ) (d : ℕ) (h : d < decls-of (lines 6 b)) where
+module _ (ls : List Line) (p : Passed ls) (keep : List ℕ) (d : ℕ) (h : d < decls-of ls) where
   -- the types of the fields that it keeps are those of its F lines that are kept
-  pub types-of-kept : types-of-ctors (ctors-kept (lines 6 b) keep d)
-      ≡ map (λ y. close (params-of (lines 6 b) d) (type-of (lines 6 b) y)) (kept-types (lines 6 b) keep (first-of field-line (lines 6 b) d) (first-of field-line (lines 6 b) (d + 1) - first-of field-line (lines 6 b) d))
+  pub types-of-kept : types-of-ctors (ctors-kept ls keep d)
+      ≡ map (λ y. close (params-of ls d) (type-of ls y)) (kept-types ls keep (first-of field-line ls d) (first-of field-line ls (d + 1) - first-of field-line ls d))
   unfolding closed-type types-of-ctors kept-types
-  types-of-kept = go (eqb (body-kind (lines 6 b) d) 2) refl (eqb (body-kind (lines 6 b) d) 3) refl
+  types-of-kept = go (eqb (body-kind ls d) 2) refl (eqb (body-kind ls d) 3) refl
     where
-      next : first-of field-line (lines 6 b) (d + 1) ≡ first-of field-line (lines 6 b) (suc d)
-      next = ap (first-of field-line (lines 6 b)) (add-one d)
+      next : first-of field-line ls (d + 1) ≡ first-of field-line ls (suc d)
+      next = ap (first-of field-line ls) (add-one d)
 
-      go : (x : Bool) → eqb (body-kind (lines 6 b) d) 2 ≡ x → (y : Bool) → eqb (body-kind (lines 6 b) d) 3 ≡ y
-          → types-of-ctors (ctors-kept (lines 6 b) keep d) ≡ map (λ y. close (params-of (lines 6 b) d) (type-of (lines 6 b) y)) (kept-types (lines 6 b) keep (first-of field-line (lines 6 b) d) (first-of field-line (lines 6 b) (d + 1) - first-of field-line (lines 6 b) d))
+      go : (x : Bool) → eqb (body-kind ls d) 2 ≡ x → (y : Bool) → eqb (body-kind ls d) 3 ≡ y
+          → types-of-ctors (ctors-kept ls keep d) ≡ map (λ y. close (params-of ls d) (type-of ls y)) (kept-types ls keep (first-of field-line ls d) (first-of field-line ls (d + 1) - first-of field-line ls d))
       go true u y v =
-          let e : body-kind (lines 6 b) d ≡ 2 = eqb-true (body-kind (lines 6 b) d) 2 u in
-          let n : first-of field-line (lines 6 b) (d + 1) - first-of field-line (lines 6 b) d ≡ body-last (lines 6 b) d = omega (arith, next, total-record b p d h e) in
-          rw (kept-record (lines 6 b) keep d e, n) (append-nil _ ∙ types-of-line (lines 6 b) keep (params-of (lines 6 b) d) (first-of field-line (lines 6 b) d) (body-last (lines 6 b) d))
+          let e : body-kind ls d ≡ 2 = eqb-true (body-kind ls d) 2 u in
+          let n : first-of field-line ls (d + 1) - first-of field-line ls d ≡ body-last ls d = omega (arith, next, total-record ls p d h e) in
+          rw (kept-record ls keep d e, n) (append-nil _ ∙ types-of-line ls keep (params-of ls d) (first-of field-line ls d) (body-last ls d))
       go false u true v =
-          let e : body-kind (lines 6 b) d ≡ 3 = eqb-true (body-kind (lines 6 b) d) 3 v in
-          let n : first-of field-line (lines 6 b) (d + 1) - first-of field-line (lines 6 b) d ≡ fields-in (lines 6 b) (first-of ctor-line (lines 6 b) d) (body-last (lines 6 b) d) = omega (arith, next, total-variant b p d h e) in
-          rw (kept-variant (lines 6 b) keep d e, n) (types-of-lines (lines 6 b) keep (params-of (lines 6 b) d) (first-of ctor-line (lines 6 b) d) (first-of field-line (lines 6 b) d) (body-last (lines 6 b) d))
+          let e : body-kind ls d ≡ 3 = eqb-true (body-kind ls d) 3 v in
+          let n : first-of field-line ls (d + 1) - first-of field-line ls d ≡ fields-in ls (first-of ctor-line ls d) (body-last ls d) = omega (arith, next, total-variant ls p d h e) in
+          rw (kept-variant ls keep d e, n) (types-of-lines ls keep (params-of ls d) (first-of ctor-line ls d) (first-of field-line ls d) (body-last ls d))
       go false u false v =
-          let i = eqb-false (body-kind (lines 6 b) d) 2 u in
-          let j = eqb-false (body-kind (lines 6 b) d) 3 v in
-          let e : body-kind (lines 6 b) d ≤ 1 = omega (arith, whole-at b p d h .kinds) in
-          let n : first-of field-line (lines 6 b) (d + 1) - first-of field-line (lines 6 b) d ≡ 0 = omega (arith, next, total-bare b p d h e) in
-          rw (kept-bare (lines 6 b) keep d e, n)
+          let i = eqb-false (body-kind ls d) 2 u in
+          let j = eqb-false (body-kind ls d) 3 v in
+          let e : body-kind ls d ≤ 1 = omega (arith, whole-at ls p d h .kinds) in
+          let n : first-of field-line ls (d + 1) - first-of field-line ls d ≡ 0 = omega (arith, next, total-bare ls p d h e) in
+          rw (kept-bare ls keep d e, n)
 
-module _ (b : List ℕ) (p : Passed b) (u keep : List ℕ) where
+module _ (ls : List Line) (p : Passed ls) (u keep : List ℕ) where
   -- What is resolved of a declaration is what its cells and lines say.
-  pub resolves-are : Slotted (lines 6 b) keep → Settled b u → (d : ℕ) → d < decls-of (lines 6 b)
-      → map (λ y. close (params-of (lines 6 b) d) (type-of (lines 6 b) y)) (resolves-of (lines 6 b) u keep d) ≡ resolves (layout-of-decl (program (lines 6 b)) d)
+  pub resolves-are : Slotted ls keep → Settled ls u → (d : ℕ) → d < decls-of ls
+      → map (λ y. close (params-of ls d) (type-of ls y)) (resolves-of ls u keep d) ≡ resolves (layout-of-decl (program ls) d)
   unfolding resolves-of resolves
-  resolves-are k s d h = go (layout-of-decl (program (lines 6 b)) d) (s .shapes d h)
+  resolves-are k s d h = go (layout-of-decl (program ls) d) (s .shapes d h)
     where
-      go : (l : Layout) → Shape (lines 6 b) u d l → map (λ y. close (params-of (lines 6 b) d) (type-of (lines 6 b) y)) (resolves-of (lines 6 b) u keep d) ≡ resolves l
+      go : (l : Layout) → Shape ls u d l → map (λ y. close (params-of ls d) (type-of ls y)) (resolves-of ls u keep d) ≡ resolves l
       go L-erased e = rw e
       go (L-newtype nt) e = rw (e .0, e .1)
       go (L-struct cls) e =
-          rw (e .0, ne-eqb (body-kind (lines 6 b) d) 0 (λ z. omega arith), ne-eqb (body-kind (lines 6 b) d) 1 (λ z. omega arith), e .3)
-          (sym (types-of-kept b p keep d h) ∙ ap types-of-ctors (sym (ctors-are b p keep k d h)) ∙ sym (types-of-layouts (ctors-at (program (lines 6 b)) d)))
+          rw (e .0, ne-eqb (body-kind ls d) 0 (λ z. omega arith), ne-eqb (body-kind ls d) 1 (λ z. omega arith), e .3)
+          (sym (types-of-kept ls p keep d h) ∙ ap types-of-ctors (sym (ctors-are ls p keep k d h)) ∙ sym (types-of-layouts (ctors-at (program ls) d)))
       go (L-abbrev c) e = rw (ne-eqb (state u d) 0 (λ z. omega arith), ne-eqb (state u d) 1 (λ z. omega arith), e .2, e .4)
       go L-opaque e = rw (e .0, e .1)
 
   -- its Y lines
-  types-below : (f n : ℕ) → f + n ≤ count-of field-line (lines 6 b) → Every (λ y. y < count-of type-line (lines 6 b)) (kept-types (lines 6 b) keep f n)
+  types-below : (f n : ℕ) → f + n ≤ count-of field-line ls → Every (λ y. y < count-of type-line ls) (kept-types ls keep f n)
   unfolding kept-types
   types-below f zero h = tt
   types-below f (suc n) h = go (eqb (getD keep f 0) 1) (types-below (suc f) n (omega arith))
     where
-      go : (x : Bool) → Every (λ y. y < count-of type-line (lines 6 b)) (kept-types (lines 6 b) keep (suc f) n) → Every (λ y. y < count-of type-line (lines 6 b)) (pick x (field-type (lines 6 b) f ∷ kept-types (lines 6 b) keep (suc f) n) (kept-types (lines 6 b) keep (suc f) n))
-      go true r = (bodies.field-types b p f (omega arith), r)
+      go : (x : Bool) → Every (λ y. y < count-of type-line ls) (kept-types ls keep (suc f) n) → Every (λ y. y < count-of type-line ls) (pick x (field-type ls f ∷ kept-types ls keep (suc f) n) (kept-types ls keep (suc f) n))
+      go true r = (bodies.field-types ls p f (omega arith), r)
       go false r = r
 
-  all-below : Settled b u → (d : ℕ) → d < decls-of (lines 6 b) → Every (λ y. y < count-of type-line (lines 6 b)) (resolves-of (lines 6 b) u keep d)
+  all-below : Settled ls u → (d : ℕ) → d < decls-of ls → Every (λ y. y < count-of type-line ls) (resolves-of ls u keep d)
   unfolding resolves-of
-  all-below s d h = go (eqb (state u d) 0) (eqb (state u d) 1) (eqb (body-kind (lines 6 b) d) 0) (eqb (body-kind (lines 6 b) d) 1) refl refl
+  all-below s d h = go (eqb (state u d) 0) (eqb (state u d) 1) (eqb (body-kind ls d) 0) (eqb (body-kind ls d) 1) refl refl
     where
-      go : (x y z v : Bool) → eqb (state u d) 1 ≡ y → eqb (body-kind (lines 6 b) d) 1 ≡ v
-          → Every (λ y. y < count-of type-line (lines 6 b)) (
+      go : (x y z v : Bool) → eqb (state u d) 1 ≡ y → eqb (body-kind ls d) 1 ≡ v
+          → Every (λ y. y < count-of type-line ls) (
           x ⇒ [] ∥
           y ⇒ body-of u d ∷ [] ∥
           z ⇒ [] ∥
-          v ⇒ body-last (lines 6 b) d ∷ [] ∥
-          kept-types (lines 6 b) keep (first-of field-line (lines 6 b) d) (first-of field-line (lines 6 b) (d + 1) - first-of field-line (lines 6 b) d))
+          v ⇒ body-last ls d ∷ [] ∥
+          kept-types ls keep (first-of field-line ls d) (first-of field-line ls (d + 1) - first-of field-line ls d))
       go true y z v i j = tt
       go false true z v i j = let e : state u d ≡ 1 = eqb-true (state u d) 1 i in (s .bodies d h (omega arith, omega arith), tt)
       go false false true v i j = tt
-      go false false false true i j = (last-types b p d h (eqb-true (body-kind (lines 6 b) d) 1 j), tt)
+      go false false false true i j = (last-types ls p d h (eqb-true (body-kind ls d) 1 j), tt)
       go false false false false i j =
-          types-below (first-of field-line (lines 6 b) d) (first-of field-line (lines 6 b) (d + 1) - first-of field-line (lines 6 b) d)
-          (omega (arith, first-le field-line (lines 6 b) d, first-le field-line (lines 6 b) (d + 1)))
+          types-below (first-of field-line ls d) (first-of field-line ls (d + 1) - first-of field-line ls d)
+          (omega (arith, first-le field-line ls d, first-le field-line ls (d + 1)))
 
   -- each is a Y line
-  pub resolves-below : Settled b u → (d : ℕ) → d < decls-of (lines 6 b) → (y : ℕ) → List·Memᴰ y (resolves-of (lines 6 b) u keep d) → y < count-of type-line (lines 6 b)
-  resolves-below s d h y m = every-mem (λ x. x < count-of type-line (lines 6 b)) (resolves-of (lines 6 b) u keep d) (all-below s d h) y m
+  pub resolves-below : Settled ls u → (d : ℕ) → d < decls-of ls → (y : ℕ) → List·Memᴰ y (resolves-of ls u keep d) → y < count-of type-line ls
+  resolves-below s d h y m = every-mem (λ x. x < count-of type-line ls) (resolves-of ls u keep d) (all-below s d h) y m

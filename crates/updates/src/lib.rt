@@ -3,7 +3,6 @@ mod standing;
 
 use rounds::Round;
 ghost use Prim.Native.Nat.{_≤_, _<_};
-ghost use Rattle.sheet.specs.Sheet as sheet;
 ghost use Rattle.tables.specs.Tables as tables;
 ghost use Rattle.rounds.specs.Rounds as rounds;
 
@@ -15,7 +14,6 @@ fn lower(a: usize, b: usize) -> usize
 
 // Declaration d in a round. An erased one stays so, an import has its verdict, and one that waits for a kept type is kept.
 pub fn update(
-    s: &[u8],
     t: &[u32],
     used: &[u16],
     decl: &mut [u8],
@@ -26,15 +24,15 @@ pub fn update(
     d: usize,
     right: usize,
 ) -> Round
-    requires { ⌜ tables.Tabled (now s) (now t) ⌝ }
-    requires { ⌜ d < tables.decls-of (sheet.lines 6 (now s)) ⌝ }
-    requires { ⌜ rounds.Running (sheet.lines 6 (now s)) (now used) (now decl) (now node) (now member) (now field) (now wait) right ⌝ }
-    ensures { λ r. ⌜ rounds.Updated (sheet.lines 6 (now (s .entry))) (now (used .entry)) (now (decl .entry)) (now (decl .exit)) (now (node .exit)) (now (member .exit)) (now (field .exit)) (now (wait .exit)) d r ⌝ }
+    requires { ⌜ tables.Tabled (now t) ⌝ }
+    requires { ⌜ d < tables.decls-of (tables.lines-in (now t)) ⌝ }
+    requires { ⌜ rounds.Running (tables.lines-in (now t)) (now used) (now decl) (now node) (now member) (now field) (now wait) right ⌝ }
+    ensures { λ r. ⌜ rounds.Updated (tables.lines-in (now (t .entry))) (now (used .entry)) (now (decl .entry)) (now (decl .exit)) (now (node .exit)) (now (member .exit)) (now (field .exit)) (now (wait .exit)) d r ⌝ }
 {
-    if standing::stands(s, t, decl, node, wait, d, right) {
+    if standing::stands(t, decl, node, wait, d, right) {
         return Round { erased: 0, right };
     }
-    let r = rulings::dtype_erased(s, t, decl, node, member, field, wait, d, right);
+    let r = rulings::dtype_erased(t, decl, node, member, field, wait, d, right);
     let low = r.right;
     if r.erased {
         decl[d] = 1;

@@ -2,23 +2,14 @@
 ghost use mathlib.Core.Path.{_≡_};
 ghost use Prim.Native.Nat.{_≤_, _<_};
 ghost use lib.ListN.{length};
-ghost use Rattle.sheet.specs.Sheet as sheet;
 ghost use Rattle.tables.specs.Tables as tables;
 ghost use Rattle.rounds.specs.Rounds as rounds;
 
 // Declaration d stays as it is: an erased one does, an import has its verdict, and one that waits for a kept type is kept.
-pub fn stands(
-    s: &[u8],
-    t: &[u32],
-    decl: &[u8],
-    node: &[u8],
-    wait: &[u16],
-    d: usize,
-    right: usize,
-) -> bool
-    requires { ⌜ tables.Tabled (now s) (now t) ⌝ }
-    requires { ⌜ (d < tables.decls-of (sheet.lines 6 (now s))) × (length (now decl) ≡ tables.decls-of (sheet.lines 6 (now s))) × (length (now wait) ≡ tables.decls-of (sheet.lines 6 (now s))) × (right ≤ length (now node)) ⌝ }
-    ensures { λ r. ⌜ rounds.Stands (sheet.lines 6 (now (s .entry))) (now (decl .entry)) (now (node .entry)) (now (wait .entry)) d right r ⌝ }
+pub fn stands(t: &[u32], decl: &[u8], node: &[u8], wait: &[u16], d: usize, right: usize) -> bool
+    requires { ⌜ tables.Tabled (now t) ⌝ }
+    requires { ⌜ (d < tables.decls-of (tables.lines-in (now t))) × (length (now decl) ≡ tables.decls-of (tables.lines-in (now t))) × (length (now wait) ≡ tables.decls-of (tables.lines-in (now t))) × (right ≤ length (now node)) ⌝ }
+    ensures { λ r. ⌜ rounds.Stands (tables.lines-in (now (t .entry))) (now (decl .entry)) (now (node .entry)) (now (wait .entry)) d right r ⌝ }
 {
     if decl[d] == 1 {
         return true;
@@ -29,5 +20,5 @@ pub fn stands(
             return true;
         }
     }
-    tables::is_import(s, t, d)
+    tables::is_import(t, d)
 }

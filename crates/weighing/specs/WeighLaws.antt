@@ -4,21 +4,19 @@ use mathlib.Core.List.{List}
 use mathlib.Core.Bool.{Bool, true, false}
 use Prim.Native.Nat.{ℕ, zero, suc, _+_, _-_, _/_, _≤_, _<_}
 use native.Mathlib.Omega.{arith}
-use native.Mathlib.Numerals.{add-one}
 use lib.Dec.{eqb, leb}
 use borrow.Author.Tests.{eqb-true, eqb-false, leb-true, leb-false}
 use Rattle.sheet.specs.Line.{Line, number}
-use Rattle.sheet.specs.Sheet.{lines}
-use Rattle.model.specs.Cty.{Cty, Ctys, TVar, TApp, nil}
+use Rattle.model.specs.Cty.{Cty, Ctys, TVar, TApp}
 use Rattle.meaning.specs.Program.{type-line}
 use Rattle.meaning.specs.Rows.{count-of}
-use Rattle.refusals.specs.Rows.{Passed}
+use Rattle.declared.specs.Passed.{Passed}
 use Rattle.outcomes.specs.Outcome.{nodes, argument, weight, weights}
-use Rattle.outcomes.specs.Answer.{parts, listed}
+use Rattle.outcomes.specs.Answer.{listed}
 use Rattle.outcomes.specs.Scratch.{capped}
 use Rattle.outcomes.specs.Laws.Answer.{weight-parts, weights-last}
 use Rattle.outcomes.specs.Laws.Scratch.{capped-small, capped-large, capped-add, capped-over, capped-under}
-use Rattle.kids.specs.Nodes.{y-line, kind-of, type-of, kids-of, kid-of}
+use Rattle.kids.specs.Nodes.{y-line, kind-of, type-of, kids-of}
 use Rattle.kids.specs.NodesLaws.{var-type, app-type, plain-type}
 use Rattle.weighing.specs.Weigh.{kid-types}
 
@@ -30,23 +28,20 @@ weight-var : (ps os : List ℕ) (v : ℕ) → weight ps os (TVar v) ≡ argument
 unfolding weight nodes
 weight-var ps os v = refl
 
-module _ (b : List ℕ) (passed : Passed b) (ps os : List ℕ) (y : ℕ) (h : y < count-of type-line (lines 6 b)) where
-  abbrev ls : List Line
-  ls = lines 6 b
-
+module _ (ls : List Line) (passed : Passed ls) (ps os : List ℕ) (y : ℕ) (h : y < count-of type-line ls) where
   -- a variable
   pub weigh-var : (from v r s : ℕ) → kind-of ls y ≡ 3 → v ≡ number (y-line ls y) 1 → r ≡ argument ps os v → s ≡ capped 1024 (from + r / 4) → s ≡ capped 1024 (from + weight ps os (type-of ls y))
   weigh-var from v r s k e a q =
-      q ∙ ap (λ (n : ℕ). capped 1024 (from + n)) (ap (λ (n : ℕ). n / 4) (a ∙ ap (argument ps os) e) ∙ sym (ap (weight ps os) (var-type b passed y h k) ∙ weight-var ps os (number (y-line ls y) 1)))
+      q ∙ ap (λ (n : ℕ). capped 1024 (from + n)) (ap (λ (n : ℕ). n / 4) (a ∙ ap (argument ps os) e) ∙ sym (ap (weight ps os) (var-type ls passed y h k) ∙ weight-var ps os (number (y-line ls y) 1)))
 
   -- every other node
   node-weight : (kind-of ls y ≡ 3 → ⊥) → weight ps os (type-of ls y) ≡ suc (weights ps os (kid-types ls y (kids-of ls y)))
   node-weight m = go (eqb (kind-of ls y) 8) refl
     where
       go : (c : Bool) → eqb (kind-of ls y) 8 ≡ c → weight ps os (type-of ls y) ≡ suc (weights ps os (kid-types ls y (kids-of ls y)))
-      go true e = ap (weight ps os) (app-type b passed y h (eqb-true (kind-of ls y) 8 e)) ∙ weight-app ps os (number (y-line ls y) 1) (kid-types ls y (kids-of ls y))
+      go true e = ap (weight ps os) (app-type ls passed y h (eqb-true (kind-of ls y) 8 e)) ∙ weight-app ps os (number (y-line ls y) 1) (kid-types ls y (kids-of ls y))
       go false e =
-          let p = plain-type b passed y h m (eqb-false (kind-of ls y) 8 e) in
+          let p = plain-type ls passed y h m (eqb-false (kind-of ls y) 8 e) in
           weight-parts ps os (type-of ls y) (p .is-plain) ∙ ap (λ (ts : Ctys). suc (weights ps os ts)) (p .has-parts)
 
   pub weigh-node : (from one r : ℕ) → (kind-of ls y ≡ 3 → ⊥) → one ≡ capped 1024 (from + 1) → r ≡ capped 1024 (one + weights ps os (kid-types ls y (kids-of ls y))) → r ≡ capped 1024 (from + weight ps os (type-of ls y))

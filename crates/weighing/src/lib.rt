@@ -2,7 +2,6 @@
 ghost use mathlib.Core.Path.{_≡_};
 ghost use Prim.Native.Nat.{_+_, _≤_, _<_};
 ghost use lib.ListN.{length};
-ghost use Rattle.sheet.specs.Sheet as sheet;
 ghost use Rattle.meaning.specs.Program as program;
 ghost use Rattle.meaning.specs.Rows as rows;
 ghost use Rattle.tables.specs.Tables as tables;
@@ -13,7 +12,6 @@ ghost use Rattle.weighing.specs.Weigh as weigh;
 // The nodes of Y line y's type, at the `count` outcomes from place `at` on for declaration d's
 // arguments, added to `from`.
 pub fn weigh(
-    s: &[u8],
     t: &[u32],
     y: usize,
     d: usize,
@@ -22,20 +20,19 @@ pub fn weigh(
     count: usize,
     from: usize,
 ) -> usize
-    requires { ⌜ tables.Tabled (now s) (now t) × (y < rows.count-of program.type-line (sheet.lines 6 (now s))) ⌝ }
-    requires { ⌜ (d < tables.decls-of (sheet.lines 6 (now s))) × (at + count ≤ length (now out)) × (from ≤ 1025) ⌝ }
-    ensures { λ r. ⌜ r ≡ scratch.capped 1024 (from + weigh.weight-of (sheet.lines 6 (now (s .entry))) d (now (out .entry)) at count y) ⌝ }
+    requires { ⌜ tables.Tabled (now t) × (y < rows.count-of program.type-line (tables.lines-in (now t))) ⌝ }
+    requires { ⌜ (d < tables.decls-of (tables.lines-in (now t))) × (at + count ≤ length (now out)) × (from ≤ 1025) ⌝ }
+    ensures { λ r. ⌜ r ≡ scratch.capped 1024 (from + weigh.weight-of (tables.lines-in (now (t .entry))) d (now (out .entry)) at count y) ⌝ }
 {
-    if tables::type_number(s, t, y, 0) == 3 {
-        let v = tables::type_number(s, t, y, 1) as usize;
-        return sums::more(from, arguments::argument(s, t, d, out, at, count, v) / 4);
+    if tables::type_number(t, y, 0) == 3 {
+        let v = tables::type_number(t, y, 1) as usize;
+        return sums::more(from, arguments::argument(t, d, out, at, count, v) / 4);
     }
-    weigh_kids(s, t, y, d, out, at, count, sums::more(from, 1))
+    weigh_kids(t, y, d, out, at, count, sums::more(from, 1))
 }
 
 // The nodes of its parts; it stops above the limit.
 fn weigh_kids(
-    s: &[u8],
     t: &[u32],
     y: usize,
     d: usize,
@@ -44,11 +41,11 @@ fn weigh_kids(
     count: usize,
     from: usize,
 ) -> usize
-    requires { ⌜ tables.Tabled (now s) (now t) × (y < rows.count-of program.type-line (sheet.lines 6 (now s))) ⌝ }
-    requires { ⌜ (d < tables.decls-of (sheet.lines 6 (now s))) × (at + count ≤ length (now out)) × (from ≤ 1025) ⌝ }
-    ensures { λ r. ⌜ r ≡ scratch.capped 1024 (from + weigh.weights-of (sheet.lines 6 (now (s .entry))) d (now (out .entry)) at count y (nodes.kids-of (sheet.lines 6 (now (s .entry))) y)) ⌝ }
+    requires { ⌜ tables.Tabled (now t) × (y < rows.count-of program.type-line (tables.lines-in (now t))) ⌝ }
+    requires { ⌜ (d < tables.decls-of (tables.lines-in (now t))) × (at + count ≤ length (now out)) × (from ≤ 1025) ⌝ }
+    ensures { λ r. ⌜ r ≡ scratch.capped 1024 (from + weigh.weights-of (tables.lines-in (now (t .entry))) d (now (out .entry)) at count y (nodes.kids-of (tables.lines-in (now (t .entry))) y)) ⌝ }
 {
-    let n = kids::kids(s, t, y);
+    let n = kids::kids(t, y);
     let mut w = from;
     let mut last = y;
     let mut prior = from;
@@ -56,8 +53,8 @@ fn weigh_kids(
         if w > sums::LIMIT {
             return w;
         }
-        let kid = kids::kid(s, t, y, i);
-        let sum = weigh_once(s, t, kid, d, out, at, count, w, last, prior);
+        let kid = kids::kid(t, y, i);
+        let sum = weigh_once(t, kid, d, out, at, count, w, last, prior);
         last = kid;
         prior = w;
         w = sum;
@@ -68,7 +65,6 @@ fn weigh_kids(
 // The nodes of a part, Y line y's type, added to `from`. Where the part before it is the same Y line,
 // they are what was added to `prior`.
 fn weigh_once(
-    s: &[u8],
     t: &[u32],
     y: usize,
     d: usize,
@@ -79,13 +75,13 @@ fn weigh_once(
     last: usize,
     prior: usize,
 ) -> usize
-    requires { ⌜ tables.Tabled (now s) (now t) × (y < rows.count-of program.type-line (sheet.lines 6 (now s))) ⌝ }
-    requires { ⌜ (d < tables.decls-of (sheet.lines 6 (now s))) × (at + count ≤ length (now out)) × (from ≤ 1025) ⌝ }
-    requires { ⌜ (y ≡ last → from ≡ prior + weigh.weight-of (sheet.lines 6 (now s)) d (now out) at count y) ⌝ }
-    ensures { λ r. ⌜ r ≡ scratch.capped 1024 (from + weigh.weight-of (sheet.lines 6 (now (s .entry))) d (now (out .entry)) at count y) ⌝ }
+    requires { ⌜ tables.Tabled (now t) × (y < rows.count-of program.type-line (tables.lines-in (now t))) ⌝ }
+    requires { ⌜ (d < tables.decls-of (tables.lines-in (now t))) × (at + count ≤ length (now out)) × (from ≤ 1025) ⌝ }
+    requires { ⌜ (y ≡ last → from ≡ prior + weigh.weight-of (tables.lines-in (now t)) d (now out) at count y) ⌝ }
+    ensures { λ r. ⌜ r ≡ scratch.capped 1024 (from + weigh.weight-of (tables.lines-in (now (t .entry))) d (now (out .entry)) at count y) ⌝ }
 {
     if y == last {
         return sums::more(from, from - prior);
     }
-    weigh(s, t, y, d, out, at, count, from)
+    weigh(t, y, d, out, at, count, from)
 }

@@ -1,8 +1,7 @@
 -- `calls::copy` meets its contract: the loop has copied the outcomes that it passed. Assumes nothing.
-use mathlib.Core.Path.{_≡_, refl, sym, _∙_, ap, subst}
-use Prim.Native.Nat.{_+_, _-_, _≤_}
+use mathlib.Core.Path.{refl, subst}
+use Prim.Native.Nat.{_-_, _≤_}
 use native.Mathlib.Omega.{arith}
-use lib.ListN.{length}
 use Rattle.calls.specs.CallsLaws.{Copied, copied-none, copied-more}
 use Rattle.calls.proofs.copy.Statement.{statement}
 use Rattle.calls.proofs.copy.Tie as tie

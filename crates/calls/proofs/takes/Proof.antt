@@ -1,11 +1,11 @@
 -- `calls::takes` meets its contract, by the kind of the body. Assumes nothing.
-use mathlib.Core.Path.{_≡_, sym, _∙_}
-use Rattle.sheet.specs.Sheet.{lines}
+use mathlib.Core.Path.{sym, _∙_}
 use Rattle.outcomes.specs.Scratch.{part}
 use Rattle.arguments.specs.Params.{params-of}
 use Rattle.calls.specs.CallsLaws.{takes-app, takes-var, takes-none}
 use borrow.Author.Needs.{needs}
 use Rattle.calls.proofs.takes.Statement.{statement}
+use Rattle.tables.specs.Tables.{lines-in}
 use Rattle.calls.proofs.takes.Tie as tie
 use Rattle.calls.proofs.takes.Reads as reads
 use Rattle.calls.proofs.takes.Lts as lts
@@ -17,9 +17,9 @@ type-number-requires c κs = search needs
 
 returns : tie.Need-returns
 returns c =
-    let a = c .before .before .before .before .before .args in
-    let p = c .before .before .before .before .before .pre in
-    takes-app (a .s .now) (p .0 .0 .passed) (params-of (lines 6 (a .s .now)) (a .d)) (part (a .at) (a .count) (a .out .now)) (a .y) (p .0 .1) (sym (c .before .type-number .ensures) ∙ c .if1 .taken)
+    let a = c .before .before .before .before .args in
+    let p = c .before .before .before .before .pre in
+    takes-app (lines-in (a .t .now)) (p .0 .0 .passed) (params-of (lines-in (a .t .now)) (a .d)) (part (a .at) (a .count) (a .out .now)) (a .y) (p .0 .1) (sym (c .before .type-number .ensures) ∙ c .if1 .taken)
 
 type-number-requires-2 : tie.Need-type-number-requires-2
 type-number-requires-2 c κs = search needs
@@ -32,15 +32,15 @@ argument-requires c κs = search needs
 
 returns-2 : tie.Need-returns-2
 returns-2 c =
-    let a = c .before .before .before .before .before .before .before .before .args in
-    let p = c .before .before .before .before .before .before .before .before .pre in
-    takes-var (a .s .now) (p .0 .0 .passed) (params-of (lines 6 (a .s .now)) (a .d)) (part (a .at) (a .count) (a .out .now)) (a .y) (p .0 .1) _ _ (sym (c .before .before .before .before .type-number .ensures) ∙ c .before .before .if2 .taken) (c .before .type-number2 .ensures) (c .argument .ensures .0)
+    let a = c .before .before .before .before .before .before .before .args in
+    let p = c .before .before .before .before .before .before .before .pre in
+    takes-var (lines-in (a .t .now)) (p .0 .0 .passed) (params-of (lines-in (a .t .now)) (a .d)) (part (a .at) (a .count) (a .out .now)) (a .y) (p .0 .1) _ _ (sym (c .before .before .before .before .type-number .ensures) ∙ c .before .before .if2 .taken) (c .before .type-number2 .ensures) (c .argument .ensures .0)
 
 returns-3 : tie.Need-returns-3
 returns-3 c =
-    let a = c .before .before .before .before .before .before .args in
-    let p = c .before .before .before .before .before .before .pre in
-    takes-none (a .s .now) (p .0 .0 .passed) (params-of (lines 6 (a .s .now)) (a .d)) (part (a .at) (a .count) (a .out .now)) (a .y) (p .0 .1) (λ e. c .if2 .left (c .before .before .type-number .ensures ∙ e)) (λ e. c .before .if1 .left (c .before .before .type-number .ensures ∙ e))
+    let a = c .before .before .before .before .before .args in
+    let p = c .before .before .before .before .before .pre in
+    takes-none (lines-in (a .t .now)) (p .0 .0 .passed) (params-of (lines-in (a .t .now)) (a .d)) (part (a .at) (a .count) (a .out .now)) (a .y) (p .0 .1) (λ e. c .if2 .left (c .before .before .type-number .ensures ∙ e)) (λ e. c .before .if1 .left (c .before .before .type-number .ensures ∙ e))
 
 pub takes-spec : {M : Type 1} → statement M
 takes-spec =

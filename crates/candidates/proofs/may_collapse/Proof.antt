@@ -2,26 +2,26 @@
 use mathlib.Core.Path.{sym, _∙_}
 use native.Mathlib.Omega.{arith}
 use borrow.Author.Needs.{needs}
-use Rattle.sheet.specs.Sheet.{lines}
 use Rattle.candidates.specs.CandidatesLaws.{import-none, erased-none, by-flag}
 use Rattle.candidates.proofs.may_collapse.Statement.{statement}
+use Rattle.tables.specs.Tables.{lines-in}
 use Rattle.candidates.proofs.may_collapse.Tie as tie
 
 returns : tie.Need-returns
-returns c = let a = c .before .before .before .before .before in import-none (lines 6 (a .args .s .now)) (a .args .d) (a .pre .1 .0) (sym (c .before .is-import .ensures) ∙ c .if1 .taken)
+returns c = let a = c .before .before .before .before in import-none (lines-in (a .args .t .now)) (a .args .d) (a .pre .1 .0) (sym (c .before .is-import .ensures) ∙ c .if1 .taken)
 
 shared-slice-read-if2 : tie.Need-shared-slice-read-if2
-shared-slice-read-if2 c = let a = c .before .before .before .before .before .before in omega (arith, a .pre .1 .0, a .pre .1 .1 .long)
+shared-slice-read-if2 c = let a = c .before .before .before .before .before in omega (arith, a .pre .1 .0, a .pre .1 .1 .long)
 
 returns-2 : tie.Need-returns-2
 returns-2 c =
-    let a = c .before .before .before .before .before .before .before in
-    erased-none (lines 6 (a .args .s .now)) (a .args .d) (a .pre .1 .0) (a .args .decl .now) (a .pre .1 .1 .marks) (sym (c .before .before .before .is-import .ensures) ∙ c .before .before .if1 .left) (c .if2 .taken)
+    let a = c .before .before .before .before .before .before in
+    erased-none (lines-in (a .args .t .now)) (a .args .d) (a .pre .1 .0) (a .args .decl .now) (a .pre .1 .1 .marks) (sym (c .before .before .before .is-import .ensures) ∙ c .before .before .if1 .left) (c .if2 .taken)
 
 returns-3 : tie.Need-returns-3
 returns-3 c =
-    let a = c .before .before .before .before .before .before .before .before in
-    by-flag (lines 6 (a .args .s .now)) (a .args .d) (a .pre .1 .0) (a .args .decl .now) (a .pre .1 .1 .marks) (sym (c .before .before .before .before .is-import .ensures) ∙ c .before .before .before .if1 .left) (c .before .if2 .left) (c .decl-number .result) (c .decl-number .ensures)
+    let a = c .before .before .before .before .before .before .before in
+    by-flag (lines-in (a .args .t .now)) (a .args .d) (a .pre .1 .0) (a .args .decl .now) (a .pre .1 .1 .marks) (sym (c .before .before .before .before .is-import .ensures) ∙ c .before .before .before .if1 .left) (c .before .if2 .left) (c .decl-number .result) (c .decl-number .ensures)
 
 pub may-collapse-spec : {M : Type 1} → statement M
 may-collapse-spec = tie.close (tie.spec (λ c κs. search needs) returns shared-slice-read-if2 returns-2 (λ c κs. search needs) returns-3)

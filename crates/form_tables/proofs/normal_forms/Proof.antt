@@ -8,7 +8,7 @@ use Rattle.form_tables.proofs.normal_forms.Tie as tie
 
 bounded-requires : tie.Need-bounded-requires
 bounded-requires c κs =
-    let p = c .before .before .before .before .before .before .before .before .before .before .pre in
+    let p = c .before .before .before .before .before .before .before .before .before .pre in
     let n = decls-few _ (p .0 .tabled .passed) in
     (p, ((omega (arith, n), omega (arith, n)), zeros 96))
 

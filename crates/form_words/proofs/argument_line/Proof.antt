@@ -2,19 +2,19 @@
 use Prim.Native.Nat.{_<_}
 use native.Mathlib.Omega.{arith}
 use borrow.Author.Needs.{needs}
-use Rattle.sheet.specs.Sheet.{lines}
 use Rattle.kids.specs.NodesLaws.{node-at}
 use Rattle.form_words.specs.Filling.{argument-given}
 use Rattle.form_words.proofs.argument_line.Statement.{statement}
+use Rattle.tables.specs.Tables.{lines-in}
 use Rattle.form_words.proofs.argument_line.Tie as tie
 
 returns-3 : tie.Need-returns-3
 returns-3 c =
-    let a = c .before .before .before .before .before .before .before .before .args in
-    let p = c .before .before .before .before .before .before .before .before .pre in
+    let a = c .before .before .before .before .before .before .before .args in
+    let p = c .before .before .before .before .before .before .before .pre in
     let l : c .kid .result < a .y =
-    omega (arith, c .kid .ensures, node-at (a .s .now) (p .0 .passed) (a .y) (p .1) .lower (c .before .before .before .own .result) (omega (arith, c .before .if2 .left, c .before .before .kids .ensures))) in
-    argument-given (lines 6 (a .s .now)) (a .y) (a .w) _ _ _ _ (c .before .before .before .before .before .kind .ensures) (c .before .before .before .before .if1 .left) (c .before .before .before .own .ensures) (c .before .before .kids .ensures) (c .before .if2 .left) (c .kid .ensures) l
+    omega (arith, c .kid .ensures, node-at (lines-in (a .t .now)) (p .0 .passed) (a .y) (p .1) .lower (c .before .before .before .own .result) (omega (arith, c .before .if2 .left, c .before .before .kids .ensures))) in
+    argument-given (lines-in (a .t .now)) (a .y) (a .w) _ _ _ _ (c .before .before .before .before .before .kind .ensures) (c .before .before .before .before .if1 .left) (c .before .before .before .own .ensures) (c .before .before .kids .ensures) (c .before .if2 .left) (c .kid .ensures) l
 
 pub argument-line-spec : {M : Type 1} → statement M
 argument-line-spec =

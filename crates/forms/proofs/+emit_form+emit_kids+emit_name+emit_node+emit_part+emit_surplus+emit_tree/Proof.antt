@@ -7,45 +7,18 @@ use mathlib.Core.Path.{_≡_, refl, ap, sym, _∙_}
 use native.Mathlib.Omega.{arith}
 use lib.ListN.{length, getD, take, drop}
 use borrow.Author.Needs.{needs}
-use Rattle.sheet.specs.Sheet.{lines}
 use Rattle.kids.specs.Nodes.{kids-of}
 use Rattle.node_words.specs.Put.{Put, put-none, put-more}
 use Rattle.kids.specs.NodesLaws.{node-at}
 use Rattle.copies.specs.Stands.{Stands, stands-put, stands-kept, stands-at, stands-by, put-stands}
 use Rattle.form_words.specs.Filling.{step-given, step-left}
-use Rattle.form_words.specs.CodeLaws.{
-  put-same,
-  run-none,
-  run-more,
-  run-stop,
-  filled-none,
-  filled-more,
-  filled-all,
-  filled-stop,
-  put-leaf,
-  put-plain,
-  stop-plain,
-  put-gone,
-  put-stays,
-  stop-stays,
-  stop-form,
-  put-form,
-  put-surplus,
-  surplus-none,
-  surplus-kept,
-  surplus-stop,
-  surplus-put,
-  grown-word,
-  below,
-  state-below,
-  place-few,
-  count-few,
-  name-kids,
-  asked-kid,
-}
+use Rattle.form_words.specs.CodeLaws.{put-same, run-none, run-more, run-stop, filled-none, filled-more, filled-all, filled-stop, put-leaf, put-plain, stop-plain, put-gone, put-stays, stop-stays, stop-form, put-form, put-surplus, surplus-none, surplus-kept, surplus-stop, surplus-put, grown-word, below, state-below, place-few, count-few, name-kids, asked-kid}
 use Rattle.form_words.specs.Emit.{run, filled, words, kid-words}
 use borrow.Fn.Kinds.{In}
 use borrow.Fn.PlainCycle.{Measures, is, falls, and}
+use Rattle.forms.proofs.+emit_form+emit_kids+emit_name+emit_node+emit_part+emit_surplus+emit_tree.{statement}
+use Rattle.forms.proofs.+emit_form+emit_kids+emit_name+emit_node+emit_part+emit_surplus+emit_tree.Tie.{close}
+use Rattle.tables.specs.Tables.{lines-in}
 use Rattle.forms.proofs.emit_form.Reads as emit-form
 use Rattle.forms.proofs.emit_form.Kinds as emit-form-kinds
 use Rattle.forms.proofs.+emit_form+emit_kids+emit_name+emit_node+emit_part+emit_surplus+emit_tree.Lts-emit_form as emit-form-lts
@@ -83,94 +56,88 @@ use Rattle.nodes.proofs.own.Reads as own-reads
 use Rattle.nodes.proofs.pack.Reads as pack-reads
 use Rattle.tables.proofs.decl_of.Reads as decl-of-reads
 use Rattle.tables.proofs.type_number.Reads as type-number-reads
-use Rattle.forms.proofs.+emit_form+emit_kids+emit_name+emit_node+emit_part+emit_surplus+emit_tree.{
-  statement,
-}
-use Rattle.forms.proofs.+emit_form+emit_kids+emit_name+emit_node+emit_part+emit_surplus+emit_tree.Tie.{
-  close,
-}
 
-abbrev μ-emit-form : Measures 5 emit-form-kinds.ps ℕ
-μ-emit-form κs a = 6 * a .1 .1 .1 .1 .0 + 2
+abbrev μ-emit-form : Measures 4 emit-form-kinds.ps ℕ
+μ-emit-form κs a = 6 * a .1 .1 .1 .0 + 2
 
-abbrev μ-emit-kids : Measures 5 emit-kids-kinds.ps ℕ
-μ-emit-kids κs a = 6 * a .1 .1 .1 .1 .0 + 1
+abbrev μ-emit-kids : Measures 4 emit-kids-kinds.ps ℕ
+μ-emit-kids κs a = 6 * a .1 .1 .1 .0 + 1
 
-abbrev μ-emit-name : Measures 5 emit-name-kinds.ps ℕ
-μ-emit-name κs a = 6 * a .1 .1 .1 .1 .0 + 3
+abbrev μ-emit-name : Measures 4 emit-name-kinds.ps ℕ
+μ-emit-name κs a = 6 * a .1 .1 .1 .0 + 3
 
-abbrev μ-emit-node : Measures 5 emit-node-kinds.ps ℕ
-μ-emit-node κs a = 6 * a .1 .1 .1 .1 .0 + 1
+abbrev μ-emit-node : Measures 4 emit-node-kinds.ps ℕ
+μ-emit-node κs a = 6 * a .1 .1 .1 .0 + 1
 
-abbrev μ-emit-part : Measures 5 emit-part-kinds.ps ℕ
-μ-emit-part κs a = 6 * a .1 .1 .1 .1 .0 + 5
+abbrev μ-emit-part : Measures 4 emit-part-kinds.ps ℕ
+μ-emit-part κs a = 6 * a .1 .1 .1 .0 + 5
 
-abbrev μ-emit-surplus : Measures 5 emit-surplus-kinds.ps ℕ
-μ-emit-surplus κs a = 6 * a .1 .1 .1 .1 .0 + 2
+abbrev μ-emit-surplus : Measures 4 emit-surplus-kinds.ps ℕ
+μ-emit-surplus κs a = 6 * a .1 .1 .1 .0 + 2
 
-abbrev μ-emit-tree : Measures 5 emit-tree-kinds.ps ℕ
-μ-emit-tree κs a = 6 * a .1 .1 .1 .1 .0 + 4
+abbrev μ-emit-tree : Measures 4 emit-tree-kinds.ps ℕ
+μ-emit-tree κs a = 6 * a .1 .1 .1 .0 + 4
 
-abbrev emit-form-at : ℕ → In 5 emit-form-kinds.ps
-emit-form-at t = and 5 emit-form-kinds.ps (is 5 emit-form-kinds.ps μ-emit-form t) emit-form.Pre
+abbrev emit-form-at : ℕ → In 4 emit-form-kinds.ps
+emit-form-at t = and 4 emit-form-kinds.ps (is 4 emit-form-kinds.ps μ-emit-form t) emit-form.Pre
 
-abbrev emit-form-below : ℕ → In 5 emit-form-kinds.ps
+abbrev emit-form-below : ℕ → In 4 emit-form-kinds.ps
 emit-form-below t =
-    and 5 emit-form-kinds.ps (falls 5 emit-form-kinds.ps _<_ μ-emit-form t) emit-form.Pre
+    and 4 emit-form-kinds.ps (falls 4 emit-form-kinds.ps _<_ μ-emit-form t) emit-form.Pre
 
-abbrev emit-kids-at : ℕ → In 5 emit-kids-kinds.ps
-emit-kids-at t = and 5 emit-kids-kinds.ps (is 5 emit-kids-kinds.ps μ-emit-kids t) emit-kids.Pre
+abbrev emit-kids-at : ℕ → In 4 emit-kids-kinds.ps
+emit-kids-at t = and 4 emit-kids-kinds.ps (is 4 emit-kids-kinds.ps μ-emit-kids t) emit-kids.Pre
 
-abbrev emit-kids-below : ℕ → In 5 emit-kids-kinds.ps
+abbrev emit-kids-below : ℕ → In 4 emit-kids-kinds.ps
 emit-kids-below t =
-    and 5 emit-kids-kinds.ps (falls 5 emit-kids-kinds.ps _<_ μ-emit-kids t) emit-kids.Pre
+    and 4 emit-kids-kinds.ps (falls 4 emit-kids-kinds.ps _<_ μ-emit-kids t) emit-kids.Pre
 
-abbrev emit-name-at : ℕ → In 5 emit-name-kinds.ps
-emit-name-at t = and 5 emit-name-kinds.ps (is 5 emit-name-kinds.ps μ-emit-name t) emit-name.Pre
+abbrev emit-name-at : ℕ → In 4 emit-name-kinds.ps
+emit-name-at t = and 4 emit-name-kinds.ps (is 4 emit-name-kinds.ps μ-emit-name t) emit-name.Pre
 
-abbrev emit-name-below : ℕ → In 5 emit-name-kinds.ps
+abbrev emit-name-below : ℕ → In 4 emit-name-kinds.ps
 emit-name-below t =
-    and 5 emit-name-kinds.ps (falls 5 emit-name-kinds.ps _<_ μ-emit-name t) emit-name.Pre
+    and 4 emit-name-kinds.ps (falls 4 emit-name-kinds.ps _<_ μ-emit-name t) emit-name.Pre
 
-abbrev emit-node-at : ℕ → In 5 emit-node-kinds.ps
-emit-node-at t = and 5 emit-node-kinds.ps (is 5 emit-node-kinds.ps μ-emit-node t) emit-node.Pre
+abbrev emit-node-at : ℕ → In 4 emit-node-kinds.ps
+emit-node-at t = and 4 emit-node-kinds.ps (is 4 emit-node-kinds.ps μ-emit-node t) emit-node.Pre
 
-abbrev emit-node-below : ℕ → In 5 emit-node-kinds.ps
+abbrev emit-node-below : ℕ → In 4 emit-node-kinds.ps
 emit-node-below t =
-    and 5 emit-node-kinds.ps (falls 5 emit-node-kinds.ps _<_ μ-emit-node t) emit-node.Pre
+    and 4 emit-node-kinds.ps (falls 4 emit-node-kinds.ps _<_ μ-emit-node t) emit-node.Pre
 
-abbrev emit-part-at : ℕ → In 5 emit-part-kinds.ps
-emit-part-at t = and 5 emit-part-kinds.ps (is 5 emit-part-kinds.ps μ-emit-part t) emit-part.Pre
+abbrev emit-part-at : ℕ → In 4 emit-part-kinds.ps
+emit-part-at t = and 4 emit-part-kinds.ps (is 4 emit-part-kinds.ps μ-emit-part t) emit-part.Pre
 
-abbrev emit-part-below : ℕ → In 5 emit-part-kinds.ps
+abbrev emit-part-below : ℕ → In 4 emit-part-kinds.ps
 emit-part-below t =
-    and 5 emit-part-kinds.ps (falls 5 emit-part-kinds.ps _<_ μ-emit-part t) emit-part.Pre
+    and 4 emit-part-kinds.ps (falls 4 emit-part-kinds.ps _<_ μ-emit-part t) emit-part.Pre
 
-abbrev emit-surplus-at : ℕ → In 5 emit-surplus-kinds.ps
+abbrev emit-surplus-at : ℕ → In 4 emit-surplus-kinds.ps
 emit-surplus-at t =
-    and 5 emit-surplus-kinds.ps (is 5 emit-surplus-kinds.ps μ-emit-surplus t) emit-surplus.Pre
+    and 4 emit-surplus-kinds.ps (is 4 emit-surplus-kinds.ps μ-emit-surplus t) emit-surplus.Pre
 
-abbrev emit-surplus-below : ℕ → In 5 emit-surplus-kinds.ps
+abbrev emit-surplus-below : ℕ → In 4 emit-surplus-kinds.ps
 emit-surplus-below t =
     and
-    5
+    4
     emit-surplus-kinds.ps
-    (falls 5 emit-surplus-kinds.ps _<_ μ-emit-surplus t)
+    (falls 4 emit-surplus-kinds.ps _<_ μ-emit-surplus t)
     emit-surplus.Pre
 
-abbrev emit-tree-at : ℕ → In 5 emit-tree-kinds.ps
-emit-tree-at t = and 5 emit-tree-kinds.ps (is 5 emit-tree-kinds.ps μ-emit-tree t) emit-tree.Pre
+abbrev emit-tree-at : ℕ → In 4 emit-tree-kinds.ps
+emit-tree-at t = and 4 emit-tree-kinds.ps (is 4 emit-tree-kinds.ps μ-emit-tree t) emit-tree.Pre
 
-abbrev emit-tree-below : ℕ → In 5 emit-tree-kinds.ps
+abbrev emit-tree-below : ℕ → In 4 emit-tree-kinds.ps
 emit-tree-below t =
-    and 5 emit-tree-kinds.ps (falls 5 emit-tree-kinds.ps _<_ μ-emit-tree t) emit-tree.Pre
+    and 4 emit-tree-kinds.ps (falls 4 emit-tree-kinds.ps _<_ μ-emit-tree t) emit-tree.Pre
 
 abbrev emit-form-Inv-loop : emit-form-lts.InvT-loop
-emit-form-Inv-loop s t u f y d places m out₀ at start n last₀ from₀ end₀ r₀ i₀ out last from end r i =
-    (i ≤ n) × (length out ≡ length out₀) × (r ≤ length out) × Put (filled (kid-words (lines 6 s) u f d places y) (kids-of (lines 6 s) y) (take i (take n (drop start f)))) out₀ at r out × (last < y → Stands (words (lines 6 s) u f d places last) out from end r)
+emit-form-Inv-loop t u f y d places m out₀ at start n last₀ from₀ end₀ r₀ i₀ out last from end r i =
+    (i ≤ n) × (length out ≡ length out₀) × (r ≤ length out) × Put (filled (kid-words (lines-in t) u f d places y) (kids-of (lines-in t) y) (take i (take n (drop start f)))) out₀ at r out × (last < y → Stands (words (lines-in t) u f d places last) out from end r)
 
 abbrev emit-form-μ-loop : emit-form-lts.MeasureT-loop
-emit-form-μ-loop s t u f y d places m out₀ at start n last₀ from₀ end₀ r₀ i₀ out last from end r i =
+emit-form-μ-loop t u f y d places m out₀ at start n last₀ from₀ end₀ r₀ i₀ out last from end r i =
     n - i
 
 emit-form-loop-holds : (t : ℕ) → emit-form-lts.Need-loop-holds (
@@ -180,9 +147,9 @@ emit-form-loop-holds : (t : ℕ) → emit-form-lts.Need-loop-holds (
   emit-node.Post,
 ) (emit-form-at t) emit-form.Post emit-form-Inv-loop emit-form-μ-loop
 emit-form-loop-holds t c =
-    let a = c .before .before .before .before .before .before .before .args in
-    let p = c .before .before .before .before .before .before .before .pre in
-    (omega arith, refl, p .1 .1, put-same _ _ _ _ _ _ (sym (filled-none (kid-words (lines 6 (a .s .now)) (a .u .now) (a .f .now) (a .d) (a .places) (a .y)) (kids-of (lines 6 (a .s .now)) (a .y)) (a .f .now) (getD (a .f .now) (2 * a .m) 0) (getD (a .f .now) (2 * a .m + 1) 0) (p .1 .0 .forms .inside (a .m) (p .1 .2)))) (put-none (a .out .now) (a .at) (p .1 .1)), λ q. absurd (omega arith))
+    let a = c .before .before .before .before .before .before .args in
+    let p = c .before .before .before .before .before .before .pre in
+    (omega arith, refl, p .1 .1, put-same _ _ _ _ _ _ (sym (filled-none (kid-words (lines-in (a .t .now)) (a .u .now) (a .f .now) (a .d) (a .places) (a .y)) (kids-of (lines-in (a .t .now)) (a .y)) (a .f .now) (getD (a .f .now) (2 * a .m) 0) (getD (a .f .now) (2 * a .m + 1) 0) (p .1 .0 .forms .inside (a .m) (p .1 .2)))) (put-none (a .out .now) (a .at) (p .1 .1)), λ q. absurd (omega arith))
 
 emit-form-add-w : (t : ℕ) → emit-form-lts.Need-add-w (
   argument-line-reads.Asked,
@@ -191,8 +158,8 @@ emit-form-add-w : (t : ℕ) → emit-form-lts.Need-add-w (
   emit-node.Post,
 ) (emit-form-at t) emit-form.Post emit-form-Inv-loop emit-form-μ-loop
 emit-form-add-w t c =
-    let a = c .before .before .before .before .before .before .before .before .before .args in
-    let p = c .before .before .before .before .before .before .before .before .before .pre in
+    let a = c .before .before .before .before .before .before .before .before .args in
+    let p = c .before .before .before .before .before .before .before .before .pre in
     omega (arith, c .loop-test .taken, (p .1 .0 .forms .inside (a .m) (p .1 .2)))
 
 emit-form-mul-w : (t : ℕ) → emit-form-lts.Need-mul-w (
@@ -202,9 +169,9 @@ emit-form-mul-w : (t : ℕ) → emit-form-lts.Need-mul-w (
   emit-node.Post,
 ) (emit-form-at t) emit-form.Post emit-form-Inv-loop emit-form-μ-loop
 emit-form-mul-w t c =
-    let a = c .before .before .before .before .before .before .before .before .before .args in
-    let p = c .before .before .before .before .before .before .before .before .before .pre in
-    omega (arith, c .loop-test .taken, (p .1 .0 .forms .inside (a .m) (p .1 .2)), c .before .before .before .before .before .before .before .before .before .good .1 .1 .1 .0 .1)
+    let a = c .before .before .before .before .before .before .before .before .args in
+    let p = c .before .before .before .before .before .before .before .before .pre in
+    omega (arith, c .loop-test .taken, (p .1 .0 .forms .inside (a .m) (p .1 .2)), c .before .before .before .before .before .before .before .before .good .1 .1 .0 .1)
 
 emit-form-shared-slice-read-w : (t : ℕ) → emit-form-lts.Need-shared-slice-read-w (
   argument-line-reads.Asked,
@@ -213,8 +180,8 @@ emit-form-shared-slice-read-w : (t : ℕ) → emit-form-lts.Need-shared-slice-re
   emit-node.Post,
 ) (emit-form-at t) emit-form.Post emit-form-Inv-loop emit-form-μ-loop
 emit-form-shared-slice-read-w t c =
-    let a = c .before .before .before .before .before .before .before .before .before .before .args in
-    let p = c .before .before .before .before .before .before .before .before .before .before .pre in
+    let a = c .before .before .before .before .before .before .before .before .before .args in
+    let p = c .before .before .before .before .before .before .before .before .before .pre in
     omega (arith, c .before .loop-test .taken, (p .1 .0 .forms .inside (a .m) (p .1 .2)))
 
 emit-form-argument-line-requires : (t : ℕ) → emit-form-lts.Need-argument-line-requires (
@@ -224,8 +191,8 @@ emit-form-argument-line-requires : (t : ℕ) → emit-form-lts.Need-argument-lin
   emit-node.Post,
 ) (emit-form-at t) emit-form.Post emit-form-Inv-loop emit-form-μ-loop
 emit-form-argument-line-requires t c κs =
-    let a = c .before .before .before .before .before .before .before .before .before .before .args in
-    let p = c .before .before .before .before .before .before .before .before .before .before .pre in
+    let a = c .before .before .before .before .before .before .before .before .before .args in
+    let p = c .before .before .before .before .before .before .before .before .before .pre in
     (p .1 .0 .tabled, p .1 .0 .type)
 
 emit-form-emit-node-requires : (t : ℕ) → emit-form-lts.Need-emit-node-requires (
@@ -235,8 +202,8 @@ emit-form-emit-node-requires : (t : ℕ) → emit-form-lts.Need-emit-node-requir
   emit-node.Post,
 ) (emit-form-at t) emit-form.Post emit-form-Inv-loop emit-form-μ-loop
 emit-form-emit-node-requires t c κs =
-    let a = c .before .before .before .before .before .before .before .before .before .before .before .before .args in
-    let p = c .before .before .before .before .before .before .before .before .before .before .before .before .pre in
+    let a = c .before .before .before .before .before .before .before .before .before .before .before .args in
+    let p = c .before .before .before .before .before .before .before .before .before .before .before .pre in
     let l = c .before .before .before .before .loop in
     (omega (arith, p .0), ((p .1 .0, l .inv .2, c .before .argument-line .ensures), l .inv .4))
 
@@ -256,10 +223,10 @@ emit-form-returns : (t : ℕ) → emit-form-lts.Need-returns (
   emit-node.Post,
 ) (emit-form-at t) emit-form.Post emit-form-Inv-loop emit-form-μ-loop
 emit-form-returns t c =
-    let a = c .before .before .before .before .before .before .before .before .before .before .before .before .before .before .before .before .args in
-    let p = c .before .before .before .before .before .before .before .before .before .before .before .before .before .before .before .before .pre in
+    let a = c .before .before .before .before .before .before .before .before .before .before .before .before .before .before .before .args in
+    let p = c .before .before .before .before .before .before .before .before .before .before .before .before .before .before .before .pre in
     let l = c .before .before .before .before .before .before .before .before .loop in
-    filled-stop (kid-words (lines 6 (a .s .now)) (a .u .now) (a .f .now) (a .d) (a .places) (a .y)) (kids-of (lines 6 (a .s .now)) (a .y)) (a .f .now) (getD (a .f .now) (2 * a .m) 0) (getD (a .f .now) (2 * a .m + 1) 0) (p .1 .0 .forms .inside (a .m) (p .1 .2)) (l .i + 1) (a .out .now) (a .at) _ _ (omega (arith, c .if1 .taken, c .before .before .before .emit-node .ensures .long, l .inv .1)) (put-same _ _ _ _ _ _ (filled-more (kid-words (lines 6 (a .s .now)) (a .u .now) (a .f .now) (a .d) (a .places) (a .y)) (kids-of (lines 6 (a .s .now)) (a .y)) (a .f .now) (getD (a .f .now) (2 * a .m) 0) (getD (a .f .now) (2 * a .m + 1) 0) (p .1 .0 .forms .inside (a .m) (p .1 .2)) (l .i) (c .before .before .before .before .before .before .before .loop-test .taken)) (put-more _ _ (a .out .now) (a .at) (l .r) _ (l .out) _ (p .1 .1) (omega (arith, l .inv .1, l .inv .2)) (l .inv .3) (c .before .before .before .emit-node .ensures)))
+    filled-stop (kid-words (lines-in (a .t .now)) (a .u .now) (a .f .now) (a .d) (a .places) (a .y)) (kids-of (lines-in (a .t .now)) (a .y)) (a .f .now) (getD (a .f .now) (2 * a .m) 0) (getD (a .f .now) (2 * a .m + 1) 0) (p .1 .0 .forms .inside (a .m) (p .1 .2)) (l .i + 1) (a .out .now) (a .at) _ _ (omega (arith, c .if1 .taken, c .before .before .before .emit-node .ensures .long, l .inv .1)) (put-same _ _ _ _ _ _ (filled-more (kid-words (lines-in (a .t .now)) (a .u .now) (a .f .now) (a .d) (a .places) (a .y)) (kids-of (lines-in (a .t .now)) (a .y)) (a .f .now) (getD (a .f .now) (2 * a .m) 0) (getD (a .f .now) (2 * a .m + 1) 0) (p .1 .0 .forms .inside (a .m) (p .1 .2)) (l .i) (c .before .before .before .before .before .before .before .loop-test .taken)) (put-more _ _ (a .out .now) (a .at) (l .r) _ (l .out) _ (p .1 .1) (omega (arith, l .inv .1, l .inv .2)) (l .inv .3) (c .before .before .before .emit-node .ensures)))
 
 emit-form-add-i : (t : ℕ) → emit-form-lts.Need-add-i (
   argument-line-reads.Asked,
@@ -268,9 +235,9 @@ emit-form-add-i : (t : ℕ) → emit-form-lts.Need-add-i (
   emit-node.Post,
 ) (emit-form-at t) emit-form.Post emit-form-Inv-loop emit-form-μ-loop
 emit-form-add-i t c =
-    let a = c .before .before .before .before .before .before .before .before .before .before .before .before .before .before .before .before .before .args in
-    let p = c .before .before .before .before .before .before .before .before .before .before .before .before .before .before .before .before .before .pre in
-    omega (arith, c .before .before .before .before .before .before .before .before .loop-test .taken, (p .1 .0 .forms .inside (a .m) (p .1 .2)), c .before .before .before .before .before .before .before .before .before .before .before .before .before .before .before .before .before .good .1 .1 .1 .0 .0)
+    let a = c .before .before .before .before .before .before .before .before .before .before .before .before .before .before .before .before .args in
+    let p = c .before .before .before .before .before .before .before .before .before .before .before .before .before .before .before .before .pre in
+    omega (arith, c .before .before .before .before .before .before .before .before .loop-test .taken, (p .1 .0 .forms .inside (a .m) (p .1 .2)), c .before .before .before .before .before .before .before .before .before .before .before .before .before .before .before .before .good .1 .1 .0 .0)
 
 emit-form-loop-less : (t : ℕ) → emit-form-lts.Need-loop-less (
   argument-line-reads.Asked,
@@ -288,8 +255,8 @@ emit-form-loop-again : (t : ℕ) → emit-form-lts.Need-loop-again (
   emit-node.Post,
 ) (emit-form-at t) emit-form.Post emit-form-Inv-loop emit-form-μ-loop
 emit-form-loop-again t c =
-    let a = c .before .before .before .before .before .before .before .before .before .before .before .before .before .before .before .before .before .args in
-    let p = c .before .before .before .before .before .before .before .before .before .before .before .before .before .before .before .before .before .pre in
+    let a = c .before .before .before .before .before .before .before .before .before .before .before .before .before .before .before .before .args in
+    let p = c .before .before .before .before .before .before .before .before .before .before .before .before .before .before .before .before .pre in
     let l = c .before .before .before .before .before .before .before .before .before .loop in
     let e = c .before .before .before .before .emit-node in
     let g = c .before .before .before .before .before .before .argument-line in
@@ -297,10 +264,10 @@ emit-form-loop-again t c =
       omega (arith, c .before .before .before .before .before .before .before .before .loop-test .taken),
       omega (arith, e .ensures .long, l .inv .1),
       omega (arith, c .before .if1 .left),
-      put-same _ _ _ _ _ _ (filled-more (kid-words (lines 6 (a .s .now)) (a .u .now) (a .f .now) (a .d) (a .places) (a .y)) (kids-of (lines 6 (a .s .now)) (a .y)) (a .f .now) (getD (a .f .now) (2 * a .m) 0) (getD (a .f .now) (2 * a .m + 1) 0) (p .1 .0 .forms .inside (a .m) (p .1 .2)) (l .i) (c .before .before .before .before .before .before .before .before .loop-test .taken)) (put-more _ _ (a .out .now) (a .at) (l .r) _ (l .out) _ (p .1 .1) (omega (arith, l .inv .1, l .inv .2)) (l .inv .3) (c .before .before .before .before .emit-node .ensures)),
+      put-same _ _ _ _ _ _ (filled-more (kid-words (lines-in (a .t .now)) (a .u .now) (a .f .now) (a .d) (a .places) (a .y)) (kids-of (lines-in (a .t .now)) (a .y)) (a .f .now) (getD (a .f .now) (2 * a .m) 0) (getD (a .f .now) (2 * a .m + 1) 0) (p .1 .0 .forms .inside (a .m) (p .1 .2)) (l .i) (c .before .before .before .before .before .before .before .before .loop-test .taken)) (put-more _ _ (a .out .now) (a .at) (l .r) _ (l .out) _ (p .1 .1) (omega (arith, l .inv .1, l .inv .2)) (l .inv .3) (c .before .before .before .before .emit-node .ensures)),
       ⊎-elim
-          (λ w q. stands-by (words (lines 6 (a .s .now)) (a .u .now) (a .f .now) (a .d) (a .places)) _ _ _ _ _ _ _ _ (w .1) (w .2) (w .3) (stands-put (words (lines 6 (a .s .now)) (a .u .now) (a .f .now) (a .d) (a .places) (g .result)) (l .out) (l .r) (e .result) _ (l .inv .2) h (put-same _ _ _ _ _ _ (sym (step-given (lines 6 (a .s .now)) (a .u .now) (a .f .now) (a .d) (a .places) (a .y) _ _ (g .ensures) (w .0 .taken))) (e .ensures))))
-          (λ w q. stands-by (words (lines 6 (a .s .now)) (a .u .now) (a .f .now) (a .d) (a .places)) _ _ _ _ _ _ _ _ (w .1) (w .2) (w .3) (stands-kept _ (l .out) (l .r) (e .result) _ (l .inv .2) h (words (lines 6 (a .s .now)) (a .u .now) (a .f .now) (a .d) (a .places) (l .last)) (l .from) (l .end) (e .ensures) (l .inv .4 (omega (arith, w .1)))))
+          (λ w q. stands-by (words (lines-in (a .t .now)) (a .u .now) (a .f .now) (a .d) (a .places)) _ _ _ _ _ _ _ _ (w .1) (w .2) (w .3) (stands-put (words (lines-in (a .t .now)) (a .u .now) (a .f .now) (a .d) (a .places) (g .result)) (l .out) (l .r) (e .result) _ (l .inv .2) h (put-same _ _ _ _ _ _ (sym (step-given (lines-in (a .t .now)) (a .u .now) (a .f .now) (a .d) (a .places) (a .y) _ _ (g .ensures) (w .0 .taken))) (e .ensures))))
+          (λ w q. stands-by (words (lines-in (a .t .now)) (a .u .now) (a .f .now) (a .d) (a .places)) _ _ _ _ _ _ _ _ (w .1) (w .2) (w .3) (stands-kept _ (l .out) (l .r) (e .result) _ (l .inv .2) h (words (lines-in (a .t .now)) (a .u .now) (a .f .now) (a .d) (a .places) (l .last)) (l .from) (l .end) (e .ensures) (l .inv .4 (omega (arith, w .1)))))
           (c .if2 .came),
     )
 
@@ -320,16 +287,16 @@ emit-form-returns-2 : (t : ℕ) → emit-form-lts.Need-returns-2 (
   emit-node.Post,
 ) (emit-form-at t) emit-form.Post emit-form-Inv-loop emit-form-μ-loop
 emit-form-returns-2 t c =
-    let a = c .before .before .before .before .before .before .before .before .before .args in
-    let p = c .before .before .before .before .before .before .before .before .before .pre in
-    put-same _ _ _ _ _ _ (filled-all (kid-words (lines 6 (a .s .now)) (a .u .now) (a .f .now) (a .d) (a .places) (a .y)) (kids-of (lines 6 (a .s .now)) (a .y)) (a .f .now) (getD (a .f .now) (2 * a .m) 0) (getD (a .f .now) (2 * a .m + 1) 0) (p .1 .0 .forms .inside (a .m) (p .1 .2)) (c .before .loop .i) (omega (arith, c .loop-test .left))) (c .before .loop .inv .3)
+    let a = c .before .before .before .before .before .before .before .before .args in
+    let p = c .before .before .before .before .before .before .before .before .pre in
+    put-same _ _ _ _ _ _ (filled-all (kid-words (lines-in (a .t .now)) (a .u .now) (a .f .now) (a .d) (a .places) (a .y)) (kids-of (lines-in (a .t .now)) (a .y)) (a .f .now) (getD (a .f .now) (2 * a .m) 0) (getD (a .f .now) (2 * a .m + 1) 0) (p .1 .0 .forms .inside (a .m) (p .1 .2)) (c .before .loop .i) (omega (arith, c .loop-test .left))) (c .before .loop .inv .3)
 
 abbrev emit-kids-Inv-loop : emit-kids-lts.InvT-loop
-emit-kids-Inv-loop s t u f y d places from out₀ at n last₀ start₀ r₀ i₀ out last start r i =
-    (from ≤ i) × (i ≤ n) × (length out ≡ length out₀) × (r ≤ length out) × Put (run (kid-words (lines 6 s) u f d places y) from (i - from)) out₀ at r out × (last < y → Stands (words (lines 6 s) u f d places last) out start r r)
+emit-kids-Inv-loop t u f y d places from out₀ at n last₀ start₀ r₀ i₀ out last start r i =
+    (from ≤ i) × (i ≤ n) × (length out ≡ length out₀) × (r ≤ length out) × Put (run (kid-words (lines-in t) u f d places y) from (i - from)) out₀ at r out × (last < y → Stands (words (lines-in t) u f d places last) out start r r)
 
 abbrev emit-kids-μ-loop : emit-kids-lts.MeasureT-loop
-emit-kids-μ-loop s t u f y d places from out₀ at n last₀ start₀ r₀ i₀ out last start r i =
+emit-kids-μ-loop t u f y d places from out₀ at n last₀ start₀ r₀ i₀ out last start r i =
     n - i
 
 emit-kids-loop-holds : (t : ℕ) → emit-kids-lts.Need-loop-holds (
@@ -341,9 +308,9 @@ emit-kids-loop-holds : (t : ℕ) → emit-kids-lts.Need-loop-holds (
   emit-part.Post,
 ) (emit-kids-at t) emit-kids.Post emit-kids-Inv-loop emit-kids-μ-loop
 emit-kids-loop-holds t c =
-    let a = c .before .before .before .before .before .before .args in
-    let p = c .before .before .before .before .before .before .pre in
-    (omega arith, omega (arith, p .1 .2, c .kids .ensures), refl, p .1 .1, put-same _ _ _ _ _ _ (sym (run-none (kid-words (lines 6 (a .s .now)) (a .u .now) (a .f .now) (a .d) (a .places) (a .y)) (a .from))) (put-none (a .out .now) (a .at) (p .1 .1)), λ q. absurd (omega arith))
+    let a = c .before .before .before .before .before .args in
+    let p = c .before .before .before .before .before .pre in
+    (omega arith, omega (arith, p .1 .2, c .kids .ensures), refl, p .1 .1, put-same _ _ _ _ _ _ (sym (run-none (kid-words (lines-in (a .t .now)) (a .u .now) (a .f .now) (a .d) (a .places) (a .y)) (a .from))) (put-none (a .out .now) (a .at) (p .1 .1)), λ q. absurd (omega arith))
 
 emit-kids-kid-requires : (t : ℕ) → emit-kids-lts.Need-kid-requires (
   kids-reads.Asked,
@@ -354,8 +321,8 @@ emit-kids-kid-requires : (t : ℕ) → emit-kids-lts.Need-kid-requires (
   emit-part.Post,
 ) (emit-kids-at t) emit-kids.Post emit-kids-Inv-loop emit-kids-μ-loop
 emit-kids-kid-requires t c κs =
-    let a = c .before .before .before .before .before .before .before .before .args in
-    let p = c .before .before .before .before .before .before .before .before .pre in
+    let a = c .before .before .before .before .before .before .before .args in
+    let p = c .before .before .before .before .before .before .before .pre in
     (p .1 .0 .tabled, (p .1 .0 .type, omega (arith, c .loop-test .taken, c .before .before .kids .ensures)))
 
 emit-kids-emit-part-requires : (t : ℕ) → emit-kids-lts.Need-emit-part-requires (
@@ -367,11 +334,11 @@ emit-kids-emit-part-requires : (t : ℕ) → emit-kids-lts.Need-emit-part-requir
   emit-part.Post,
 ) (emit-kids-at t) emit-kids.Post emit-kids-Inv-loop emit-kids-μ-loop
 emit-kids-emit-part-requires t c κs =
-    let a = c .before .before .before .before .before .before .before .before .before .before .args in
-    let p = c .before .before .before .before .before .before .before .before .before .before .pre in
+    let a = c .before .before .before .before .before .before .before .before .before .args in
+    let p = c .before .before .before .before .before .before .before .before .before .pre in
     let l = c .before .before .before .loop in
-    let q = asked-kid (a .s .now) (a .t .now) (a .u .now) (a .f .now) (a .y) (a .d) (l .i) (c .before .kid .result) (p .1 .0) (omega (arith, c .before .before .loop-test .taken, c .before .before .before .before .kids .ensures)) (c .before .kid .ensures) in
-    (omega (arith, p .0, q .0), ((q .1, l .inv .3), stands-at (words (lines 6 (a .s .now)) (a .u .now) (a .f .now) (a .d) (a .places)) (l .out) (l .start) (l .r) (l .r) (l .last) (c .before .kid .result) (a .y) (q .0) (l .inv .5)))
+    let q = asked-kid (lines-in (a .t .now)) (a .t .now) (a .u .now) (a .f .now) (a .y) (a .d) (l .i) (c .before .kid .result) (p .1 .0) (omega (arith, c .before .before .loop-test .taken, c .before .before .before .before .kids .ensures)) (c .before .kid .ensures) in
+    (omega (arith, p .0, q .0), ((q .1, l .inv .3), stands-at (words (lines-in (a .t .now)) (a .u .now) (a .f .now) (a .d) (a .places)) (l .out) (l .start) (l .r) (l .r) (l .last) (c .before .kid .result) (a .y) (q .0) (l .inv .5)))
 
 emit-kids-same-length : (t : ℕ) → emit-kids-lts.Need-same-length (
   kids-reads.Asked,
@@ -393,10 +360,10 @@ emit-kids-returns : (t : ℕ) → emit-kids-lts.Need-returns (
   emit-part.Post,
 ) (emit-kids-at t) emit-kids.Post emit-kids-Inv-loop emit-kids-μ-loop
 emit-kids-returns t c =
-    let a = c .before .before .before .before .before .before .before .before .before .before .before .before .before .before .args in
-    let p = c .before .before .before .before .before .before .before .before .before .before .before .before .before .before .pre in
+    let a = c .before .before .before .before .before .before .before .before .before .before .before .before .before .args in
+    let p = c .before .before .before .before .before .before .before .before .before .before .before .before .before .pre in
     let l = c .before .before .before .before .before .before .before .loop in
-    run-stop (kid-words (lines 6 (a .s .now)) (a .u .now) (a .f .now) (a .d) (a .places) (a .y)) (a .from) (l .i + 1 - a .from) (kids-of (lines 6 (a .s .now)) (a .y) - a .from) (a .out .now) (a .at) _ _ (omega (arith, c .before .before .before .before .before .before .loop-test .taken, c .before .before .before .before .before .before .before .before .kids .ensures)) (omega (arith, c .if1 .taken, c .before .before .before .emit-part .ensures .long, l .inv .2)) (put-same _ _ _ _ _ _ (run-more (kid-words (lines 6 (a .s .now)) (a .u .now) (a .f .now) (a .d) (a .places) (a .y)) (a .from) (l .i) (l .inv .0)) (put-more _ _ (a .out .now) (a .at) (l .r) _ (l .out) _ (p .1 .1) (omega (arith, l .inv .2, l .inv .3)) (l .inv .4) (put-same _ _ _ _ _ _ (ap (words (lines 6 (a .s .now)) (a .u .now) (a .f .now) (a .d) (a .places)) (c .before .before .before .before .before .kid .ensures)) (c .before .before .before .emit-part .ensures))))
+    run-stop (kid-words (lines-in (a .t .now)) (a .u .now) (a .f .now) (a .d) (a .places) (a .y)) (a .from) (l .i + 1 - a .from) (kids-of (lines-in (a .t .now)) (a .y) - a .from) (a .out .now) (a .at) _ _ (omega (arith, c .before .before .before .before .before .before .loop-test .taken, c .before .before .before .before .before .before .before .before .kids .ensures)) (omega (arith, c .if1 .taken, c .before .before .before .emit-part .ensures .long, l .inv .2)) (put-same _ _ _ _ _ _ (run-more (kid-words (lines-in (a .t .now)) (a .u .now) (a .f .now) (a .d) (a .places) (a .y)) (a .from) (l .i) (l .inv .0)) (put-more _ _ (a .out .now) (a .at) (l .r) _ (l .out) _ (p .1 .1) (omega (arith, l .inv .2, l .inv .3)) (l .inv .4) (put-same _ _ _ _ _ _ (ap (words (lines-in (a .t .now)) (a .u .now) (a .f .now) (a .d) (a .places)) (c .before .before .before .before .before .kid .ensures)) (c .before .before .before .emit-part .ensures))))
 
 emit-kids-add-i : (t : ℕ) → emit-kids-lts.Need-add-i (
   kids-reads.Asked,
@@ -429,16 +396,16 @@ emit-kids-loop-again : (t : ℕ) → emit-kids-lts.Need-loop-again (
   emit-part.Post,
 ) (emit-kids-at t) emit-kids.Post emit-kids-Inv-loop emit-kids-μ-loop
 emit-kids-loop-again t c =
-    let a = c .before .before .before .before .before .before .before .before .before .before .before .before .before .before .args in
-    let p = c .before .before .before .before .before .before .before .before .before .before .before .before .before .before .pre in
+    let a = c .before .before .before .before .before .before .before .before .before .before .before .before .before .args in
+    let p = c .before .before .before .before .before .before .before .before .before .before .before .before .before .pre in
     let l = c .before .before .before .before .before .before .before .loop in
     let e = c .before .before .before .emit-part in (
       omega (arith, l .inv .0),
       omega (arith, c .before .before .before .before .before .before .loop-test .taken),
       omega (arith, e .ensures .long, l .inv .2),
       omega (arith, c .if1 .left),
-      put-same _ _ _ _ _ _ (run-more (kid-words (lines 6 (a .s .now)) (a .u .now) (a .f .now) (a .d) (a .places) (a .y)) (a .from) (l .i) (l .inv .0)) (put-more _ _ (a .out .now) (a .at) (l .r) _ (l .out) _ (p .1 .1) (omega (arith, l .inv .2, l .inv .3)) (l .inv .4) (put-same _ _ _ _ _ _ (ap (words (lines 6 (a .s .now)) (a .u .now) (a .f .now) (a .d) (a .places)) (c .before .before .before .before .before .kid .ensures)) (c .before .before .before .emit-part .ensures))),
-      λ q. stands-put (words (lines 6 (a .s .now)) (a .u .now) (a .f .now) (a .d) (a .places) (c .before .before .before .before .before .kid .result)) (l .out) (l .r) (e .result) _ (l .inv .3) (omega (arith, c .if1 .left, e .ensures .long)) (e .ensures),
+      put-same _ _ _ _ _ _ (run-more (kid-words (lines-in (a .t .now)) (a .u .now) (a .f .now) (a .d) (a .places) (a .y)) (a .from) (l .i) (l .inv .0)) (put-more _ _ (a .out .now) (a .at) (l .r) _ (l .out) _ (p .1 .1) (omega (arith, l .inv .2, l .inv .3)) (l .inv .4) (put-same _ _ _ _ _ _ (ap (words (lines-in (a .t .now)) (a .u .now) (a .f .now) (a .d) (a .places)) (c .before .before .before .before .before .kid .ensures)) (c .before .before .before .emit-part .ensures))),
+      λ q. stands-put (words (lines-in (a .t .now)) (a .u .now) (a .f .now) (a .d) (a .places) (c .before .before .before .before .before .kid .result)) (l .out) (l .r) (e .result) _ (l .inv .3) (omega (arith, c .if1 .left, e .ensures .long)) (e .ensures),
     )
 
 emit-kids-same-length-2 : (t : ℕ) → emit-kids-lts.Need-same-length-2 (
@@ -461,10 +428,10 @@ emit-kids-returns-2 : (t : ℕ) → emit-kids-lts.Need-returns-2 (
   emit-part.Post,
 ) (emit-kids-at t) emit-kids.Post emit-kids-Inv-loop emit-kids-μ-loop
 emit-kids-returns-2 t c =
-    let a = c .before .before .before .before .before .before .before .before .args in
-    let p = c .before .before .before .before .before .before .before .before .pre in
-    let e : c .before .loop .i ≡ kids-of (lines 6 (a .s .now)) (a .y) = omega (arith, c .loop-test .left, c .before .loop .inv .1, c .before .before .kids .ensures) in
-    put-same _ _ _ _ _ _ (ap (λ (i : ℕ). run (kid-words (lines 6 (a .s .now)) (a .u .now) (a .f .now) (a .d) (a .places) (a .y)) (a .from) (i - a .from)) e) (c .before .loop .inv .4)
+    let a = c .before .before .before .before .before .before .before .args in
+    let p = c .before .before .before .before .before .before .before .pre in
+    let e : c .before .loop .i ≡ kids-of (lines-in (a .t .now)) (a .y) = omega (arith, c .loop-test .left, c .before .loop .inv .1, c .before .before .kids .ensures) in
+    put-same _ _ _ _ _ _ (ap (λ (i : ℕ). run (kid-words (lines-in (a .t .now)) (a .u .now) (a .f .now) (a .d) (a .places) (a .y)) (a .from) (i - a .from)) e) (c .before .loop .inv .4)
 
 emit-name-decl-of-requires : (t : ℕ) → emit-name-lts.Need-decl-of-requires (
   type-number-reads.Asked,
@@ -489,9 +456,9 @@ emit-name-decl-of-requires : (t : ℕ) → emit-name-lts.Need-decl-of-requires (
   emit-surplus.Post,
 ) (emit-name-at t) emit-name.Post
 emit-name-decl-of-requires t c κs =
-    let a = c .before .before .before .before .before .before .args in
-    let p = c .before .before .before .before .before .before .pre in
-    (p .1 .0 .0 .tabled, omega (arith, c .type-number .ensures, node-at (a .s .now) (p .1 .0 .0 .tabled .passed) (a .y) (p .1 .0 .0 .type) .named (p .1 .1)))
+    let a = c .before .before .before .before .before .args in
+    let p = c .before .before .before .before .before .pre in
+    (p .1 .0 .0 .tabled, omega (arith, c .type-number .ensures, node-at (lines-in (a .t .now)) (p .1 .0 .0 .tabled .passed) (a .y) (p .1 .0 .0 .type) .named (p .1 .1)))
 
 emit-name-state-requires : (t : ℕ) → emit-name-lts.Need-state-requires (
   type-number-reads.Asked,
@@ -516,9 +483,9 @@ emit-name-state-requires : (t : ℕ) → emit-name-lts.Need-state-requires (
   emit-surplus.Post,
 ) (emit-name-at t) emit-name.Post
 emit-name-state-requires t c κs =
-    let a = c .before .before .before .before .before .before .before .args in
-    let p = c .before .before .before .before .before .before .before .pre in
-    omega (arith, c .decl-of .ensures, place-few (a .s .now) (p .1 .0 .0 .tabled .passed) (c .before .type-number .result))
+    let a = c .before .before .before .before .before .before .args in
+    let p = c .before .before .before .before .before .before .pre in
+    omega (arith, c .decl-of .ensures, place-few (lines-in (a .t .now)) (p .1 .0 .0 .tabled .passed) (c .before .type-number .result))
 
 emit-name-returns : (t : ℕ) → emit-name-lts.Need-returns (
   type-number-reads.Asked,
@@ -543,9 +510,9 @@ emit-name-returns : (t : ℕ) → emit-name-lts.Need-returns (
   emit-surplus.Post,
 ) (emit-name-at t) emit-name.Post
 emit-name-returns t c =
-    let a = c .before .before .before .before .before .before .before .before .before .before .before .before .before .before .args in
-    let p = c .before .before .before .before .before .before .before .before .before .before .before .before .before .before .pre in
-    put-gone (a .s .now) (p .1 .0 .0 .tabled .passed) (a .u .now) (a .f .now) (a .d) (a .places) (a .y) (p .1 .0 .0 .type) (a .out .now) (a .at) (p .1 .0 .1) (p .1 .1) (c .before .before .before .before .before .before .before .before .type-number .result) (c .before .before .before .before .before .before .before .decl-of .result) (c .before .before .before .before .before .before .state .result) (c .before .before .before .before .before .before .before .before .type-number .ensures) (c .before .before .before .before .before .before .before .decl-of .ensures) (c .before .before .before .before .before .before .state .ensures) _ _ _ (c .before .before .before .before .before .if1 .taken) (c .before .before .before .pack .ensures) (c .before .before .put .ensures)
+    let a = c .before .before .before .before .before .before .before .before .before .before .before .before .before .args in
+    let p = c .before .before .before .before .before .before .before .before .before .before .before .before .before .pre in
+    put-gone (lines-in (a .t .now)) (p .1 .0 .0 .tabled .passed) (a .u .now) (a .f .now) (a .d) (a .places) (a .y) (p .1 .0 .0 .type) (a .out .now) (a .at) (p .1 .0 .1) (p .1 .1) (c .before .before .before .before .before .before .before .before .type-number .result) (c .before .before .before .before .before .before .before .decl-of .result) (c .before .before .before .before .before .before .state .result) (c .before .before .before .before .before .before .before .before .type-number .ensures) (c .before .before .before .before .before .before .before .decl-of .ensures) (c .before .before .before .before .before .before .state .ensures) _ _ _ (c .before .before .before .before .before .if1 .taken) (c .before .before .before .pack .ensures) (c .before .before .put .ensures)
 
 emit-name-returns-2 : (t : ℕ) → emit-name-lts.Need-returns-2 (
   type-number-reads.Asked,
@@ -570,9 +537,9 @@ emit-name-returns-2 : (t : ℕ) → emit-name-lts.Need-returns-2 (
   emit-surplus.Post,
 ) (emit-name-at t) emit-name.Post
 emit-name-returns-2 t c =
-    let a = c .before .before .before .before .before .before .before .before .before .before .before .before .before .before .before .args in
-    let p = c .before .before .before .before .before .before .before .before .before .before .before .before .before .before .before .pre in
-    stop-stays (a .s .now) (p .1 .0 .0 .tabled .passed) (a .u .now) (a .f .now) (a .d) (a .places) (a .y) (p .1 .0 .0 .type) (a .out .now) (a .at) (p .1 .0 .1) (p .1 .1) (c .before .before .before .before .before .before .before .before .before .type-number .result) (c .before .before .before .before .before .before .before .before .decl-of .result) (c .before .before .before .before .before .before .before .state .result) (c .before .before .before .before .before .before .before .before .before .type-number .ensures) (c .before .before .before .before .before .before .before .before .decl-of .ensures) (c .before .before .before .before .before .before .before .state .ensures) _ _ (omega (arith, c .before .before .before .before .before .if2 .taken)) (omega (arith, c .if3 .taken, c .before .before .before .emit-kids .ensures .long)) (c .before .before .before .emit-kids .ensures)
+    let a = c .before .before .before .before .before .before .before .before .before .before .before .before .before .before .args in
+    let p = c .before .before .before .before .before .before .before .before .before .before .before .before .before .before .pre in
+    stop-stays (lines-in (a .t .now)) (p .1 .0 .0 .tabled .passed) (a .u .now) (a .f .now) (a .d) (a .places) (a .y) (p .1 .0 .0 .type) (a .out .now) (a .at) (p .1 .0 .1) (p .1 .1) (c .before .before .before .before .before .before .before .before .before .type-number .result) (c .before .before .before .before .before .before .before .before .decl-of .result) (c .before .before .before .before .before .before .before .state .result) (c .before .before .before .before .before .before .before .before .before .type-number .ensures) (c .before .before .before .before .before .before .before .before .decl-of .ensures) (c .before .before .before .before .before .before .before .state .ensures) _ _ (omega (arith, c .before .before .before .before .before .if2 .taken)) (omega (arith, c .if3 .taken, c .before .before .before .emit-kids .ensures .long)) (c .before .before .before .emit-kids .ensures)
 
 emit-name-cast-pack : (t : ℕ) → emit-name-lts.Need-cast-pack (
   type-number-reads.Asked,
@@ -597,9 +564,9 @@ emit-name-cast-pack : (t : ℕ) → emit-name-lts.Need-cast-pack (
   emit-surplus.Post,
 ) (emit-name-at t) emit-name.Post
 emit-name-cast-pack t c =
-    let a = c .before .before .before .before .before .before .before .before .before .before .before .before .before .before .before .before .before .args in
-    let p = c .before .before .before .before .before .before .before .before .before .before .before .before .before .before .before .before .before .pre in
-    omega (arith, c .kids .ensures, name-kids (a .s .now) (p .1 .0 .0 .tabled .passed) (a .y) (p .1 .0 .0 .type) (p .1 .1))
+    let a = c .before .before .before .before .before .before .before .before .before .before .before .before .before .before .before .before .args in
+    let p = c .before .before .before .before .before .before .before .before .before .before .before .before .before .before .before .before .pre in
+    omega (arith, c .kids .ensures, name-kids (lines-in (a .t .now)) (p .1 .0 .0 .tabled .passed) (a .y) (p .1 .0 .0 .type) (p .1 .1))
 
 emit-name-returns-3 : (t : ℕ) → emit-name-lts.Need-returns-3 (
   type-number-reads.Asked,
@@ -624,9 +591,9 @@ emit-name-returns-3 : (t : ℕ) → emit-name-lts.Need-returns-3 (
   emit-surplus.Post,
 ) (emit-name-at t) emit-name.Post
 emit-name-returns-3 t c =
-    let a = c .before .before .before .before .before .before .before .before .before .before .before .before .before .before .before .before .before .before .before .before .before .args in
-    let p = c .before .before .before .before .before .before .before .before .before .before .before .before .before .before .before .before .before .before .before .before .before .pre in
-    put-stays (a .s .now) (p .1 .0 .0 .tabled .passed) (a .u .now) (a .f .now) (a .d) (a .places) (a .y) (p .1 .0 .0 .type) (a .out .now) (a .at) (p .1 .0 .1) (p .1 .1) (c .before .before .before .before .before .before .before .before .before .before .before .before .before .before .before .type-number .result) (c .before .before .before .before .before .before .before .before .before .before .before .before .before .before .decl-of .result) (c .before .before .before .before .before .before .before .before .before .before .before .before .before .state .result) (c .before .before .before .before .before .before .before .before .before .before .before .before .before .before .before .type-number .ensures) (c .before .before .before .before .before .before .before .before .before .before .before .before .before .before .decl-of .ensures) (c .before .before .before .before .before .before .before .before .before .before .before .before .before .state .ensures) (c .before .before .before .before .kids .result) _ _ _ _ _ (omega (arith, c .before .before .before .before .before .before .before .before .before .before .before .if2 .taken)) (omega (arith, c .before .before .before .before .before .before .if3 .left, c .before .before .before .before .before .before .before .before .before .emit-kids .ensures .long)) (c .before .before .before .before .before .before .before .before .before .emit-kids .ensures) (c .before .before .before .before .kids .ensures) (c .before .before .before .pack2 .ensures) (c .before .before .put2 .ensures)
+    let a = c .before .before .before .before .before .before .before .before .before .before .before .before .before .before .before .before .before .before .before .before .args in
+    let p = c .before .before .before .before .before .before .before .before .before .before .before .before .before .before .before .before .before .before .before .before .pre in
+    put-stays (lines-in (a .t .now)) (p .1 .0 .0 .tabled .passed) (a .u .now) (a .f .now) (a .d) (a .places) (a .y) (p .1 .0 .0 .type) (a .out .now) (a .at) (p .1 .0 .1) (p .1 .1) (c .before .before .before .before .before .before .before .before .before .before .before .before .before .before .before .type-number .result) (c .before .before .before .before .before .before .before .before .before .before .before .before .before .before .decl-of .result) (c .before .before .before .before .before .before .before .before .before .before .before .before .before .state .result) (c .before .before .before .before .before .before .before .before .before .before .before .before .before .before .before .type-number .ensures) (c .before .before .before .before .before .before .before .before .before .before .before .before .before .before .decl-of .ensures) (c .before .before .before .before .before .before .before .before .before .before .before .before .before .state .ensures) (c .before .before .before .before .kids .result) _ _ _ _ _ (omega (arith, c .before .before .before .before .before .before .before .before .before .before .before .if2 .taken)) (omega (arith, c .before .before .before .before .before .before .if3 .left, c .before .before .before .before .before .before .before .before .before .emit-kids .ensures .long)) (c .before .before .before .before .before .before .before .before .before .emit-kids .ensures) (c .before .before .before .before .kids .ensures) (c .before .before .before .pack2 .ensures) (c .before .before .put2 .ensures)
 
 emit-name-emit-form-requires : (t : ℕ) → emit-name-lts.Need-emit-form-requires (
   type-number-reads.Asked,
@@ -651,8 +618,8 @@ emit-name-emit-form-requires : (t : ℕ) → emit-name-lts.Need-emit-form-requir
   emit-surplus.Post,
 ) (emit-name-at t) emit-name.Post
 emit-name-emit-form-requires t c κs =
-    let a = c .before .before .before .before .before .before .before .before .before .before .before .args in
-    let p = c .before .before .before .before .before .before .before .before .before .before .before .pre in
+    let a = c .before .before .before .before .before .before .before .before .before .before .args in
+    let p = c .before .before .before .before .before .before .before .before .before .before .pre in
     (omega (arith, p .0), (p .1 .0 .0, p .1 .0 .1, state-below (a .u .now) (c .before .before .before .before .decl-of .result) (c .before .before .before .state .result) _ (c .before .before .before .state .ensures) (omega (arith, c .before .if2 .left)) (p .1 .0 .0 .states)))
 
 emit-name-returns-4 : (t : ℕ) → emit-name-lts.Need-returns-4 (
@@ -678,9 +645,9 @@ emit-name-returns-4 : (t : ℕ) → emit-name-lts.Need-returns-4 (
   emit-surplus.Post,
 ) (emit-name-at t) emit-name.Post
 emit-name-returns-4 t c =
-    let a = c .before .before .before .before .before .before .before .before .before .before .before .before .before .before .before .args in
-    let p = c .before .before .before .before .before .before .before .before .before .before .before .before .before .before .before .pre in
-    stop-form (a .s .now) (p .1 .0 .0 .tabled .passed) (a .u .now) (a .f .now) (a .d) (a .places) (a .y) (p .1 .0 .0 .type) (a .out .now) (a .at) (p .1 .0 .1) (p .1 .1) (c .before .before .before .before .before .before .before .before .before .type-number .result) (c .before .before .before .before .before .before .before .before .decl-of .result) (c .before .before .before .before .before .before .before .state .result) (c .before .before .before .before .before .before .before .before .before .type-number .ensures) (c .before .before .before .before .before .before .before .before .decl-of .ensures) (c .before .before .before .before .before .before .before .state .ensures) (λ e. c .before .before .before .before .before .before .if1 .left e) (omega (arith, c .before .before .before .before .before .if2 .left)) _ _ (omega (arith, c .if4 .taken, c .before .before .before .emit-form .ensures .long)) (c .before .before .before .emit-form .ensures)
+    let a = c .before .before .before .before .before .before .before .before .before .before .before .before .before .before .args in
+    let p = c .before .before .before .before .before .before .before .before .before .before .before .before .before .before .pre in
+    stop-form (lines-in (a .t .now)) (p .1 .0 .0 .tabled .passed) (a .u .now) (a .f .now) (a .d) (a .places) (a .y) (p .1 .0 .0 .type) (a .out .now) (a .at) (p .1 .0 .1) (p .1 .1) (c .before .before .before .before .before .before .before .before .before .type-number .result) (c .before .before .before .before .before .before .before .before .decl-of .result) (c .before .before .before .before .before .before .before .state .result) (c .before .before .before .before .before .before .before .before .before .type-number .ensures) (c .before .before .before .before .before .before .before .before .decl-of .ensures) (c .before .before .before .before .before .before .before .state .ensures) (λ e. c .before .before .before .before .before .before .if1 .left e) (omega (arith, c .before .before .before .before .before .if2 .left)) _ _ (omega (arith, c .if4 .taken, c .before .before .before .emit-form .ensures .long)) (c .before .before .before .emit-form .ensures)
 
 emit-name-params-requires : (t : ℕ) → emit-name-lts.Need-params-requires (
   type-number-reads.Asked,
@@ -705,8 +672,8 @@ emit-name-params-requires : (t : ℕ) → emit-name-lts.Need-params-requires (
   emit-surplus.Post,
 ) (emit-name-at t) emit-name.Post
 emit-name-params-requires t c κs =
-    let a = c .before .before .before .before .before .before .before .before .before .before .before .before .before .before .before .args in
-    let p = c .before .before .before .before .before .before .before .before .before .before .before .before .before .before .before .pre in
+    let a = c .before .before .before .before .before .before .before .before .before .before .before .before .before .before .args in
+    let p = c .before .before .before .before .before .before .before .before .before .before .before .before .before .before .pre in
     (p .1 .0 .0 .tabled, state-below (a .u .now) (c .before .before .before .before .before .before .before .before .decl-of .result) (c .before .before .before .before .before .before .before .state .result) _ (c .before .before .before .before .before .before .before .state .ensures) (omega (arith, c .before .before .before .before .before .if2 .left)) (p .1 .0 .0 .states))
 
 emit-name-returns-5 : (t : ℕ) → emit-name-lts.Need-returns-5 (
@@ -732,9 +699,9 @@ emit-name-returns-5 : (t : ℕ) → emit-name-lts.Need-returns-5 (
   emit-surplus.Post,
 ) (emit-name-at t) emit-name.Post
 emit-name-returns-5 t c =
-    let a = c .before .before .before .before .before .before .before .before .before .before .before .before .before .before .before .before .before .before .args in
-    let p = c .before .before .before .before .before .before .before .before .before .before .before .before .before .before .before .before .before .before .pre in
-    put-form (a .s .now) (p .1 .0 .0 .tabled .passed) (a .u .now) (a .f .now) (a .d) (a .places) (a .y) (p .1 .0 .0 .type) (a .out .now) (a .at) (p .1 .0 .1) (p .1 .1) (c .before .before .before .before .before .before .before .before .before .before .before .before .type-number .result) (c .before .before .before .before .before .before .before .before .before .before .before .decl-of .result) (c .before .before .before .before .before .before .before .before .before .before .state .result) (c .before .before .before .before .before .before .before .before .before .before .before .before .type-number .ensures) (c .before .before .before .before .before .before .before .before .before .before .before .decl-of .ensures) (c .before .before .before .before .before .before .before .before .before .before .state .ensures) (λ e. c .before .before .before .before .before .before .before .before .before .if1 .left e) (omega (arith, c .before .before .before .before .before .before .before .before .if2 .left)) _ _ (omega (arith, c .if5 .taken, c .before .kids2 .ensures, c .before .before .params .ensures)) (c .before .before .before .before .before .before .emit-form .ensures)
+    let a = c .before .before .before .before .before .before .before .before .before .before .before .before .before .before .before .before .before .args in
+    let p = c .before .before .before .before .before .before .before .before .before .before .before .before .before .before .before .before .before .pre in
+    put-form (lines-in (a .t .now)) (p .1 .0 .0 .tabled .passed) (a .u .now) (a .f .now) (a .d) (a .places) (a .y) (p .1 .0 .0 .type) (a .out .now) (a .at) (p .1 .0 .1) (p .1 .1) (c .before .before .before .before .before .before .before .before .before .before .before .before .type-number .result) (c .before .before .before .before .before .before .before .before .before .before .before .decl-of .result) (c .before .before .before .before .before .before .before .before .before .before .state .result) (c .before .before .before .before .before .before .before .before .before .before .before .before .type-number .ensures) (c .before .before .before .before .before .before .before .before .before .before .before .decl-of .ensures) (c .before .before .before .before .before .before .before .before .before .before .state .ensures) (λ e. c .before .before .before .before .before .before .before .before .before .if1 .left e) (omega (arith, c .before .before .before .before .before .before .before .before .if2 .left)) _ _ (omega (arith, c .if5 .taken, c .before .kids2 .ensures, c .before .before .params .ensures)) (c .before .before .before .before .before .before .emit-form .ensures)
 
 emit-name-emit-surplus-requires : (t : ℕ) → emit-name-lts.Need-emit-surplus-requires (
   type-number-reads.Asked,
@@ -759,8 +726,8 @@ emit-name-emit-surplus-requires : (t : ℕ) → emit-name-lts.Need-emit-surplus-
   emit-surplus.Post,
 ) (emit-name-at t) emit-name.Post
 emit-name-emit-surplus-requires t c κs =
-    let a = c .before .before .before .before .before .before .before .before .before .before .before .before .before .before .before .before .before .before .before .args in
-    let p = c .before .before .before .before .before .before .before .before .before .before .before .before .before .before .before .before .before .before .before .pre in
+    let a = c .before .before .before .before .before .before .before .before .before .before .before .before .before .before .before .before .before .before .args in
+    let p = c .before .before .before .before .before .before .before .before .before .before .before .before .before .before .before .before .before .before .pre in
     (omega (arith, p .0), ((p .1 .0 .0, omega (arith, c .before .before .before .before .before .before .before .emit-form .ensures .room (omega (arith, c .before .before .before .before .if4 .left, c .before .before .before .before .before .before .before .emit-form .ensures .long)) .0), omega (arith, c .before .before .before .before .if4 .left), omega (arith, c .before .if5 .left, c .before .before .kids2 .ensures)), p .1 .1))
 
 emit-name-returns-6 : (t : ℕ) → emit-name-lts.Need-returns-6 (
@@ -786,9 +753,9 @@ emit-name-returns-6 : (t : ℕ) → emit-name-lts.Need-returns-6 (
   emit-surplus.Post,
 ) (emit-name-at t) emit-name.Post
 emit-name-returns-6 t c =
-    let a = c .before .before .before .before .before .before .before .before .before .before .before .before .before .before .before .before .before .before .before .before .before .before .args in
-    let p = c .before .before .before .before .before .before .before .before .before .before .before .before .before .before .before .before .before .before .before .before .before .before .pre in
-    put-surplus (a .s .now) (p .1 .0 .0 .tabled .passed) (a .u .now) (a .f .now) (a .d) (a .places) (a .y) (p .1 .0 .0 .type) (a .out .now) (a .at) (p .1 .0 .1) (p .1 .1) (c .before .before .before .before .before .before .before .before .before .before .before .before .before .before .before .before .type-number .result) (c .before .before .before .before .before .before .before .before .before .before .before .before .before .before .before .decl-of .result) (c .before .before .before .before .before .before .before .before .before .before .before .before .before .before .state .result) (c .before .before .before .before .before .before .before .before .before .before .before .before .before .before .before .before .type-number .ensures) (c .before .before .before .before .before .before .before .before .before .before .before .before .before .before .before .decl-of .ensures) (c .before .before .before .before .before .before .before .before .before .before .before .before .before .before .state .ensures) (λ e. c .before .before .before .before .before .before .before .before .before .before .before .before .before .if1 .left e) (omega (arith, c .before .before .before .before .before .before .before .before .before .before .before .before .if2 .left)) (c .before .before .before .before .before .before .params .result) (c .before .before .before .before .before .before .before .before .before .before .emit-form .result) _ _ _ (c .before .before .before .before .before .before .params .ensures) (omega (arith, c .before .before .before .before .before .before .before .if4 .left, c .before .before .before .before .before .before .before .before .before .before .emit-form .ensures .long)) (c .before .before .before .before .before .before .before .before .before .before .emit-form .ensures) (c .before .before .emit-surplus .ensures)
+    let a = c .before .before .before .before .before .before .before .before .before .before .before .before .before .before .before .before .before .before .before .before .before .args in
+    let p = c .before .before .before .before .before .before .before .before .before .before .before .before .before .before .before .before .before .before .before .before .before .pre in
+    put-surplus (lines-in (a .t .now)) (p .1 .0 .0 .tabled .passed) (a .u .now) (a .f .now) (a .d) (a .places) (a .y) (p .1 .0 .0 .type) (a .out .now) (a .at) (p .1 .0 .1) (p .1 .1) (c .before .before .before .before .before .before .before .before .before .before .before .before .before .before .before .before .type-number .result) (c .before .before .before .before .before .before .before .before .before .before .before .before .before .before .before .decl-of .result) (c .before .before .before .before .before .before .before .before .before .before .before .before .before .before .state .result) (c .before .before .before .before .before .before .before .before .before .before .before .before .before .before .before .before .type-number .ensures) (c .before .before .before .before .before .before .before .before .before .before .before .before .before .before .before .decl-of .ensures) (c .before .before .before .before .before .before .before .before .before .before .before .before .before .before .state .ensures) (λ e. c .before .before .before .before .before .before .before .before .before .before .before .before .before .if1 .left e) (omega (arith, c .before .before .before .before .before .before .before .before .before .before .before .before .if2 .left)) (c .before .before .before .before .before .before .params .result) (c .before .before .before .before .before .before .before .before .before .before .emit-form .result) _ _ _ (c .before .before .before .before .before .before .params .ensures) (omega (arith, c .before .before .before .before .before .before .before .if4 .left, c .before .before .before .before .before .before .before .before .before .before .emit-form .ensures .long)) (c .before .before .before .before .before .before .before .before .before .before .emit-form .ensures) (c .before .before .emit-surplus .ensures)
 
 emit-node-emit-part-requires : (t : ℕ) → emit-node-lts.Need-emit-part-requires (
   emit-part-below t,
@@ -799,11 +766,11 @@ emit-node-emit-part-requires : (t : ℕ) → emit-node-lts.Need-emit-part-requir
   put-reads.Learnt,
 ) (emit-node-at t) emit-node.Post
 emit-node-emit-part-requires t c κs =
-    let a = c .before .before .before .before .before .before .before .args in
-    let p = c .before .before .before .before .before .before .before .pre in
+    let a = c .before .before .before .before .before .before .args in
+    let p = c .before .before .before .before .before .before .pre in
     let h = p .1 .0 .2 .given (c .before .if1 .taken) in
-    let q = asked-kid (a .s .now) (a .t .now) (a .u .now) (a .f .now) (a .y) (a .d) _ (a .p) (p .1 .0 .0) (h .1) (h .2) in
-    (omega (arith, p .0, q .0), ((q .1, p .1 .0 .1), stands-at (words (lines 6 (a .s .now)) (a .u .now) (a .f .now) (a .d) (a .places)) (a .out .now) (a .from) (a .end) (a .at) (a .last) (a .p) (a .y) (q .0) (p .1 .1)))
+    let q = asked-kid (lines-in (a .t .now)) (a .t .now) (a .u .now) (a .f .now) (a .y) (a .d) _ (a .p) (p .1 .0 .0) (h .1) (h .2) in
+    (omega (arith, p .0, q .0), ((q .1, p .1 .0 .1), stands-at (words (lines-in (a .t .now)) (a .u .now) (a .f .now) (a .d) (a .places)) (a .out .now) (a .from) (a .end) (a .at) (a .last) (a .p) (a .y) (q .0) (p .1 .1)))
 
 emit-node-returns : (t : ℕ) → emit-node-lts.Need-returns (
   emit-part-below t,
@@ -814,9 +781,9 @@ emit-node-returns : (t : ℕ) → emit-node-lts.Need-returns (
   put-reads.Learnt,
 ) (emit-node-at t) emit-node.Post
 emit-node-returns t c =
-    let a = c .before .before .before .before .before .before .before .before .before .before .args in
-    let p = c .before .before .before .before .before .before .before .before .before .before .pre in
-    put-same _ _ _ _ _ _ (step-given (lines 6 (a .s .now)) (a .u .now) (a .f .now) (a .d) (a .places) (a .y) (a .w) (a .p) (p .1 .0 .2) (c .before .before .before .before .if1 .taken)) (c .before .before .emit-part .ensures)
+    let a = c .before .before .before .before .before .before .before .before .before .args in
+    let p = c .before .before .before .before .before .before .before .before .before .pre in
+    put-same _ _ _ _ _ _ (step-given (lines-in (a .t .now)) (a .u .now) (a .f .now) (a .d) (a .places) (a .y) (a .w) (a .p) (p .1 .0 .2) (c .before .before .before .before .if1 .taken)) (c .before .before .emit-part .ensures)
 
 emit-node-returns-2 : (t : ℕ) → emit-node-lts.Need-returns-2 (
   emit-part-below t,
@@ -827,9 +794,9 @@ emit-node-returns-2 : (t : ℕ) → emit-node-lts.Need-returns-2 (
   put-reads.Learnt,
 ) (emit-node-at t) emit-node.Post
 emit-node-returns-2 t c =
-    let a = c .before .before .before .before .before .before .before .before .before .before .before .args in
-    let p = c .before .before .before .before .before .before .before .before .before .before .before .pre in
-    put-same _ _ _ _ _ _ (ap (λ (x : ℕ). x ∷ []) (c .before .before .before .left-word .ensures) ∙ step-left (lines 6 (a .s .now)) (a .u .now) (a .f .now) (a .d) (a .places) (a .y) (a .w) (a .p) (p .1 .0 .2) (c .before .before .before .before .before .if1 .left)) (c .before .before .put .ensures)
+    let a = c .before .before .before .before .before .before .before .before .before .before .args in
+    let p = c .before .before .before .before .before .before .before .before .before .before .pre in
+    put-same _ _ _ _ _ _ (ap (λ (x : ℕ). x ∷ []) (c .before .before .before .left-word .ensures) ∙ step-left (lines-in (a .t .now)) (a .u .now) (a .f .now) (a .d) (a .places) (a .y) (a .w) (a .p) (p .1 .0 .2) (c .before .before .before .before .before .if1 .left)) (c .before .before .put .ensures)
 
 emit-part-again-requires : (t : ℕ) → emit-part-lts.Need-again-requires (
   again-reads.Asked,
@@ -844,7 +811,7 @@ emit-part-again-requires : (t : ℕ) → emit-part-lts.Need-again-requires (
   emit-tree.Post,
 ) (emit-part-at t) emit-part.Post
 emit-part-again-requires t c κs =
-    let p = c .before .before .before .before .before .before .before .pre in
+    let p = c .before .before .before .before .before .before .pre in
     let z = p .1 .1 (c .before .if1 .taken) in (z .order, z .before, p .1 .0 .1)
 
 emit-part-returns : (t : ℕ) → emit-part-lts.Need-returns (
@@ -860,7 +827,7 @@ emit-part-returns : (t : ℕ) → emit-part-lts.Need-returns (
   emit-tree.Post,
 ) (emit-part-at t) emit-part.Post
 emit-part-returns t c =
-    put-stands _ _ _ _ _ _ _ (c .before .before .before .before .before .before .before .before .before .before .pre .1 .1 (c .before .before .before .before .if1 .taken)) (c .before .before .again .ensures)
+    put-stands _ _ _ _ _ _ _ (c .before .before .before .before .before .before .before .before .before .pre .1 .1 (c .before .before .before .before .if1 .taken)) (c .before .before .again .ensures)
 
 emit-part-returns-2 : (t : ℕ) → emit-part-lts.Need-returns-2 (
   again-reads.Asked,
@@ -875,9 +842,9 @@ emit-part-returns-2 : (t : ℕ) → emit-part-lts.Need-returns-2 (
   emit-tree.Post,
 ) (emit-part-at t) emit-part.Post
 emit-part-returns-2 t c =
-    let a = c .before .before .before .before .before .before .before .before .before .before .before .before .before .args in
-    let p = c .before .before .before .before .before .before .before .before .before .before .before .before .before .pre in
-    put-leaf (a .s .now) (p .1 .0 .0 .tabled .passed) (a .u .now) (a .f .now) (a .d) (a .places) (a .y) (p .1 .0 .0 .type) (a .out .now) (a .at) (p .1 .0 .1) _ _ _ (omega (arith, c .before .before .before .before .before .if2 .taken, c .before .before .before .before .before .before .type-number .ensures)) (c .before .before .before .leaf-word .ensures) (c .before .before .put .ensures)
+    let a = c .before .before .before .before .before .before .before .before .before .before .before .before .args in
+    let p = c .before .before .before .before .before .before .before .before .before .before .before .before .pre in
+    put-leaf (lines-in (a .t .now)) (p .1 .0 .0 .tabled .passed) (a .u .now) (a .f .now) (a .d) (a .places) (a .y) (p .1 .0 .0 .type) (a .out .now) (a .at) (p .1 .0 .1) _ _ _ (omega (arith, c .before .before .before .before .before .if2 .taken, c .before .before .before .before .before .before .type-number .ensures)) (c .before .before .before .leaf-word .ensures) (c .before .before .put .ensures)
 
 emit-part-emit-tree-requires : (t : ℕ) → emit-part-lts.Need-emit-tree-requires (
   again-reads.Asked,
@@ -892,7 +859,7 @@ emit-part-emit-tree-requires : (t : ℕ) → emit-part-lts.Need-emit-tree-requir
   emit-tree.Post,
 ) (emit-part-at t) emit-part.Post
 emit-part-emit-tree-requires t c κs =
-    let p = c .before .before .before .before .before .before .before .before .before .pre in (omega (arith, p .0), (p .1 .0, omega (arith, c .before .if2 .left, c .before .before .type-number .ensures)))
+    let p = c .before .before .before .before .before .before .before .before .pre in (omega (arith, p .0), (p .1 .0, omega (arith, c .before .if2 .left, c .before .before .type-number .ensures)))
 
 emit-part-returns-3 : (t : ℕ) → emit-part-lts.Need-returns-3 (
   again-reads.Asked,
@@ -926,9 +893,9 @@ emit-surplus-returns : (t : ℕ) → emit-surplus-lts.Need-returns (
   put-reads.Learnt,
 ) (emit-surplus-at t) emit-surplus.Post
 emit-surplus-returns t c =
-    let a = c .before .before .before .before .before .before .args in
-    let p = c .before .before .before .before .before .before .pre in
-    surplus-none (a .out .now) (a .at) (a .r) (kids-of (lines 6 (a .s .now)) (a .y) - a .k) (run (kid-words (lines 6 (a .s .now)) (a .u .now) (a .f .now) (a .d) (a .places) (a .y)) (a .k) (kids-of (lines 6 (a .s .now)) (a .y) - a .k)) (c .if1 .taken) (omega (arith, p .1 .0 .1, p .1 .0 .2))
+    let a = c .before .before .before .before .before .args in
+    let p = c .before .before .before .before .before .pre in
+    surplus-none (a .out .now) (a .at) (a .r) (kids-of (lines-in (a .t .now)) (a .y) - a .k) (run (kid-words (lines-in (a .t .now)) (a .u .now) (a .f .now) (a .d) (a .places) (a .y)) (a .k) (kids-of (lines-in (a .t .now)) (a .y) - a .k)) (c .if1 .taken) (omega (arith, p .1 .0 .1, p .1 .0 .2))
 
 emit-surplus-returns-2 : (t : ℕ) → emit-surplus-lts.Need-returns-2 (
   kind-reads.Asked,
@@ -947,9 +914,9 @@ emit-surplus-returns-2 : (t : ℕ) → emit-surplus-lts.Need-returns-2 (
   put-reads.Learnt,
 ) (emit-surplus-at t) emit-surplus.Post
 emit-surplus-returns-2 t c =
-    let a = c .before .before .before .before .before .before .before .before .before .args in
-    let p = c .before .before .before .before .before .before .before .before .before .pre in
-    surplus-kept (a .out .now) (a .at) (a .r) (kids-of (lines 6 (a .s .now)) (a .y) - a .k) (run (kid-words (lines 6 (a .s .now)) (a .u .now) (a .f .now) (a .d) (a .places) (a .y)) (a .k) (kids-of (lines 6 (a .s .now)) (a .y) - a .k)) (below (a .at) (a .r) (p .1 .0 .1) (c .before .before .before .if1 .left)) (p .1 .0 .2) (λ e. c .if2 .taken (c .before .kind .ensures ∙ e))
+    let a = c .before .before .before .before .before .before .before .before .args in
+    let p = c .before .before .before .before .before .before .before .before .pre in
+    surplus-kept (a .out .now) (a .at) (a .r) (kids-of (lines-in (a .t .now)) (a .y) - a .k) (run (kid-words (lines-in (a .t .now)) (a .u .now) (a .f .now) (a .d) (a .places) (a .y)) (a .k) (kids-of (lines-in (a .t .now)) (a .y) - a .k)) (below (a .at) (a .r) (p .1 .0 .1) (c .before .before .before .if1 .left)) (p .1 .0 .2) (λ e. c .if2 .taken (c .before .kind .ensures ∙ e))
 
 emit-surplus-emit-kids-requires : (t : ℕ) → emit-surplus-lts.Need-emit-kids-requires (
   kind-reads.Asked,
@@ -968,8 +935,8 @@ emit-surplus-emit-kids-requires : (t : ℕ) → emit-surplus-lts.Need-emit-kids-
   put-reads.Learnt,
 ) (emit-surplus-at t) emit-surplus.Post
 emit-surplus-emit-kids-requires t c κs =
-    let a = c .before .before .before .before .before .before .before .before .before .before .before .args in
-    let p = c .before .before .before .before .before .before .before .before .before .before .before .pre in
+    let a = c .before .before .before .before .before .before .before .before .before .before .args in
+    let p = c .before .before .before .before .before .before .before .before .before .before .pre in
     (omega (arith, p .0), (p .1 .0 .0, omega (arith, p .1 .0 .2), p .1 .0 .3))
 
 emit-surplus-returns-3 : (t : ℕ) → emit-surplus-lts.Need-returns-3 (
@@ -989,9 +956,9 @@ emit-surplus-returns-3 : (t : ℕ) → emit-surplus-lts.Need-returns-3 (
   put-reads.Learnt,
 ) (emit-surplus-at t) emit-surplus.Post
 emit-surplus-returns-3 t c =
-    let a = c .before .before .before .before .before .before .before .before .before .before .before .before .before .before .before .args in
-    let p = c .before .before .before .before .before .before .before .before .before .before .before .before .before .before .before .pre in
-    surplus-stop (a .out .now) (a .at) (a .r) (kids-of (lines 6 (a .s .now)) (a .y) - a .k) (run (kid-words (lines 6 (a .s .now)) (a .u .now) (a .f .now) (a .d) (a .places) (a .y)) (a .k) (kids-of (lines 6 (a .s .now)) (a .y) - a .k)) (below (a .at) (a .r) (p .1 .0 .1) (c .before .before .before .before .before .before .before .before .before .if1 .left)) (p .1 .0 .2) _ _ (sym (c .before .before .before .before .before .before .before .kind .ensures) ∙ c .before .before .before .before .before .before .if2 .left) (omega (arith, c .if3 .taken, c .before .before .before .emit-kids .ensures .long)) (c .before .before .before .emit-kids .ensures)
+    let a = c .before .before .before .before .before .before .before .before .before .before .before .before .before .before .args in
+    let p = c .before .before .before .before .before .before .before .before .before .before .before .before .before .before .pre in
+    surplus-stop (a .out .now) (a .at) (a .r) (kids-of (lines-in (a .t .now)) (a .y) - a .k) (run (kid-words (lines-in (a .t .now)) (a .u .now) (a .f .now) (a .d) (a .places) (a .y)) (a .k) (kids-of (lines-in (a .t .now)) (a .y) - a .k)) (below (a .at) (a .r) (p .1 .0 .1) (c .before .before .before .before .before .before .before .before .before .if1 .left)) (p .1 .0 .2) _ _ (sym (c .before .before .before .before .before .before .before .kind .ensures) ∙ c .before .before .before .before .before .before .if2 .left) (omega (arith, c .if3 .taken, c .before .before .before .emit-kids .ensures .long)) (c .before .before .before .emit-kids .ensures)
 
 emit-surplus-cast-pack : (t : ℕ) → emit-surplus-lts.Need-cast-pack (
   kind-reads.Asked,
@@ -1010,9 +977,9 @@ emit-surplus-cast-pack : (t : ℕ) → emit-surplus-lts.Need-cast-pack (
   put-reads.Learnt,
 ) (emit-surplus-at t) emit-surplus.Post
 emit-surplus-cast-pack t c =
-    let a = c .before .before .before .before .before .before .before .before .before .before .before .before .before .before .before .before .before .args in
-    let p = c .before .before .before .before .before .before .before .before .before .before .before .before .before .before .before .before .before .pre in
-    omega (arith, c .before .before .before .before .before .before .before .kids .ensures, name-kids (a .s .now) (p .1 .0 .0 .tabled .passed) (a .y) (p .1 .0 .0 .type) (p .1 .1))
+    let a = c .before .before .before .before .before .before .before .before .before .before .before .before .before .before .before .before .args in
+    let p = c .before .before .before .before .before .before .before .before .before .before .before .before .before .before .before .before .pre in
+    omega (arith, c .before .before .before .before .before .before .before .kids .ensures, name-kids (lines-in (a .t .now)) (p .1 .0 .0 .tabled .passed) (a .y) (p .1 .0 .0 .type) (p .1 .1))
 
 emit-surplus-add-pack : (t : ℕ) → emit-surplus-lts.Need-add-pack (
   kind-reads.Asked,
@@ -1031,9 +998,9 @@ emit-surplus-add-pack : (t : ℕ) → emit-surplus-lts.Need-add-pack (
   put-reads.Learnt,
 ) (emit-surplus-at t) emit-surplus.Post
 emit-surplus-add-pack t c =
-    let a = c .before .before .before .before .before .before .before .before .before .before .before .before .before .before .before .before .before .args in
-    let p = c .before .before .before .before .before .before .before .before .before .before .before .before .before .before .before .before .before .pre in
-    omega (arith, c .before .before .before .before .before .before .before .kids .ensures, name-kids (a .s .now) (p .1 .0 .0 .tabled .passed) (a .y) (p .1 .0 .0 .type) (p .1 .1), c .count .ensures, count-few (getD (a .out .now) (a .r - 1) 0))
+    let a = c .before .before .before .before .before .before .before .before .before .before .before .before .before .before .before .before .args in
+    let p = c .before .before .before .before .before .before .before .before .before .before .before .before .before .before .before .before .pre in
+    omega (arith, c .before .before .before .before .before .before .before .kids .ensures, name-kids (lines-in (a .t .now)) (p .1 .0 .0 .tabled .passed) (a .y) (p .1 .0 .0 .type) (p .1 .1), c .count .ensures, count-few (getD (a .out .now) (a .r - 1) 0))
 
 emit-surplus-returns-4 : (t : ℕ) → emit-surplus-lts.Need-returns-4 (
   kind-reads.Asked,
@@ -1052,9 +1019,9 @@ emit-surplus-returns-4 : (t : ℕ) → emit-surplus-lts.Need-returns-4 (
   put-reads.Learnt,
 ) (emit-surplus-at t) emit-surplus.Post
 emit-surplus-returns-4 t c =
-    let a = c .before .before .before .before .before .before .before .before .before .before .before .before .before .before .before .before .before .before .before .before .before .before .args in
-    let p = c .before .before .before .before .before .before .before .before .before .before .before .before .before .before .before .before .before .before .before .before .before .before .pre in
-    surplus-put (a .out .now) (a .at) (a .r) (kids-of (lines 6 (a .s .now)) (a .y) - a .k) (run (kid-words (lines 6 (a .s .now)) (a .u .now) (a .f .now) (a .d) (a .places) (a .y)) (a .k) (kids-of (lines 6 (a .s .now)) (a .y) - a .k)) (below (a .at) (a .r) (p .1 .0 .1) (c .before .before .before .before .before .before .before .before .before .before .before .before .before .before .before .before .if1 .left)) (p .1 .0 .2) _ _ _ _ _ (sym (c .before .before .before .before .before .before .before .before .before .before .before .before .before .before .kind .ensures) ∙ c .before .before .before .before .before .before .before .before .before .before .before .before .before .if2 .left) (omega (arith, c .before .before .before .before .before .before .before .if3 .left, c .before .before .before .before .before .before .before .before .before .before .emit-kids .ensures .long)) (c .before .before .before .pack .ensures ∙ grown-word _ _ _ _ _ _ (c .before .before .before .before .before .count .ensures) (c .before .before .before .before .own .ensures) (ap (λ (i : ℕ). i - a .k) (c .before .before .before .before .before .before .before .before .before .before .before .before .kids .ensures))) (c .before .before .before .before .before .before .before .before .before .before .emit-kids .ensures) (c .before .before .put .ensures)
+    let a = c .before .before .before .before .before .before .before .before .before .before .before .before .before .before .before .before .before .before .before .before .before .args in
+    let p = c .before .before .before .before .before .before .before .before .before .before .before .before .before .before .before .before .before .before .before .before .before .pre in
+    surplus-put (a .out .now) (a .at) (a .r) (kids-of (lines-in (a .t .now)) (a .y) - a .k) (run (kid-words (lines-in (a .t .now)) (a .u .now) (a .f .now) (a .d) (a .places) (a .y)) (a .k) (kids-of (lines-in (a .t .now)) (a .y) - a .k)) (below (a .at) (a .r) (p .1 .0 .1) (c .before .before .before .before .before .before .before .before .before .before .before .before .before .before .before .before .if1 .left)) (p .1 .0 .2) _ _ _ _ _ (sym (c .before .before .before .before .before .before .before .before .before .before .before .before .before .before .kind .ensures) ∙ c .before .before .before .before .before .before .before .before .before .before .before .before .before .if2 .left) (omega (arith, c .before .before .before .before .before .before .before .if3 .left, c .before .before .before .before .before .before .before .before .before .before .emit-kids .ensures .long)) (c .before .before .before .pack .ensures ∙ grown-word _ _ _ _ _ _ (c .before .before .before .before .before .count .ensures) (c .before .before .before .before .own .ensures) (ap (λ (i : ℕ). i - a .k) (c .before .before .before .before .before .before .before .before .before .before .before .before .kids .ensures))) (c .before .before .before .before .before .before .before .before .before .before .emit-kids .ensures) (c .before .before .put .ensures)
 
 emit-tree-returns : (t : ℕ) → emit-tree-lts.Need-returns (
   type-number-reads.Asked,
@@ -1084,9 +1051,9 @@ emit-tree-returns-2 : (t : ℕ) → emit-tree-lts.Need-returns-2 (
   put-reads.Learnt,
 ) (emit-tree-at t) emit-tree.Post
 emit-tree-returns-2 t c =
-    let a = c .before .before .before .before .before .before .before .before .before .before .before .before .args in
-    let p = c .before .before .before .before .before .before .before .before .before .before .before .before .pre in
-    stop-plain (a .s .now) (p .1 .0 .0 .tabled .passed) (a .u .now) (a .f .now) (a .d) (a .places) (a .y) (p .1 .0 .0 .type) (a .out .now) (a .at) (p .1 .0 .1) (λ e. omega (arith, p .1 .1)) (λ e. c .before .before .before .before .before .if1 .left (c .before .before .before .before .before .before .type-number .ensures ∙ e)) _ _ (omega (arith, c .if2 .taken, c .before .before .before .emit-kids .ensures .long)) (c .before .before .before .emit-kids .ensures)
+    let a = c .before .before .before .before .before .before .before .before .before .before .before .args in
+    let p = c .before .before .before .before .before .before .before .before .before .before .before .pre in
+    stop-plain (lines-in (a .t .now)) (p .1 .0 .0 .tabled .passed) (a .u .now) (a .f .now) (a .d) (a .places) (a .y) (p .1 .0 .0 .type) (a .out .now) (a .at) (p .1 .0 .1) (λ e. omega (arith, p .1 .1)) (λ e. c .before .before .before .before .before .if1 .left (c .before .before .before .before .before .before .type-number .ensures ∙ e)) _ _ (omega (arith, c .if2 .taken, c .before .before .before .emit-kids .ensures .long)) (c .before .before .before .emit-kids .ensures)
 
 emit-tree-returns-3 : (t : ℕ) → emit-tree-lts.Need-returns-3 (
   type-number-reads.Asked,
@@ -1101,9 +1068,9 @@ emit-tree-returns-3 : (t : ℕ) → emit-tree-lts.Need-returns-3 (
   put-reads.Learnt,
 ) (emit-tree-at t) emit-tree.Post
 emit-tree-returns-3 t c =
-    let a = c .before .before .before .before .before .before .before .before .before .before .before .before .before .before .before .before .before .args in
-    let p = c .before .before .before .before .before .before .before .before .before .before .before .before .before .before .before .before .before .pre in
-    put-plain (a .s .now) (p .1 .0 .0 .tabled .passed) (a .u .now) (a .f .now) (a .d) (a .places) (a .y) (p .1 .0 .0 .type) (a .out .now) (a .at) (p .1 .0 .1) (λ e. omega (arith, p .1 .1)) (λ e. c .before .before .before .before .before .before .before .before .before .before .if1 .left (c .before .before .before .before .before .before .before .before .before .before .before .type-number .ensures ∙ e)) _ _ _ _ _ (omega (arith, c .before .before .before .before .before .if2 .left, c .before .before .before .before .before .before .before .before .emit-kids .ensures .long)) (c .before .before .before .before .before .before .before .before .emit-kids .ensures) (c .before .before .before .own-word .ensures) (c .before .before .put .ensures)
+    let a = c .before .before .before .before .before .before .before .before .before .before .before .before .before .before .before .before .args in
+    let p = c .before .before .before .before .before .before .before .before .before .before .before .before .before .before .before .before .pre in
+    put-plain (lines-in (a .t .now)) (p .1 .0 .0 .tabled .passed) (a .u .now) (a .f .now) (a .d) (a .places) (a .y) (p .1 .0 .0 .type) (a .out .now) (a .at) (p .1 .0 .1) (λ e. omega (arith, p .1 .1)) (λ e. c .before .before .before .before .before .before .before .before .before .before .if1 .left (c .before .before .before .before .before .before .before .before .before .before .before .type-number .ensures ∙ e)) _ _ _ _ _ (omega (arith, c .before .before .before .before .before .if2 .left, c .before .before .before .before .before .before .before .before .emit-kids .ensures .long)) (c .before .before .before .before .before .before .before .before .emit-kids .ensures) (c .before .before .before .own-word .ensures) (c .before .before .put .ensures)
 
 pub +emit-form+emit-kids+emit-name+emit-node+emit-part+emit-surplus+emit-tree-spec :
     {M : Type 1} → statement M

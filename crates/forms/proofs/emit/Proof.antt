@@ -3,13 +3,14 @@ use native.Mathlib.Omega.{arith}
 use borrow.Author.Needs.{needs}
 use Rattle.form_words.specs.CodeLaws.{put-leaf}
 use Rattle.forms.proofs.emit.Statement.{statement}
+use Rattle.tables.specs.Tables.{lines-in}
 use Rattle.forms.proofs.emit.Tie as tie
 
 returns : tie.Need-returns
 returns c =
-    let a = c .before .before .before .before .before .before .before .before .before .before .before .before .args in
-    let p = c .before .before .before .before .before .before .before .before .before .before .before .before .pre in
-    put-leaf (a .s .now) (p .0 .tabled .passed) (a .u .now) (a .f .now) (a .d) (a .places) (a .y) (p .0 .type) (a .out .now) (a .at) (p .1) _ _ _ (omega (arith, c .before .before .before .before .before .if1 .taken, c .before .before .before .before .before .before .type-number .ensures)) (c .before .before .before .leaf-word .ensures) (c .before .before .put .ensures)
+    let a = c .before .before .before .before .before .before .before .before .before .before .before .args in
+    let p = c .before .before .before .before .before .before .before .before .before .before .before .pre in
+    put-leaf (lines-in (a .t .now)) (p .0 .tabled .passed) (a .u .now) (a .f .now) (a .d) (a .places) (a .y) (p .0 .type) (a .out .now) (a .at) (p .1) _ _ _ (omega (arith, c .before .before .before .before .before .if1 .taken, c .before .before .before .before .before .before .type-number .ensures)) (c .before .before .before .leaf-word .ensures) (c .before .before .put .ensures)
 
 pub emit-spec : {M : Type 1} → statement M
 emit-spec =

@@ -1,11 +1,10 @@
 -- `keeps::is_kept` meets its contract, by the letter of the declaration. Assumes nothing.
-use mathlib.Core.Path.{_≡_, ap, sym, _∙_}
 use native.Mathlib.Omega.{arith}
 use borrow.Author.Needs.{needs}
-use Rattle.sheet.specs.Sheet.{lines}
 use Rattle.bodies.specs.BodiesLaws.{field-types}
 use Rattle.keeps.specs.KeepsLaws.{kept-local}
 use Rattle.keeps.proofs.is_kept.Statement.{statement}
+use Rattle.tables.specs.Tables.{lines-in}
 use Rattle.keeps.proofs.is_kept.Tie as tie
 
 returns : tie.Need-returns
@@ -13,13 +12,13 @@ returns c = rw (c .before .if1 .taken, c .field-number .ensures)
 
 shared-slice-read-result : tie.Need-shared-slice-read-result
 shared-slice-read-result c =
-    let a = c .before .before .before .before .before .before in
-    omega (arith, c .before .field-number2 .ensures, field-types (a .args .s .now) (a .pre .0 .passed) (a .args .f) (a .pre .1 .0), a .pre .1 .1 .size)
+    let a = c .before .before .before .before .before in
+    omega (arith, c .before .field-number2 .ensures, field-types (lines-in (a .args .t .now)) (a .pre .0 .passed) (a .args .f) (a .pre .1 .0), a .pre .1 .1 .size)
 
 returns-2 : tie.Need-returns-2
 returns-2 c =
-    let a = c .before .before .before .before .before .before in
-    rw (c .before .before .if1 .left, c .before .field-number2 .ensures) (kept-local (lines 6 (a .args .s .now)) (a .args .node .now) (a .args .f) (a .pre .1 .1) (field-types (a .args .s .now) (a .pre .0 .passed) (a .args .f) (a .pre .1 .0)))
+    let a = c .before .before .before .before .before in
+    rw (c .before .before .if1 .left, c .before .field-number2 .ensures) (kept-local (lines-in (a .args .t .now)) (a .args .node .now) (a .args .f) (a .pre .1 .1) (field-types (lines-in (a .args .t .now)) (a .pre .0 .passed) (a .args .f) (a .pre .1 .0)))
 
 pub is-kept-spec : {M : Type 1} → statement M
 is-kept-spec =

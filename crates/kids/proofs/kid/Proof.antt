@@ -1,47 +1,47 @@
 -- `kids::kid` meets its contract, kind by kind. Assumes nothing.
-use mathlib.Core.Path.{_≡_, refl, sym, _∙_, ap}
+use mathlib.Core.Path.{refl, sym, _∙_, ap}
 use native.Mathlib.Omega.{arith}
-use Prim.Native.Nat.{_+_, _≤_, _<_}
+use Prim.Native.Nat.{_+_}
 use borrow.Author.Needs.{needs}
 use borrow.Author.Tests.{ne-eqb}
-use Rattle.sheet.specs.Sheet.{lines}
 use Rattle.kids.specs.Nodes.{arg-of}
 use Rattle.kids.specs.NodesLaws.{list8-within, list9-within, args-few, kid-7, kid-8, kid-9, kid-11, kid-one}
 use Rattle.kids.proofs.kid.Statement.{statement}
+use Rattle.tables.specs.Tables.{lines-in}
 use Rattle.kids.proofs.kid.Tie as tie
 
 add-arg : tie.Need-add-arg
 add-arg c =
-    let a = c .before .before .before .before .before in
-    omega (arith, c .type-number2 .ensures, list8-within (a .args .s .now) (a .pre .0 .passed) (a .args .y) (a .pre .1 .0) (sym (c .before .before .type-number .ensures) ∙ c .before .match .keys2) (a .args .i) (a .pre .1 .1), args-few (a .args .s .now) (a .pre .0 .passed))
+    let a = c .before .before .before .before in
+    omega (arith, c .type-number2 .ensures, list8-within (lines-in (a .args .t .now)) (a .pre .0 .passed) (a .args .y) (a .pre .1 .0) (sym (c .before .before .type-number .ensures) ∙ c .before .match .keys2) (a .args .i) (a .pre .1 .1), args-few (lines-in (a .args .t .now)) (a .pre .0 .passed))
 
 arg-requires : tie.Need-arg-requires
 arg-requires c κs =
-    let a = c .before .before .before .before .before in
-    (a .pre .0, omega (arith, c .type-number2 .ensures, list8-within (a .args .s .now) (a .pre .0 .passed) (a .args .y) (a .pre .1 .0) (sym (c .before .before .type-number .ensures) ∙ c .before .match .keys2) (a .args .i) (a .pre .1 .1)))
+    let a = c .before .before .before .before in
+    (a .pre .0, omega (arith, c .type-number2 .ensures, list8-within (lines-in (a .args .t .now)) (a .pre .0 .passed) (a .args .y) (a .pre .1 .0) (sym (c .before .before .type-number .ensures) ∙ c .before .match .keys2) (a .args .i) (a .pre .1 .1)))
 
 add-arg-2 : tie.Need-add-arg-2
 add-arg-2 c =
-    let a = c .before .before .before .before .before in
-    omega (arith, c .type-number3 .ensures, list9-within (a .args .s .now) (a .pre .0 .passed) (a .args .y) (a .pre .1 .0) (sym (c .before .before .type-number .ensures) ∙ c .before .match .keys3) (a .args .i) (a .pre .1 .1), args-few (a .args .s .now) (a .pre .0 .passed))
+    let a = c .before .before .before .before in
+    omega (arith, c .type-number3 .ensures, list9-within (lines-in (a .args .t .now)) (a .pre .0 .passed) (a .args .y) (a .pre .1 .0) (sym (c .before .before .type-number .ensures) ∙ c .before .match .keys3) (a .args .i) (a .pre .1 .1), args-few (lines-in (a .args .t .now)) (a .pre .0 .passed))
 
 arg-requires-2 : tie.Need-arg-requires-2
 arg-requires-2 c κs =
-    let a = c .before .before .before .before .before in
-    (a .pre .0, omega (arith, c .type-number3 .ensures, list9-within (a .args .s .now) (a .pre .0 .passed) (a .args .y) (a .pre .1 .0) (sym (c .before .before .type-number .ensures) ∙ c .before .match .keys3) (a .args .i) (a .pre .1 .1)))
+    let a = c .before .before .before .before in
+    (a .pre .0, omega (arith, c .type-number3 .ensures, list9-within (lines-in (a .args .t .now)) (a .pre .0 .passed) (a .args .y) (a .pre .1 .0) (sym (c .before .before .type-number .ensures) ∙ c .before .match .keys3) (a .args .i) (a .pre .1 .1)))
 
 returns : tie.Need-returns
 returns c = c .arrow-kid .ensures ∙ sym (kid-7 _ _ (sym (c .before .before .type-number .ensures) ∙ c .before .match .keys1) _)
 
 returns-2 : tie.Need-returns-2
 returns-2 c =
-    let a = c .before .before .before .before .before .before in
-    c .arg .ensures ∙ (ap (λ n. arg-of (lines 6 (a .args .s .now)) (n + a .args .i)) (c .before .type-number2 .ensures) ∙ sym (kid-8 _ _ (sym (c .before .before .before .type-number .ensures) ∙ c .before .before .match .keys2) _))
+    let a = c .before .before .before .before .before in
+    c .arg .ensures ∙ (ap (λ n. arg-of (lines-in (a .args .t .now)) (n + a .args .i)) (c .before .type-number2 .ensures) ∙ sym (kid-8 _ _ (sym (c .before .before .before .type-number .ensures) ∙ c .before .before .match .keys2) _))
 
 returns-3 : tie.Need-returns-3
 returns-3 c =
-    let a = c .before .before .before .before .before .before in
-    c .arg2 .ensures ∙ (ap (λ n. arg-of (lines 6 (a .args .s .now)) (n + a .args .i)) (c .before .type-number3 .ensures) ∙ sym (kid-9 _ _ (sym (c .before .before .before .type-number .ensures) ∙ c .before .before .match .keys3) _))
+    let a = c .before .before .before .before .before in
+    c .arg2 .ensures ∙ (ap (λ n. arg-of (lines-in (a .args .t .now)) (n + a .args .i)) (c .before .type-number3 .ensures) ∙ sym (kid-9 _ _ (sym (c .before .before .before .type-number .ensures) ∙ c .before .before .match .keys3) _))
 
 returns-4 : tie.Need-returns-4
 returns-4 c = c .type-number4 .ensures ∙ sym (kid-11 _ _ (sym (c .before .before .type-number .ensures) ∙ c .before .match .keys4) _)

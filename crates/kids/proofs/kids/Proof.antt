@@ -1,11 +1,10 @@
 -- `kids::kids` meets its contract, kind by kind; row 5 says that no kind is over 12. Assumes nothing.
-use mathlib.Core.Path.{_≡_, refl, sym, _∙_}
+use mathlib.Core.Path.{sym, _∙_}
 use native.Mathlib.Omega.{arith}
-use Prim.Native.Nat.{_≤_, _<_}
 use borrow.Author.Needs.{needs}
-use borrow.Author.Tests.{ne-eqb, le-leb}
 use Rattle.kids.specs.NodesLaws.{node-at, kids-7, kids-8, kids-9, kids-part, kids-leaf, seven}
 use Rattle.kids.proofs.kids.Statement.{statement}
+use Rattle.tables.specs.Tables.{lines-in}
 use Rattle.kids.proofs.kids.Tie as tie
 
 returns : tie.Need-returns
@@ -25,8 +24,8 @@ returns-5 c = sym (kids-leaf _ _ (seven _ (omega (arith, c .before .before .type
 
 returns-6 : tie.Need-returns-6
 returns-6 c =
-    let a = c .before .before .before .before .before .before in
-    absurd (omega (arith, c .before .before .before .type-number .ensures, node-at (a .args .s .now) (a .pre .0 .passed) (a .args .y) (a .pre .1) .known))
+    let a = c .before .before .before .before .before in
+    absurd (omega (arith, c .before .before .before .type-number .ensures, node-at (lines-in (a .args .t .now)) (a .pre .0 .passed) (a .args .y) (a .pre .1) .known))
 
 pub kids-spec : {M : Type 1} → statement M
 kids-spec =

@@ -1,21 +1,21 @@
 -- `laying::by_body` meets its contract, by the body kind. Assumes nothing.
 use borrow.Author.Needs.{needs}
-use Rattle.sheet.specs.Sheet.{lines}
 use Rattle.declared.specs.DeclLaws.{whole-at}
 use Rattle.laying.specs.LayingLaws.{body-opaque, body-abbrev, body-ctors}
 use Rattle.laying.proofs.by_body.Statement.{statement}
+use Rattle.tables.specs.Tables.{lines-in}
 use Rattle.laying.proofs.by_body.Tie as tie
 
 returns : tie.Need-returns
-returns c = let a = c .before .before .before .before .before .before in body-opaque (lines 6 (a .args .s .now)) (a .args .d) (a .pre .1 .0) (c .before .decl-number .result) (c .before .decl-number .ensures) (c .if1 .taken)
+returns c = let a = c .before .before .before .before .before in body-opaque (lines-in (a .args .t .now)) (a .args .d) (a .pre .1 .0) (c .before .decl-number .result) (c .before .decl-number .ensures) (c .if1 .taken)
 
 returns-2 : tie.Need-returns-2
-returns-2 c = let a = c .before .before .before .before .before .before .before in body-abbrev (lines 6 (a .args .s .now)) (a .args .d) (a .pre .1 .0) (c .before .before .decl-number .result) (c .before .before .decl-number .ensures) (c .if2 .taken)
+returns-2 c = let a = c .before .before .before .before .before .before in body-abbrev (lines-in (a .args .t .now)) (a .args .d) (a .pre .1 .0) (c .before .before .decl-number .result) (c .before .before .decl-number .ensures) (c .if2 .taken)
 
 returns-3 : tie.Need-returns-3
 returns-3 c =
-    let a = c .before .before .before .before .before .before .before .before in
-    body-ctors (lines 6 (a .args .s .now)) (a .args .d) (a .pre .1 .0) (c .collapse .result) (c .before .before .before .decl-number .result) (c .before .before .before .decl-number .ensures) (c .before .before .if1 .left) (c .before .if2 .left) (whole-at (a .args .s .now) (a .pre .0 .passed) (a .args .d) (a .pre .1 .0) .kinds) (c .collapse .ensures)
+    let a = c .before .before .before .before .before .before .before in
+    body-ctors (lines-in (a .args .t .now)) (a .args .d) (a .pre .1 .0) (c .collapse .result) (c .before .before .before .decl-number .result) (c .before .before .before .decl-number .ensures) (c .before .before .if1 .left) (c .before .if2 .left) (whole-at (lines-in (a .args .t .now)) (a .pre .0 .passed) (a .args .d) (a .pre .1 .0) .kinds) (c .collapse .ensures)
 
 pub by-body-spec : {M : Type 1} → statement M
 by-body-spec = tie.close (tie.spec (λ c κs. search needs) returns returns-2 (λ c κs. search needs) returns-3)

@@ -3,43 +3,44 @@ use mathlib.Core.Path.{sym, _∙_}
 use borrow.Author.Needs.{needs}
 use Rattle.laying.specs.LayingLaws.{import-erased, import-newtype, import-struct, import-abbrev, import-plain, import-opaque}
 use Rattle.laying.proofs.by_verdict.Statement.{statement}
+use Rattle.tables.specs.Tables.{lines-in}
 use Rattle.laying.proofs.by_verdict.Tie as tie
 
 returns : tie.Need-returns
 returns c =
-    let a = c .before .before .before .before .before in
+    let a = c .before .before .before .before in
     let v = c .before .verdict-number in
-    import-erased (a .args .s .now) (a .pre .0 .passed) (a .args .d) (a .pre .1 .0 .0) (a .pre .1 .0 .1) (v .result) (v .ensures) (c .if1 .taken)
+    import-erased (lines-in (a .args .t .now)) (a .pre .0 .passed) (a .args .d) (a .pre .1 .0 .0) (a .pre .1 .0 .1) (v .result) (v .ensures) (c .if1 .taken)
 
 returns-2 : tie.Need-returns-2
 returns-2 c =
-    let a = c .before .before .before .before .before .before .before in
+    let a = c .before .before .before .before .before .before in
     let v = c .before .before .before .verdict-number in
-    import-newtype (a .args .s .now) (a .pre .0 .passed) (a .args .d) (a .pre .1 .0 .0) (a .pre .1 .0 .1) (v .result) (v .ensures) (c .by-kept .result) (c .before .if2 .taken) (c .by-kept .ensures)
+    import-newtype (lines-in (a .args .t .now)) (a .pre .0 .passed) (a .args .d) (a .pre .1 .0 .0) (a .pre .1 .0 .1) (v .result) (v .ensures) (c .by-kept .result) (c .before .if2 .taken) (c .by-kept .ensures)
 
 returns-3 : tie.Need-returns-3
 returns-3 c =
-    let a = c .before .before .before .before .before .before .before in
+    let a = c .before .before .before .before .before .before in
     let v = c .before .before .before .verdict-number in
-    import-struct (a .args .s .now) (a .pre .0 .passed) (a .args .d) (a .pre .1 .0 .0) (a .pre .1 .0 .1) (v .result) (v .ensures) (c .if3 .taken)
+    import-struct (lines-in (a .args .t .now)) (a .pre .0 .passed) (a .args .d) (a .pre .1 .0 .0) (a .pre .1 .0 .1) (v .result) (v .ensures) (c .if3 .taken)
 
 returns-4 : tie.Need-returns-4
 returns-4 c =
-    let a = c .before .before .before .before .before .before .before .before .before .before in
+    let a = c .before .before .before .before .before .before .before .before .before in
     let v = c .before .before .before .before .before .before .verdict-number in
-    import-abbrev (a .args .s .now) (a .pre .0 .passed) (a .args .d) (a .pre .1 .0 .0) (a .pre .1 .0 .1) (v .result) (v .ensures) (c .before .before .if4 .taken) (sym (c .before .decl-number .ensures) ∙ c .if5 .taken)
+    import-abbrev (lines-in (a .args .t .now)) (a .pre .0 .passed) (a .args .d) (a .pre .1 .0 .0) (a .pre .1 .0 .1) (v .result) (v .ensures) (c .before .before .if4 .taken) (sym (c .before .decl-number .ensures) ∙ c .if5 .taken)
 
 returns-5 : tie.Need-returns-5
 returns-5 c =
-    let a = c .before .before .before .before .before .before .before .before .before .before in
+    let a = c .before .before .before .before .before .before .before .before .before in
     let v = c .before .before .before .before .before .before .verdict-number in
-    import-plain (a .args .s .now) (a .pre .0 .passed) (a .args .d) (a .pre .1 .0 .0) (a .pre .1 .0 .1) (v .result) (v .ensures) (c .before .before .if4 .taken) (λ e. c .if5 .left (c .before .decl-number .ensures ∙ e))
+    import-plain (lines-in (a .args .t .now)) (a .pre .0 .passed) (a .args .d) (a .pre .1 .0 .0) (a .pre .1 .0 .1) (v .result) (v .ensures) (c .before .before .if4 .taken) (λ e. c .if5 .left (c .before .decl-number .ensures ∙ e))
 
 returns-6 : tie.Need-returns-6
 returns-6 c =
-    let a = c .before .before .before .before .before .before .before .before in
+    let a = c .before .before .before .before .before .before .before in
     let v = c .before .before .before .before .verdict-number in
-    import-opaque (a .args .s .now) (a .pre .0 .passed) (a .args .d) (a .pre .1 .0 .0) (a .pre .1 .0 .1) (v .result) (v .ensures) (c .before .before .before .if1 .left) (c .before .before .if2 .left) (c .before .if3 .left) (c .if4 .left)
+    import-opaque (lines-in (a .args .t .now)) (a .pre .0 .passed) (a .args .d) (a .pre .1 .0 .0) (a .pre .1 .0 .1) (v .result) (v .ensures) (c .before .before .before .if1 .left) (c .before .before .if2 .left) (c .before .if3 .left) (c .if4 .left)
 
 pub by-verdict-spec : {M : Type 1} → statement M
 by-verdict-spec =

@@ -4,7 +4,7 @@ use Rattle.laying.proofs.compute_layouts.Statement.{statement}
 use Rattle.laying.proofs.compute_layouts.Tie as tie
 
 lay-out-requires : tie.Need-lay-out-requires
-lay-out-requires c κs = let p = c .before .before .before .before .before .before .before .pre in (p .0, (p .1 .0, (p .1 .1, c .blank .ensures)))
+lay-out-requires c κs = let p = c .before .before .before .before .before .before .pre in (p .0, (p .1 .0, (p .1 .1, c .blank .ensures)))
 
 returns : tie.Need-returns
 returns c = c .lay-out .ensures

@@ -3,35 +3,34 @@ use mathlib.Core.Path.{_≡_, refl, sym}
 use Prim.Native.Nat.{_-_, _≤_, _<_}
 use native.Mathlib.Omega.{arith}
 use lib.ListN.{length}
-use Rattle.sheet.specs.Sheet.{lines}
-use Rattle.tables.specs.Tables.{decls-of}
+use Rattle.tables.specs.Tables.{decls-of, lines-in}
 use Rattle.laying.specs.Laying.{Partly}
 use Rattle.laying.specs.LayingLaws.{decls-few, mark-is, partly-none, partly-next, partly-all}
 use Rattle.laying.proofs.lay_out.Statement.{statement}
 use Rattle.laying.proofs.lay_out.Tie as tie
 
 abbrev Inv-loop : tie.InvT-loop
-Inv-loop s t decl keep fields found verdicts₀ d₀ d-end verdicts d = (d ≤ length decl) × (d-end ≡ length decl) × Partly (lines 6 s) verdicts d
+Inv-loop t decl keep fields found verdicts₀ d₀ d-end verdicts d = (d ≤ length decl) × (d-end ≡ length decl) × Partly (lines-in t) verdicts d
 
 abbrev μ-loop : tie.MeasureT-loop
-μ-loop s t decl keep fields found verdicts₀ d₀ d-end verdicts d = d-end - d
+μ-loop t decl keep fields found verdicts₀ d₀ d-end verdicts d = d-end - d
 
 loop-holds : tie.Need-loop-holds Inv-loop μ-loop
-loop-holds c = (omega arith, refl, partly-none (lines 6 (c .before .before .before .before .before .before .args .s .now)) _ (c .before .before .before .before .before .before .pre .1 .1 .1))
+loop-holds c = (omega arith, refl, partly-none (lines-in (c .before .before .before .before .before .args .t .now)) _ (c .before .before .before .before .before .pre .1 .1 .1))
 
 layout-of-requires : tie.Need-layout-of-requires Inv-loop μ-loop
 layout-of-requires c κs =
-    let p = c .before .before .before .before .before .before .before .before .pre in
+    let p = c .before .before .before .before .before .before .before .pre in
     (p .0, (omega (arith, c .before .loop .inv .1, c .loop-test .taken, p .1 .0 .marked .long), (p .1 .0, p .1 .1 .0)))
 
-shared-slice-read-t14 : tie.Need-shared-slice-read-t14 Inv-loop μ-loop
-shared-slice-read-t14 c = omega (arith, c .before .before .loop-test .taken, c .before .before .before .loop .inv .1)
+shared-slice-read-t13 : tie.Need-shared-slice-read-t13 Inv-loop μ-loop
+shared-slice-read-t13 c = omega (arith, c .before .before .loop-test .taken, c .before .before .before .loop .inv .1)
 
 mul-verdicts : tie.Need-mul-verdicts Inv-loop μ-loop
-mul-verdicts c = let a = c .before .before .before .before .before .before .before .before .before .before in omega (arith, c .before .before .loop-test .taken, c .before .before .before .loop .inv .1, a .pre .1 .0 .marked .long, decls-few (a .args .s .now) (a .pre .0 .passed))
+mul-verdicts c = let a = c .before .before .before .before .before .before .before .before .before in omega (arith, c .before .before .loop-test .taken, c .before .before .before .loop .inv .1, a .pre .1 .0 .marked .long, decls-few (lines-in (a .args .t .now)) (a .pre .0 .passed))
 
 array-set-from-verdicts : tie.Need-array-set-from-verdicts Inv-loop μ-loop
-array-set-from-verdicts c = let a = c .before .before .before .before .before .before .before .before .before .before in omega (arith, c .before .before .loop-test .taken, c .before .before .before .loop .inv .1, a .pre .1 .0 .marked .long, decls-few (a .args .s .now) (a .pre .0 .passed))
+array-set-from-verdicts c = let a = c .before .before .before .before .before .before .before .before .before in omega (arith, c .before .before .loop-test .taken, c .before .before .before .loop .inv .1, a .pre .1 .0 .marked .long, decls-few (lines-in (a .args .t .now)) (a .pre .0 .passed))
 
 add-d : tie.Need-add-d Inv-loop μ-loop
 add-d c = omega (arith, c .before .before .loop-test .taken)
@@ -41,17 +40,17 @@ loop-less c = omega (arith, c .before .before .loop-test .taken)
 
 loop-again : tie.Need-loop-again Inv-loop μ-loop
 loop-again c =
-    let a = c .before .before .before .before .before .before .before .before .before .before in
+    let a = c .before .before .before .before .before .before .before .before .before in
     let l = c .before .before .before .loop in
-    let ls = lines 6 (a .args .s .now) in
+    let ls = lines-in (a .args .t .now) in
     let h : l .d < decls-of ls = omega (arith, c .before .before .loop-test .taken, l .inv .1, a .pre .1 .0 .marked .long) in
-    (omega (arith, c .before .before .loop-test .taken, l .inv .1), refl, partly-next ls (l .verdicts) (l .d) _ (omega (arith, decls-few (a .args .s .now) (a .pre .0 .passed))) (sym (mark-is ls (l .d) h (a .args .decl .now) (a .pre .1 .0 .marked .marks))) (c .before .layout-of .ensures) (l .inv .2))
+    (omega (arith, c .before .before .loop-test .taken, l .inv .1), refl, partly-next ls (l .verdicts) (l .d) _ (omega (arith, decls-few (lines-in (a .args .t .now)) (a .pre .0 .passed))) (sym (mark-is ls (l .d) h (a .args .decl .now) (a .pre .1 .0 .marked .marks))) (c .before .layout-of .ensures) (l .inv .2))
 
 returns : tie.Need-returns Inv-loop μ-loop
 returns c =
-    let a = c .before .before .before .before .before .before .before .before in
+    let a = c .before .before .before .before .before .before .before in
     let l = c .before .loop in
-    partly-all (lines 6 (a .args .s .now)) (l .verdicts) (l .d) (omega (arith, l .inv .0, l .inv .1, c .loop-test .left, a .pre .1 .0 .marked .long)) (l .inv .2)
+    partly-all (lines-in (a .args .t .now)) (l .verdicts) (l .d) (omega (arith, l .inv .0, l .inv .1, c .loop-test .left, a .pre .1 .0 .marked .long)) (l .inv .2)
 
 pub lay-out-spec : {M : Type 1} → statement M
 lay-out-spec =
@@ -61,7 +60,7 @@ lay-out-spec =
     μ-loop
     loop-holds
     layout-of-requires
-    shared-slice-read-t14
+    shared-slice-read-t13
     mul-verdicts
     array-set-from-verdicts
     add-d

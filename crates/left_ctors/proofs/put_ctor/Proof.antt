@@ -1,43 +1,42 @@
 -- `left_ctors::put_ctor` meets its contract: the kept fields are counted, and then written behind the C line. Assumes nothing.
-use mathlib.Core.Path.{sym, ap}
-use Rattle.sheet.specs.Sheet.{lines}
 use Rattle.bodies.specs.BodiesLaws.{fields-few}
 use Rattle.left_fields.specs.FieldsLaws.{kept-few}
 use Rattle.left_ctors.specs.CtorsLaws.{ctor-line-room, ctor-fields-room, ctor-writes}
 use native.Mathlib.Omega.{arith}
 use borrow.Author.Needs.{needs}
 use Rattle.left_ctors.proofs.put_ctor.Statement.{statement}
+use Rattle.tables.specs.Tables.{lines-in}
 use Rattle.left_ctors.proofs.put_ctor.Tie as tie
 
 count-kept-requires : tie.Need-count-kept-requires
 count-kept-requires c κs =
-    let z = c .before .before .before .before .before .before .before .before .before .before in
+    let z = c .before .before .before .before .before .before .before .before .before in
     omega (arith, c .before .ctor-number .ensures, z .pre .0 .0 .inside, z .pre .0 .0 .long)
 
-cast-t17 : tie.Need-cast-t17
-cast-t17 c =
-    let z = c .before .before .before .before .before .before .before .before .before .before .before .before in
+cast-t16 : tie.Need-cast-t16
+cast-t16 c =
+    let z = c .before .before .before .before .before .before .before .before .before .before .before in
     let a = z .args in
-    omega (arith, c .before .count-kept .ensures, kept-few (a .keep .now) (a .i) (c .before .before .before .ctor-number .result), c .before .before .before .ctor-number .ensures, z .pre .0 .0 .inside, fields-few (a .s .now) (z .pre .0 .0 .tabled .passed))
+    omega (arith, c .before .count-kept .ensures, kept-few (a .keep .now) (a .i) (c .before .before .before .ctor-number .result), c .before .before .before .ctor-number .ensures, z .pre .0 .0 .inside, fields-few (lines-in (a .t .now)) (z .pre .0 .0 .tabled .passed))
 
 put-line-requires : tie.Need-put-line-requires
 put-line-requires c κs =
-    let z = c .before .before .before .before .before .before .before .before .before .before .before .before in
+    let z = c .before .before .before .before .before .before .before .before .before .before .before in
     let a = z .args in
-    ctor-line-room (lines 6 (a .s .now)) (a .keep .now) (a .d) (a .c) (a .i) _ (c .before .before .before .ctor-number .result) _ (a .p) (a .p) (a .out .now) (a .out .now) (z .pre .1 .1) (c .before .before .ctor-number2 .ensures) (c .before .before .before .ctor-number .ensures) (c .before .count-kept .ensures)
+    ctor-line-room (lines-in (a .t .now)) (a .keep .now) (a .d) (a .c) (a .i) _ (c .before .before .before .ctor-number .result) _ (a .p) (a .p) (a .out .now) (a .out .now) (z .pre .1 .1) (c .before .before .ctor-number2 .ensures) (c .before .before .before .ctor-number .ensures) (c .before .count-kept .ensures)
 
 put-fields-requires : tie.Need-put-fields-requires
 put-fields-requires c κs =
-    let z = c .before .before .before .before .before .before .before .before .before .before .before .before .before .before .before .before .before .before in
+    let z = c .before .before .before .before .before .before .before .before .before .before .before .before .before .before .before .before .before in
     let a = z .args in
     let e = c .before .before .before .before .before .before .before .before .before .ctor-number .ensures in
-    (rw e (z .pre .0 .0), (z .pre .1 .0, ctor-fields-room (lines 6 (a .s .now)) (a .keep .now) (a .d) (a .c) (a .i) _ (c .before .before .before .before .before .before .before .before .before .ctor-number .result) _ (a .p) (c .before .before .before .before .before .put-line .result) (a .out .now) _ (z .pre .1 .1) (c .before .before .before .before .before .before .before .before .ctor-number2 .ensures) e (c .before .before .before .before .before .before .before .count-kept .ensures) (c .before .before .before .before .before .put-line .ensures)))
+    (rw e (z .pre .0 .0), (z .pre .1 .0, ctor-fields-room (lines-in (a .t .now)) (a .keep .now) (a .d) (a .c) (a .i) _ (c .before .before .before .before .before .before .before .before .before .ctor-number .result) _ (a .p) (c .before .before .before .before .before .put-line .result) (a .out .now) _ (z .pre .1 .1) (c .before .before .before .before .before .before .before .before .ctor-number2 .ensures) e (c .before .before .before .before .before .before .before .count-kept .ensures) (c .before .before .before .before .before .put-line .ensures)))
 
 returns : tie.Need-returns
 returns c =
-    let z = c .before .before .before .before .before .before .before .before .before .before .before .before .before .before .before .before .before .before .before .before .before .before .before .before .before in
+    let z = c .before .before .before .before .before .before .before .before .before .before .before .before .before .before .before .before .before .before .before .before .before .before .before .before in
     let a = z .args in
-    ctor-writes (lines 6 (a .s .now)) (a .keep .now) (a .d) (a .c) (a .i) _ (c .before .before .before .before .before .before .before .before .before .before .before .before .before .before .before .before .ctor-number .result) _ (a .p) (c .before .before .before .before .before .before .before .before .before .before .before .before .put-line .result) (a .out .now) _ (z .pre .1 .1) (c .before .before .before .before .before .before .before .before .before .before .before .before .before .before .before .ctor-number2 .ensures) (c .before .before .before .before .before .before .before .before .before .before .before .before .before .before .before .before .ctor-number .ensures) (c .before .before .before .before .before .before .before .before .before .before .before .before .before .before .count-kept .ensures) (c .before .before .before .before .before .before .before .before .before .before .before .before .put-line .ensures) _ _ (c .before .before .before .before .before .before .put-fields .ensures)
+    ctor-writes (lines-in (a .t .now)) (a .keep .now) (a .d) (a .c) (a .i) _ (c .before .before .before .before .before .before .before .before .before .before .before .before .before .before .before .before .ctor-number .result) _ (a .p) (c .before .before .before .before .before .before .before .before .before .before .before .before .put-line .result) (a .out .now) _ (z .pre .1 .1) (c .before .before .before .before .before .before .before .before .before .before .before .before .before .before .before .ctor-number2 .ensures) (c .before .before .before .before .before .before .before .before .before .before .before .before .before .before .before .before .ctor-number .ensures) (c .before .before .before .before .before .before .before .before .before .before .before .before .before .before .count-kept .ensures) (c .before .before .before .before .before .before .before .before .before .before .before .before .put-line .ensures) _ _ (c .before .before .before .before .before .before .put-fields .ensures)
 
 pub put-ctor-spec : {M : Type 1} → statement M
 put-ctor-spec =
@@ -47,7 +46,7 @@ put-ctor-spec =
     (λ c. search needs)
     (λ c κs. search needs)
     count-kept-requires
-    cast-t17
+    cast-t16
     put-line-requires
     put-fields-requires
     (λ c. search needs)

@@ -2,7 +2,6 @@
 use mathlib.Core.Path.{_≡_, refl, _∙_, ap}
 use mathlib.Core.Logic.{⊎-elim}
 use Prim.Native.Nat.{ℕ, _+_, _-_, _≤_}
-use lib.ListN.{length}
 use Rattle.left_fields.specs.Fields.{kept-count}
 use Rattle.left_fields.specs.FieldsLaws.{kept-few, count-yes, count-no}
 use native.Mathlib.Omega.{arith}

@@ -1,9 +1,9 @@
 -- `left_flags::has_variable` meets its contract: none of the first k words is the variable. Assumes nothing.
-use mathlib.Core.Path.{_≡_, refl, sym, _∙_}
-use mathlib.Core.Bool.{true, false}
+use mathlib.Core.Path.{_≡_, sym, _∙_}
+use mathlib.Core.Bool.{false}
 use Prim.Native.Nat.{ℕ, _+_, _-_, _≤_, _<_}
 use native.Mathlib.Omega.{arith}
-use lib.ListN.{length, getD}
+use lib.ListN.{getD}
 use Rattle.nodes.specs.Words.{node-of}
 use Rattle.left_flags.specs.Flags.{is-var}
 use Rattle.left_flags.specs.FlagsLaws.{has-true, has-false, none-more}

@@ -1,8 +1,7 @@
 -- `left_flags::is_variable` meets its contract. Assumes nothing.
-use mathlib.Core.Path.{_≡_, refl, sym, _∙_}
-use Prim.Native.Nat.{ℕ}
+use mathlib.Core.Path.{sym, _∙_}
 use borrow.Author.Needs.{needs}
-use borrow.Author.Tests.{eqb-true, ne-eqb, eq-eqb}
+use borrow.Author.Tests.{ne-eqb, eq-eqb}
 use Rattle.left_flags.specs.Flags.{is-var}
 use Rattle.left_flags.proofs.is_variable.Statement.{statement}
 use Rattle.left_flags.proofs.is_variable.Tie as tie

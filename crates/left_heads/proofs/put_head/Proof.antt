@@ -1,35 +1,35 @@
 -- `left_heads::put_head` meets its contract: the D line, and then the P lines. Assumes nothing.
-use Rattle.sheet.specs.Sheet.{lines}
 use Rattle.arguments.specs.ParamsLaws.{params-few}
 use Rattle.left_heads.specs.HeadsLaws.{params-inside, d-room, p-room, head-writes}
 use native.Mathlib.Omega.{arith}
 use borrow.Author.Needs.{needs}
 use Rattle.left_heads.proofs.put_head.Statement.{statement}
+use Rattle.tables.specs.Tables.{lines-in}
 use Rattle.left_heads.proofs.put_head.Tie as tie
 
-cast-t15 : tie.Need-cast-t15
-cast-t15 c =
-    let z = c .before .before .before .before .before .before .before .before in
+cast-t14 : tie.Need-cast-t14
+cast-t14 c =
+    let z = c .before .before .before .before .before .before .before in
     let a = z .args in
-    omega (arith, params-inside (lines 6 (a .s .now)) (a .d) (c .before .before .before .before .params .result) (c .before .before .before .before .params .ensures) (c .before .before .before .first-param .result) (c .before .before .before .first-param .ensures), params-few (a .s .now) (z .pre .0 .0 .passed))
+    omega (arith, params-inside (lines-in (a .t .now)) (a .d) (c .before .before .before .before .params .result) (c .before .before .before .before .params .ensures) (c .before .before .before .first-param .result) (c .before .before .before .first-param .ensures), params-few (lines-in (a .t .now)) (z .pre .0 .0 .passed))
 
 put-line-requires : tie.Need-put-line-requires
 put-line-requires c κs =
-    let z = c .before .before .before .before .before .before .before .before in
+    let z = c .before .before .before .before .before .before .before in
     let a = z .args in
-    d-room (lines 6 (a .s .now)) (a .d) (a .kind) (a .end) _ _ (c .before .before .before .before .params .result) (c .before .before .before .first-param .result) (a .p) (a .p) (a .out .now) (a .out .now) (z .pre .1) (c .before .before .decl-number .ensures) (c .before .decl-number2 .ensures) (c .before .before .before .before .params .ensures) (c .before .before .before .first-param .ensures)
+    d-room (lines-in (a .t .now)) (a .d) (a .kind) (a .end) _ _ (c .before .before .before .before .params .result) (c .before .before .before .first-param .result) (a .p) (a .p) (a .out .now) (a .out .now) (z .pre .1) (c .before .before .decl-number .ensures) (c .before .decl-number2 .ensures) (c .before .before .before .before .params .ensures) (c .before .before .before .first-param .ensures)
 
 put-params-requires : tie.Need-put-params-requires
 put-params-requires c κs =
-    let z = c .before .before .before .before .before .before .before .before .before .before .before .before in
+    let z = c .before .before .before .before .before .before .before .before .before .before .before in
     let a = z .args in
-    ((z .pre .0 .0, params-inside (lines 6 (a .s .now)) (a .d) (c .before .before .before .before .before .before .before .before .params .result) (c .before .before .before .before .before .before .before .before .params .ensures) (c .before .before .before .before .before .before .before .first-param .result) (c .before .before .before .before .before .before .before .first-param .ensures)), p-room (lines 6 (a .s .now)) (a .d) (a .kind) (a .end) _ _ (c .before .before .before .before .before .before .before .before .params .result) (c .before .before .before .before .before .before .before .first-param .result) (a .p) (c .before .before .before .put-line .result) (a .out .now) _ (z .pre .1) (c .before .before .before .before .before .before .decl-number .ensures) (c .before .before .before .before .before .decl-number2 .ensures) (c .before .before .before .before .before .before .before .before .params .ensures) (c .before .before .before .before .before .before .before .first-param .ensures) (c .before .before .before .put-line .ensures))
+    ((z .pre .0 .0, params-inside (lines-in (a .t .now)) (a .d) (c .before .before .before .before .before .before .before .before .params .result) (c .before .before .before .before .before .before .before .before .params .ensures) (c .before .before .before .before .before .before .before .first-param .result) (c .before .before .before .before .before .before .before .first-param .ensures)), p-room (lines-in (a .t .now)) (a .d) (a .kind) (a .end) _ _ (c .before .before .before .before .before .before .before .before .params .result) (c .before .before .before .before .before .before .before .first-param .result) (a .p) (c .before .before .before .put-line .result) (a .out .now) _ (z .pre .1) (c .before .before .before .before .before .before .decl-number .ensures) (c .before .before .before .before .before .decl-number2 .ensures) (c .before .before .before .before .before .before .before .before .params .ensures) (c .before .before .before .before .before .before .before .first-param .ensures) (c .before .before .before .put-line .ensures))
 
 returns : tie.Need-returns
 returns c =
-    let z = c .before .before .before .before .before .before .before .before .before .before .before .before .before .before .before in
+    let z = c .before .before .before .before .before .before .before .before .before .before .before .before .before .before in
     let a = z .args in
-    head-writes (lines 6 (a .s .now)) (a .d) (a .kind) (a .end) _ _ (c .before .before .before .before .before .before .before .before .before .before .before .params .result) (c .before .before .before .before .before .before .before .before .before .before .first-param .result) (a .p) (c .before .before .before .before .before .before .put-line .result) (a .out .now) _ (z .pre .1) (c .before .before .before .before .before .before .before .before .before .decl-number .ensures) (c .before .before .before .before .before .before .before .before .decl-number2 .ensures) (c .before .before .before .before .before .before .before .before .before .before .before .params .ensures) (c .before .before .before .before .before .before .before .before .before .before .first-param .ensures) (c .before .before .before .before .before .before .put-line .ensures) _ _ (c .before .before .put-params .ensures)
+    head-writes (lines-in (a .t .now)) (a .d) (a .kind) (a .end) _ _ (c .before .before .before .before .before .before .before .before .before .before .before .params .result) (c .before .before .before .before .before .before .before .before .before .before .first-param .result) (a .p) (c .before .before .before .before .before .before .put-line .result) (a .out .now) _ (z .pre .1) (c .before .before .before .before .before .before .before .before .before .decl-number .ensures) (c .before .before .before .before .before .before .before .before .decl-number2 .ensures) (c .before .before .before .before .before .before .before .before .before .before .before .params .ensures) (c .before .before .before .before .before .before .before .before .before .before .first-param .ensures) (c .before .before .before .before .before .before .put-line .ensures) _ _ (c .before .before .put-params .ensures)
 
 pub put-head-spec : {M : Type 1} → statement M
 put-head-spec =
@@ -39,7 +39,7 @@ put-head-spec =
     (λ c κs. search needs)
     (λ c κs. search needs)
     (λ c κs. search needs)
-    cast-t15
+    cast-t14
     put-line-requires
     put-params-requires
     (λ c. search needs)

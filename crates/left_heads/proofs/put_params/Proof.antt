@@ -1,9 +1,8 @@
 -- `left_heads::put_params` meets its contract: after j turns the first j P lines are written. Assumes nothing.
 use mathlib.Core.Path.{_≡_, refl}
 use mathlib.Core.List.{map}
-use Prim.Native.Nat.{ℕ, _+_, _-_, _≤_}
+use Prim.Native.Nat.{_+_, _-_, _≤_}
 use lib.ListN.{length}
-use Rattle.sheet.specs.Sheet.{lines}
 use Rattle.arguments.specs.Params.{params-from}
 use Rattle.arguments.specs.ParamsLaws.{params-few}
 use Rattle.places.specs.Places.{Writes}
@@ -12,44 +11,45 @@ use Rattle.left_heads.specs.HeadsLaws.{param-small, params-start, params
 use native.Mathlib.Omega.{arith}
 use borrow.Author.Needs.{needs}
 use Rattle.left_heads.proofs.put_params.Statement.{statement}
+use Rattle.tables.specs.Tables.{lines-in}
 use Rattle.left_heads.proofs.put_params.Tie as tie
 
 abbrev Inv-loop : tie.InvT-loop
-Inv-loop s t out₀ i n q₀ j₀ out q j = (j ≤ n) × (length out ≡ length out₀) × Writes (fixed (map param-row (params-from (lines 6 s) i j))) q₀ q out₀ out
+Inv-loop t out₀ i n q₀ j₀ out q j = (j ≤ n) × (length out ≡ length out₀) × Writes (fixed (map param-row (params-from (lines-in t) i j))) q₀ q out₀ out
 
 abbrev μ-loop : tie.MeasureT-loop
-μ-loop s t out₀ i n q₀ j₀ out q j = n - j
+μ-loop t out₀ i n q₀ j₀ out q j = n - j
 
 loop-holds : tie.Need-loop-holds Inv-loop μ-loop
 loop-holds c =
-    let a = c .before .before .before .args in
-    (omega arith, refl, params-start (lines 6 (a .s .now)) (a .i) (a .p) (a .out .now))
+    let a = c .before .before .args in
+    (omega arith, refl, params-start (lines-in (a .t .now)) (a .i) (a .p) (a .out .now))
 
-cast-t14 : tie.Need-cast-t14 Inv-loop μ-loop
-cast-t14 c =
-    let z = c .before .before .before .before .before .before .before in
+cast-t13 : tie.Need-cast-t13 Inv-loop μ-loop
+cast-t13 c =
+    let z = c .before .before .before .before .before .before in
     let a = z .args in
     let l = c .before .before .before .loop in
-    omega (arith, c .before .param .ensures, param-small (a .s .now) (z .pre .0 .0 .passed) (a .i + l .j) (omega (arith, z .pre .0 .1)))
+    omega (arith, c .before .param .ensures, param-small (lines-in (a .t .now)) (z .pre .0 .0 .passed) (a .i + l .j) (omega (arith, z .pre .0 .1)))
 
 put-line-requires : tie.Need-put-line-requires Inv-loop μ-loop
 put-line-requires c κs =
-    let z = c .before .before .before .before .before .before .before in
+    let z = c .before .before .before .before .before .before in
     let a = z .args in
     let l = c .before .before .before .loop in
-    params-room (lines 6 (a .s .now)) (a .i) (a .p) (l .q) (a .out .now) (l .out) (l .j) (a .n) _ (omega arith) (c .before .param .ensures) (z .pre .1) (l .inv .2)
+    params-room (lines-in (a .t .now)) (a .i) (a .p) (l .q) (a .out .now) (l .out) (l .j) (a .n) _ (omega arith) (c .before .param .ensures) (z .pre .1) (l .inv .2)
 
 loop-again : tie.Need-loop-again Inv-loop μ-loop
 loop-again c =
-    let a = c .before .before .before .before .before .before .before .before .before .before .args in
+    let a = c .before .before .before .before .before .before .before .before .before .args in
     let l = c .before .before .before .before .before .before .loop in
     let w = c .before .before .put-line in
-    (omega arith, search needs, params-writes (lines 6 (a .s .now)) (a .i) (a .p) (l .q) (a .out .now) (l .out) (l .j) _ (w .result) _ (c .before .before .before .before .param .ensures) (l .inv .2) (w .ensures))
+    (omega arith, search needs, params-writes (lines-in (a .t .now)) (a .i) (a .p) (l .q) (a .out .now) (l .out) (l .j) _ (w .result) _ (c .before .before .before .before .param .ensures) (l .inv .2) (w .ensures))
 
 returns : tie.Need-returns Inv-loop μ-loop
 returns c =
     let l = c .before .loop in
-    let a = c .before .before .before .before .before .args in
+    let a = c .before .before .before .before .args in
     let e : a .n ≡ l .j = omega arith in
     rw e (l .inv .2)
 
@@ -60,9 +60,9 @@ put-params-spec =
     Inv-loop
     μ-loop
     loop-holds
-    (λ c. let z = c .before .before .before .before .before in omega (arith, z .pre .0 .1, params-few (z .args .s .now) (z .pre .0 .0 .passed)))
-    (λ c κs. let z = c .before .before .before .before .before in (z .pre .0 .0, omega (arith, z .pre .0 .1)))
-    cast-t14
+    (λ c. let z = c .before .before .before .before in omega (arith, z .pre .0 .1, params-few (lines-in (z .args .t .now)) (z .pre .0 .0 .passed)))
+    (λ c κs. let z = c .before .before .before .before in (z .pre .0 .0, omega (arith, z .pre .0 .1)))
+    cast-t13
     put-line-requires
     (λ c. search needs)
     (λ c. search needs)

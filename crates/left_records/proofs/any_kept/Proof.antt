@@ -1,7 +1,6 @@
 -- `left_records::any_kept` meets its contract: no field before F line f is kept. Assumes nothing.
 use mathlib.Core.Path.{_≡_, refl, sym, _∙_}
-use Prim.Native.Nat.{_-_, _≤_}
-use native.Mathlib.Omega.{arith}
+use Prim.Native.Nat.{_-_}
 use Rattle.left_records.specs.Records.{some-kept}
 use Rattle.left_records.specs.RecordsLaws.{kept-step, kept-hit, kept-end}
 use borrow.Author.Needs.{needs}

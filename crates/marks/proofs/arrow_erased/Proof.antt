@@ -1,5 +1,5 @@
 -- `marks::arrow_erased` meets its contract, by the line's numbers. Assumes nothing.
-use mathlib.Core.Path.{_≡_, _∙_}
+use mathlib.Core.Path.{_∙_}
 use borrow.Author.Needs.{needs}
 use Rattle.marks.proofs.arrow_erased.Statement.{statement}
 use Rattle.marks.proofs.arrow_erased.Tie as tie

@@ -1,36 +1,35 @@
 -- `marks::first_kept` meets its contract: the members passed are marked. Assumes nothing.
-use mathlib.Core.Path.{_≡_, sym, _∙_}
 use Prim.Native.Nat.{_-_, _≤_}
 use native.Mathlib.Omega.{arith}
 use borrow.Author.Needs.{needs}
-use Rattle.sheet.specs.Sheet.{lines}
 use Rattle.marks.specs.Marks.{Before}
 use Rattle.marks.specs.MarksLaws.{args-few, before-next}
 use Rattle.marks.proofs.first_kept.Statement.{statement}
+use Rattle.tables.specs.Tables.{lines-in}
 use Rattle.marks.proofs.first_kept.Tie as tie
 
 abbrev Inv-loop : tie.InvT-loop
-Inv-loop s t node first count from j₀ j = (j ≤ count) × (Before (lines 6 s) node first from → Before (lines 6 s) node first j)
+Inv-loop t node first count from j₀ j = (j ≤ count) × (Before (lines-in t) node first from → Before (lines-in t) node first j)
 
 abbrev μ-loop : tie.MeasureT-loop
-μ-loop s t node first count from j₀ j = count - j
+μ-loop t node first count from j₀ j = count - j
 
 loop-holds : tie.Need-loop-holds Inv-loop μ-loop
-loop-holds c = (c .before .before .before .pre .1 .1, λ f. f)
+loop-holds c = (c .before .before .pre .1 .1, λ f. f)
 
 add-arg : tie.Need-add-arg Inv-loop μ-loop
 add-arg c =
-    let a = c .before .before .before .before .before in
-    omega (arith, a .pre .1 .0 (c .before .loop .j) (c .loop-test .taken) .0, args-few (a .args .s .now) (a .pre .0 .passed))
+    let a = c .before .before .before .before in
+    omega (arith, a .pre .1 .0 (c .before .loop .j) (c .loop-test .taken) .0, args-few (lines-in (a .args .t .now)) (a .pre .0 .passed))
 
 arg-requires : tie.Need-arg-requires Inv-loop μ-loop
 arg-requires c κs =
-    let a = c .before .before .before .before .before in
+    let a = c .before .before .before .before in
     (a .pre .0, a .pre .1 .0 (c .before .loop .j) (c .loop-test .taken) .0)
 
 shared-slice-read-if1 : tie.Need-shared-slice-read-if1 Inv-loop μ-loop
 shared-slice-read-if1 c =
-    let a = c .before .before .before .before .before .before .before in
+    let a = c .before .before .before .before .before .before in
     let l = c .before .before .before .loop in
     rw (c .before .arg .ensures) (a .pre .1 .0 (l .j) (c .before .before .loop-test .taken) .1)
 
@@ -41,9 +40,9 @@ returns c =
 
 loop-again : tie.Need-loop-again Inv-loop μ-loop
 loop-again c =
-    let a = c .before .before .before .before .before .before .before .before in
+    let a = c .before .before .before .before .before .before .before in
     let l = c .before .before .before .before .loop in
-    (omega arith, λ f. before-next (lines 6 (a .args .s .now)) (a .args .node .now) (a .args .first) (l .j) (l .inv .1 f) (rw (← (c .before .before .arg .ensures)) (c .if1 .left)))
+    (omega arith, λ f. before-next (lines-in (a .args .t .now)) (a .args .node .now) (a .args .first) (l .j) (l .inv .1 f) (rw (← (c .before .before .arg .ensures)) (c .if1 .left)))
 
 returns-2 : tie.Need-returns-2 Inv-loop μ-loop
 returns-2 c = let l = c .before .loop in record { within = l .inv .0; passed = l .inv .1; stops = λ h. absurd (omega arith) }

@@ -5,39 +5,39 @@ use native.Mathlib.Omega.{arith}
 use native.Mathlib.Numerals.{add-one}
 use lib.ListN.{length, length-set}
 use borrow.Author.Needs.{needs}
-use Rattle.sheet.specs.Sheet.{lines}
 use Rattle.marks.specs.Marks.{marks-of, Marks}
 use Rattle.marks.specs.MarksLaws.{marks-next}
 use Rattle.marks.proofs.mark_types.Statement.{statement}
+use Rattle.tables.specs.Tables.{lines-in}
 use Rattle.marks.proofs.mark_types.Tie as tie
 
 abbrev Inv-loop : tie.InvT-loop
-Inv-loop s t decl node₀ member₀ right end y₀ node member y = Marks (lines 6 s) (marks-of decl) node member y × (length node ≡ length node₀) × (length member ≡ length member₀)
+Inv-loop t decl node₀ member₀ right end y₀ node member y = Marks (lines-in t) (marks-of decl) node member y × (length node ≡ length node₀) × (length member ≡ length member₀)
 
 abbrev μ-loop : tie.MeasureT-loop
-μ-loop s t decl node₀ member₀ right end y₀ node member y = end - y
+μ-loop t decl node₀ member₀ right end y₀ node member y = end - y
 
 loop-holds : tie.Need-loop-holds Inv-loop μ-loop
-loop-holds c = (c .before .before .before .before .before .pre .1 .1, refl, refl)
+loop-holds c = (c .before .before .before .before .pre .1 .1, refl, refl)
 
 cty-erased-requires : tie.Need-cty-erased-requires Inv-loop μ-loop
 cty-erased-requires c κs =
-    let a = c .before .before .before .before .before .before .before .before .before in
+    let a = c .before .before .before .before .before .before .before .before in
     let l = c .before .before .before .loop in
     (a .pre .0, ((omega (arith, a .pre .1 .0 .0), a .pre .1 .0 .1), l .inv .0))
 
 slice-write-node : tie.Need-slice-write-node Inv-loop μ-loop
 slice-write-node c =
-    let a = c .before .before .before .before .before .before .before .before .before .before .before .before .before in
+    let a = c .before .before .before .before .before .before .before .before .before .before .before .before in
     let l = c .before .before .before .before .before .before .before .loop in
     omega (arith, l .inv .0 .node-size, a .pre .1 .0 .0)
 
 loop-again : tie.Need-loop-again Inv-loop μ-loop
 loop-again c =
-    let a = c .before .before .before .before .before .before .before .before .before .before .before .before .before in
+    let a = c .before .before .before .before .before .before .before .before .before .before .before .before in
     let l = c .before .before .before .before .before .before .before .loop in
     let e = c .before .before .before .cty-erased in
-    let n = marks-next (lines 6 (a .args .s .now)) (marks-of (a .args .decl .now)) (l .node) (e .last .1 .1 .1 .1 .0) (l .y) (e .result) (omega (arith, a .pre .1 .0 .0)) (e .ensures) in
+    let n = marks-next (lines-in (a .args .t .now)) (marks-of (a .args .decl .now)) (l .node) (e .last .1 .1 .1 .0) (l .y) (e .result) (omega (arith, a .pre .1 .0 .0)) (e .ensures) in
     (rw (add-one, c .bit .ensures) n, length-set (l .node) (l .y) (c .bit .result) ∙ l .inv .1, e .ensures .marks .member-size ∙ sym (l .inv .0 .member-size) ∙ l .inv .2)
 
 same-length : tie.Need-same-length Inv-loop μ-loop

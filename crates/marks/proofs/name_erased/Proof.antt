@@ -1,6 +1,5 @@
 -- `marks::name_erased` meets its contract, by the name's declaration. Assumes nothing.
-use mathlib.Core.Path.{_≡_, sym, _∙_}
-use native.Mathlib.Omega.{arith}
+use mathlib.Core.Path.{sym}
 use borrow.Author.Needs.{needs}
 use Rattle.model.specs.Erasure.{marked}
 use Rattle.marks.specs.MarksLaws.{marks-at, marks-past}
@@ -10,14 +9,14 @@ use Rattle.marks.proofs.name_erased.Tie as tie
 returns : tie.Need-returns
 unfolding marked
 returns c =
-    let a = c .before .before .before .before .before .before in
+    let a = c .before .before .before .before .before in
     let d = c .before .before .decl-of in
     rw (← (d .ensures)) (sym (marks-at (a .args .decl .now) (d .result)))
 
 returns-2 : tie.Need-returns-2
 unfolding marked
 returns-2 c =
-    let a = c .before .before .before .before .before in
+    let a = c .before .before .before .before in
     let d = c .before .decl-of in
     rw (← (d .ensures)) (sym (marks-past (a .args .decl .now) (d .result) (c .if1 .left)))
 

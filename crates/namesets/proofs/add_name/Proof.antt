@@ -7,8 +7,8 @@ use Rattle.namesets.proofs.add_name.Tie as tie
 
 returns : tie.Need-returns
 returns c =
-    let a = c .before .before .before .before .before .before .before .before .before .before .args in
-    let p = c .before .before .before .before .before .before .before .before .before .before .pre in
+    let a = c .before .before .before .before .before .before .before .before .before .args in
+    let p = c .before .before .before .before .before .before .before .before .before .pre in
     let declared = rw (c .before .before .before .before .before .decls .ensures) at (c .before .before .before .before .if1 .taken) in
     adds-declared
     _
@@ -24,7 +24,7 @@ returns c =
 
 returns-2 : tie.Need-returns-2
 returns-2 c =
-    let a = c .before .before .before .before .before .before .args in
+    let a = c .before .before .before .before .before .args in
     adds-foreign _ (a .n) (a .words) (a .y) _ (a .sets .now) (c .before .before .decl-of .ensures) (rw (c .before .decls .ensures) at (c .if1 .left))
 
 pub add-name-spec : {M : Type 1} → statement M

@@ -5,22 +5,22 @@ use native.Mathlib.Numerals.{add-one}
 use native.Mathlib.Omega.{arith}
 use lib.ListN.{length}
 use borrow.Author.Needs.{needs}
-use Rattle.sheet.specs.Sheet.{lines}
 use Rattle.namesets.specs.Mentions.{word-of}
 use Rattle.namesets.specs.AddsLaws.{args-few}
 use Rattle.namesets.proofs.list_word.Statement.{statement}
+use Rattle.tables.specs.Tables.{lines-in}
 use Rattle.namesets.proofs.list_word.Tie as tie
 
 abbrev Inv-loop : tie.InvT-loop
-Inv-loop s t sets words w first k x₀ j₀ x j = (j ≤ k) × (x ≡ word-of (lines 6 s) words sets first w j)
+Inv-loop t sets words w first k x₀ j₀ x j = (j ≤ k) × (x ≡ word-of (lines-in t) words sets first w j)
 
 abbrev μ-loop : tie.MeasureT-loop
-μ-loop s t sets words w first k x₀ j₀ x j = k - j
+μ-loop t sets words w first k x₀ j₀ x j = k - j
 
 -- the word stands in the sets
-inside : (c : tie.After-arg Inv-loop μ-loop) → c .arg .result * c .before .before .before .before .before .before .args .words + c .before .before .before .before .before .before .args .w < length (c .before .before .before .before .before .before .args .sets .now)
+inside : (c : tie.After-arg Inv-loop μ-loop) → c .arg .result * c .before .before .before .before .before .args .words + c .before .before .before .before .before .args .w < length (c .before .before .before .before .before .args .sets .now)
 inside c =
-    let p = c .before .before .before .before .before .before .pre in
+    let p = c .before .before .before .before .before .pre in
     let j = c .before .before .loop .j in
     rw (c .arg .ensures) (omega (arith, p .1 .0 j (c .before .loop-test .taken) .1, p .1 .1))
 
@@ -30,22 +30,22 @@ loop-holds c = (search needs, refl)
 
 add-arg : tie.Need-add-arg Inv-loop μ-loop
 add-arg c =
-    let p = c .before .before .before .before .before .pre in
+    let p = c .before .before .before .before .pre in
     omega (arith, p .1 .0 (c .before .loop .j) (c .loop-test .taken) .0, args-few _ (p .0 .passed))
 
 arg-requires : tie.Need-arg-requires Inv-loop μ-loop
 arg-requires c κs =
-    let p = c .before .before .before .before .before .pre in
+    let p = c .before .before .before .before .pre in
     (p .0, p .1 .0 (c .before .loop .j) (c .loop-test .taken) .0)
 
 mul-x : tie.Need-mul-x Inv-loop μ-loop
-mul-x c = omega (arith, inside c, c .before .before .before .before .before .before .good)
+mul-x c = omega (arith, inside c, c .before .before .before .before .before .good)
 
 add-x : tie.Need-add-x Inv-loop μ-loop
-add-x c = omega (arith, inside c, c .before .before .before .before .before .before .good)
+add-x c = omega (arith, inside c, c .before .before .before .before .before .good)
 
 mul-x-2 : tie.Need-mul-x-2 Inv-loop μ-loop
-mul-x-2 c = omega (arith, inside c, c .before .before .before .before .before .before .good)
+mul-x-2 c = omega (arith, inside c, c .before .before .before .before .before .good)
 
 shared-slice-read-x : tie.Need-shared-slice-read-x Inv-loop μ-loop
 shared-slice-read-x c = inside (c .before)
@@ -63,7 +63,7 @@ loop-again c = (omega (arith, c .before .before .loop-test .taken), rw (add-one,
 returns : tie.Need-returns Inv-loop μ-loop
 returns c =
     let l = c .before .loop in
-    let e : l .j ≡ c .before .before .before .before .before .args .k = omega (arith, c .loop-test .left, l .inv .0) in
+    let e : l .j ≡ c .before .before .before .before .args .k = omega (arith, c .loop-test .left, l .inv .0) in
     rw e at (l .inv .1)
 
 pub list-word-spec : {M : Type 1} → statement M

@@ -6,31 +6,32 @@ use borrow.Author.Tests.{ne-eqb}
 use Rattle.newtypes.specs.Newtypes.{ctor-told}
 use Rattle.newtypes.specs.NewtypesLaws.{head-name-low, ctor-name-low, ctor-within}
 use Rattle.newtypes.proofs.ctor_of.Statement.{statement}
+use Rattle.tables.specs.Tables.{lines-in}
 use Rattle.newtypes.proofs.ctor_of.Tie as tie
 
 returns : tie.Need-returns
 unfolding ctor-told
 returns c =
-    let a = c .before .before .before .before .before in
+    let a = c .before .before .before .before in
     let e = c .before .before .decl-number .ensures in
     let r = c .decl-number2 .ensures in
-    (rw (← e, c .before .if1 .taken) r, omega (arith, r, head-name-low (a .args .s .now) (a .pre .0 .passed) (a .args .d) (a .pre .1 .0)))
+    (rw (← e, c .before .if1 .taken) r, omega (arith, r, head-name-low (lines-in (a .args .t .now)) (a .pre .0 .passed) (a .args .d) (a .pre .1 .0)))
 
 ctor-number-requires : tie.Need-ctor-number-requires
 ctor-number-requires c κs =
-    let a = c .before .before .before .before .before in
+    let a = c .before .before .before .before in
     let e = c .before .before .decl-number .ensures in
-    (a .pre .0, (omega (arith, c .first-ctor .ensures, ctor-within (a .args .s .now) (a .pre .0 .passed) (a .args .d) (a .pre .1 .0) (a .pre .1 .1) (λ z. c .before .if1 .left (e ∙ z))), omega arith))
+    (a .pre .0, (omega (arith, c .first-ctor .ensures, ctor-within (lines-in (a .args .t .now)) (a .pre .0 .passed) (a .args .d) (a .pre .1 .0) (a .pre .1 .1) (λ z. c .before .if1 .left (e ∙ z))), omega arith))
 
 returns-2 : tie.Need-returns-2
 unfolding ctor-told
 returns-2 c =
-    let a = c .before .before .before .before .before .before in
+    let a = c .before .before .before .before .before in
     let e = c .before .before .before .decl-number .ensures in
     let f = c .before .first-ctor .ensures in
     let r = c .ctor-number .ensures in
-    let w = ctor-within (a .args .s .now) (a .pre .0 .passed) (a .args .d) (a .pre .1 .0) (a .pre .1 .1) (λ z. c .before .before .if1 .left (e ∙ z)) in
-    (rw (← e, ne-eqb _ _ (c .before .before .if1 .left), ← f) r, rw (r, f) (ctor-name-low (a .args .s .now) (a .pre .0 .passed) (a .args .d) (a .pre .1 .0) _ w))
+    let w = ctor-within (lines-in (a .args .t .now)) (a .pre .0 .passed) (a .args .d) (a .pre .1 .0) (a .pre .1 .1) (λ z. c .before .before .if1 .left (e ∙ z)) in
+    (rw (← e, ne-eqb _ _ (c .before .before .if1 .left), ← f) r, rw (r, f) (ctor-name-low (lines-in (a .args .t .now)) (a .pre .0 .passed) (a .args .d) (a .pre .1 .0) _ w))
 
 pub ctor-of-spec : {M : Type 1} → statement M
 ctor-of-spec =

@@ -1,18 +1,15 @@
 -- `node_words::variable_word` meets its contract: a place below the number of parameters is a parameter's. Assumes nothing.
-use mathlib.Core.Path.{_≡_, ap, ap₂, sym, _∙_}
+use mathlib.Core.Path.{ap, _∙_}
 use Prim.Native.Nat.{ℕ, _+_, _-_}
 use native.Mathlib.Omega.{arith}
-use lib.ListN.{length}
-use Rattle.sheet.specs.Sheet.{lines}
-use Rattle.model.specs.Decl.{member}
 use Rattle.meaning.specs.Program.{param-line}
 use Rattle.limits.specs.Limits.{start}
-use Rattle.tables.specs.Tables.{first-of}
+use Rattle.tables.specs.Tables.{first-of, lines-in}
 use Rattle.arguments.specs.Params.{params-of}
 use Rattle.arguments.specs.ParamsLaws.{count-before-le, params-few}
 use Rattle.calls.specs.CallsLaws.{params-length}
 use Rattle.normal.specs.Nodes.{node}
-use Rattle.normal.specs.Forms.{place, variable}
+use Rattle.normal.specs.Forms.{place}
 use Rattle.nodes.specs.Words.{word}
 use Rattle.node_words.specs.Own.{label}
 use Rattle.node_words.specs.OwnLaws.{unbound-word, bound-word}
@@ -22,28 +19,28 @@ use Rattle.node_words.proofs.variable_word.Tie as tie
 
 returns : tie.Need-returns
 returns c =
-    let a = c .before .before .before .before .before .before .args in
-    let ps = params-of (lines 6 (a .s .now)) (a .d) in
+    let a = c .before .before .before .before .before .args in
+    let ps = params-of (lines-in (a .t .now)) (a .d) in
     c .pack .ensures ∙ ap word (unbound-word ps (a .v) (label (a .places) ps (a .v)) (omega (arith, c .before .if1 .taken, c .before .before .before .place-of .ensures, c .before .before .params .ensures)))
 
 cast-pack : tie.Need-cast-pack
 cast-pack c =
-    let a = c .before .before .before .before .before .before .args in
-    let ls = lines 6 (a .s .now) in
+    let a = c .before .before .before .before .before .args in
+    let ls = lines-in (a .t .now) in
     omega (
       arith,
       c .before .if1 .left,
       c .before .before .params .ensures,
       params-length ls (first-of param-line ls (a .d)) (first-of param-line ls (a .d + 1) - first-of param-line ls (a .d)),
       count-before-le param-line ls (start ls (a .d + 1)),
-      params-few (a .s .now) (c .before .before .before .before .before .before .pre .0 .passed),
+      params-few (lines-in (a .t .now)) (c .before .before .before .before .before .pre .0 .passed),
     )
 
 returns-2 : tie.Need-returns-2
 unfolding label
 returns-2 c =
-    let a = c .before .before .before .before .before .before .before .args in
-    let ps = params-of (lines 6 (a .s .now)) (a .d) in
+    let a = c .before .before .before .before .before .before .args in
+    let ps = params-of (lines-in (a .t .now)) (a .d) in
     c .pack2 .ensures
     ∙ (ap (λ (i : ℕ). word (node 3 0 i)) (c .before .before .before .before .place-of .ensures)
     ∙ (ap word (bound-word ps (a .v) (place ps (a .v)) (omega (arith, c .before .before .if1 .left, c .before .before .before .before .place-of .ensures, c .before .before .before .params .ensures))) ∙ rw (c .before .if2 .taken)))
@@ -51,8 +48,8 @@ returns-2 c =
 returns-3 : tie.Need-returns-3
 unfolding label
 returns-3 c =
-    let a = c .before .before .before .before .before .before .before .args in
-    let ps = params-of (lines 6 (a .s .now)) (a .d) in
+    let a = c .before .before .before .before .before .before .args in
+    let ps = params-of (lines-in (a .t .now)) (a .d) in
     c .pack3 .ensures
     ∙ (ap word (bound-word ps (a .v) (a .v) (omega (arith, c .before .before .if1 .left, c .before .before .before .before .place-of .ensures, c .before .before .before .params .ensures))) ∙ rw (c .before .if2 .left))
 

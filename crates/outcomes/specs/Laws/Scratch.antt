@@ -6,10 +6,10 @@ use Prim.Native.Nat.{ℕ, zero, suc, _+_, _-_, _*_, _/_, _≤_, _<_}
 use native.Mathlib.Omega.{arith}
 use native.Mathlib.Numerals.{add-one}
 use lib.Dec.{leb}
-use lib.ListN.{length, getD, set, take, drop, length-append, length-take, length-drop, length-set}
-use lib.Seq.{take-suc, drop-append-le, take-take, take-set-le, take-suc-set, drop-drop, getD-drop, getD-take}
+use lib.ListN.{length, getD, set, take, drop, length-take, length-drop, length-set}
+use lib.Seq.{take-suc, drop-append-le, take-take, take-set-le, take-suc-set, drop-drop, getD-take}
 use borrow.Author.Tests.{leb-true, leb-false, le-leb}
-use Rattle.model.specs.Resolve.{Result, ok, fault}
+use Rattle.model.specs.Resolve.{ok, fault}
 use Rattle.outcomes.specs.Outcome.{coded, nodes, total, built}
 use Rattle.outcomes.specs.Answer.{ten, answer}
 use Rattle.outcomes.specs.Scratch.{part, Same, capped, Says}
@@ -85,10 +85,6 @@ unfolding part
 part-last i n xs h =
     let e : i + suc n ≡ suc (i + n) = omega arith in
     rw (e, take-suc xs (i + n) 0 h) (drop-append-le i (take (i + n) xs) (getD xs (i + n) 0 ∷ []) (omega (arith, length-take (i + n) xs)))
-
-pub part-get : (i n j : ℕ) (xs : List ℕ) → j < n → getD (part i n xs) j 0 ≡ getD xs (i + j) 0
-unfolding part
-part-get i n j xs h = getD-drop i (take (i + n) xs) j 0 ∙ getD-take (i + n) xs (i + j) 0 (omega arith)
 
 -- what stands below place i is kept
 pub part-same : (i n k : ℕ) (xs ys : List ℕ) → i + n ≤ k → Same k xs ys → part i n xs ≡ part i n ys

@@ -2,19 +2,20 @@
 use mathlib.Core.Path.{_∙_}
 use Rattle.passes.specs.PassesLaws.{returned-of}
 use Rattle.passes.proofs.judged.Statement.{statement}
+use Rattle.tables.specs.Tables.{first-of}
 use Rattle.passes.proofs.judged.Tie as tie
 
 verdicts-requires : tie.Need-verdicts-requires
-verdicts-requires c κs = let p = c .before .before .before .before .before .before .before .before .before .before .before .before .before .before .before .before .before .before .before .pre in (p .0 .0, (p .0 .1, (p .1 .0, p .1 .1 .screened)))
+verdicts-requires c κs = let p = c .before .before .before .before .before .before .before .before .before .before .before .before .before .before .before .before .before .before .pre in (p .0 .0, (p .0 .1, (p .1 .0, p .1 .1 .screened)))
 
 states-requires : tie.Need-states-requires
-states-requires c κs = let p = c .before .before .before .before .before .before .before .before .before .before .before .before .before .before .before .before .before .before .before .before .before .before .before .before .before .before .before .before .before .before .before .before .before .pre in (p .0 .0, (c .before .before .before .before .before .before .before .before .before .before .before .before .before .verdicts .ensures, p .1 .1 .cells))
+states-requires c κs = let p = c .before .before .before .before .before .before .before .before .before .before .before .before .before .before .before .before .before .before .before .before .before .before .before .before .before .before .before .before .before .before .before .before .pre in (p .0 .0, (c .before .before .before .before .before .before .before .before .before .before .before .before .before .verdicts .ensures, p .1 .1 .cells))
 
 returning-requires : tie.Need-returning-requires
 returning-requires c κs =
-    let p = c .before .before .before .before .before .before .before .before .before .before .before .before .before .before .before .before .before .before .before .before .before .before .before .before .before .before .before .before .before .before .before .before .before .before .before .before .before .before .before .before .pre in
+    let p = c .before .before .before .before .before .before .before .before .before .before .before .before .before .before .before .before .before .before .before .before .before .before .before .before .before .before .before .before .before .before .before .before .before .before .before .before .before .before .before .pre in
     let v = c .before .before .before .before .before .before .before .before .before .before .before .before .before .before .before .before .before .before .before .before .verdicts in
-    (p .0 .0, (c .before .before .before .before .before .before .states .ensures, (p .1 .0, returned-of _ _ _ _ _ _ _ (p .1 .1 .returned) (v .kept .1 .1 .1 .1 .1 .1 .1 .0) (v .kept .1 .1 .1 .1 .1 .1 .1 .1 .0))))
+    (p .0 .0, (c .before .before .before .before .before .before .states .ensures, (p .1 .0, returned-of _ _ _ _ _ _ _ (p .1 .1 .returned) (v .kept .1 .1 .1 .1 .1 .1 .0) (v .kept .1 .1 .1 .1 .1 .1 .1 .0))))
 
 returns : tie.Need-returns
 returns c = record { settled = c .before .before .before .before .before .before .before .before .before .before .before .before .before .states .ensures; first-of = c .before .before .before .before .before .before .returning .ensures }
@@ -26,12 +27,12 @@ judged-spec =
     verdicts-requires
     states-requires
     returning-requires
-    (λ c. c .before .before .before .before .before .before .before .before .before .before .before .before .before .states .kept .1 .1 .1 .0)
-    (λ c. c .before .before .before .before .before .before .returning .kept .1 .1 .1 .1 .1 .1 .1 .0)
-    (λ c. c .before .before .before .before .before .before .before .before .before .before .before .before .before .before .before .before .before .before .before .before .before .before .before .before .before .before .before .verdicts .kept .1 .1 .1 .1 .1 .1 .0)
+    (λ c. c .before .before .before .before .before .before .before .before .before .before .before .before .before .states .kept .1 .1 .0)
+    (λ c. c .before .before .before .before .before .before .returning .kept .1 .1 .1 .1 .1 .1 .0)
+    (λ c. c .before .before .before .before .before .before .before .before .before .before .before .before .before .before .before .before .before .before .before .before .before .before .before .before .before .before .before .verdicts .kept .1 .1 .1 .1 .1 .0)
+    (λ c. c .before .before .before .before .before .before .returning .kept .1 .1 .1 .1 .0 ∙ c .before .before .before .before .before .before .before .before .before .before .before .before .before .before .before .before .before .before .before .before .before .before .before .before .before .before .before .verdicts .kept .1 .1 .1 .1 .1 .1 .0)
     (λ c. c .before .before .before .before .before .before .returning .kept .1 .1 .1 .1 .1 .0 ∙ c .before .before .before .before .before .before .before .before .before .before .before .before .before .before .before .before .before .before .before .before .before .before .before .before .before .before .before .verdicts .kept .1 .1 .1 .1 .1 .1 .1 .0)
-    (λ c. c .before .before .before .before .before .before .returning .kept .1 .1 .1 .1 .1 .1 .0 ∙ c .before .before .before .before .before .before .before .before .before .before .before .before .before .before .before .before .before .before .before .before .before .before .before .before .before .before .before .verdicts .kept .1 .1 .1 .1 .1 .1 .1 .1 .0)
+    (λ c. c .before .before .before .before .before .before .before .before .before .before .before .before .before .before .before .before .before .before .before .before .before .before .before .before .before .before .before .verdicts .kept .1 .1 .1 .1 .1 .1 .1 .1 .0)
     (λ c. c .before .before .before .before .before .before .before .before .before .before .before .before .before .before .before .before .before .before .before .before .before .before .before .before .before .before .before .verdicts .kept .1 .1 .1 .1 .1 .1 .1 .1 .1 .0)
     (λ c. c .before .before .before .before .before .before .before .before .before .before .before .before .before .before .before .before .before .before .before .before .before .before .before .before .before .before .before .verdicts .kept .1 .1 .1 .1 .1 .1 .1 .1 .1 .1 .0)
-    (λ c. c .before .before .before .before .before .before .before .before .before .before .before .before .before .before .before .before .before .before .before .before .before .before .before .before .before .before .before .verdicts .kept .1 .1 .1 .1 .1 .1 .1 .1 .1 .1 .1 .0)
     returns)

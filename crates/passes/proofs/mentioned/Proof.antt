@@ -5,31 +5,32 @@ use borrow.Author.Needs.{needs}
 use Rattle.erasure.specs.FixpointLaws.{decls-few}
 use Rattle.passes.specs.PassesLaws.{room-of}
 use Rattle.passes.proofs.mentioned.Statement.{statement}
+use Rattle.tables.specs.Tables.{lines-in}
 use Rattle.passes.proofs.mentioned.Tie as tie
 
 mentions-requires : tie.Need-mentions-requires
-mentions-requires c κs = let p = c .before .before .before .before .before .before .before .before .pre in (p .0 .0, (p .1 .wide, p .1 .long))
+mentions-requires c κs = let p = c .before .before .before .before .before .before .before .pre in (p .0 .0, (p .1 .wide, p .1 .long))
 
 part-fields-end : tie.Need-part-fields-end
 part-fields-end c =
-    let a = c .before .before .before .before .before .before .before .before .before .before .before .before .before .before .before in
+    let a = c .before .before .before .before .before .before .before .before .before .before .before .before .before .before in
     let n = c .before .before .before .decls in
-    let h : n .result ≤ 96 = omega (arith, n .ensures, decls-few (a .args .s .now) (a .pre .0 .0 .passed)) in
+    let h : n .result ≤ 96 = omega (arith, n .ensures, decls-few (lines-in (a .args .t .now)) (a .pre .0 .0 .passed)) in
     search needs
 
 part-bodies-end : tie.Need-part-bodies-end
 part-bodies-end c =
-    let a = c .before .before .before .before .before .before .before .before .before .before .before .before .before .before .before .before in
+    let a = c .before .before .before .before .before .before .before .before .before .before .before .before .before .before .before in
     let n = c .before .before .before .before .decls in
-    let h : n .result ≤ 96 = omega (arith, n .ensures, decls-few (a .args .s .now) (a .pre .0 .0 .passed)) in
+    let h : n .result ≤ 96 = omega (arith, n .ensures, decls-few (lines-in (a .args .t .now)) (a .pre .0 .0 .passed)) in
     search needs
 
 judged-requires : tie.Need-judged-requires
 judged-requires c κs =
-    let a = c .before .before .before .before .before .before .before .before .before .before .before .before .before .before .before .before .before .before .before .before .before in
+    let a = c .before .before .before .before .before .before .before .before .before .before .before .before .before .before .before .before .before .before .before .before in
     let n = c .before .before .before .before .before .before .before .before .before .decls in
     let l = a .pre .1 in
-    (a .pre .0, (c .before .before .before .before .before .before .before .before .before .before .before .before .mentions .ensures, room-of (a .args .s .now) (a .pre .0 .0 .passed) (n .result) (a .args .words) (a .args .u .now) (a .args .rank .now) (n .ensures) (l .few) (l .cells) (l .ranks)))
+    (a .pre .0, (c .before .before .before .before .before .before .before .before .before .before .before .before .mentions .ensures, room-of (lines-in (a .args .t .now)) (a .pre .0 .0 .passed) (n .result) (a .args .words) (a .args .u .now) (a .args .rank .now) (n .ensures) (l .few) (l .cells) (l .ranks)))
 
 returns : tie.Need-returns
 returns c = c .before .before .before .before .before .before .before .before .before .before .judged .ensures
@@ -39,7 +40,7 @@ mentioned-spec =
     tie.close
     (tie.spec
     mentions-requires
-    (λ c κs. c .before .before .before .before .before .before .before .before .before .before .before .pre .0 .0)
+    (λ c κs. c .before .before .before .before .before .before .before .before .before .before .pre .0 .0)
     (λ c. search needs)
     (λ c. search needs)
     part-fields-end
@@ -51,7 +52,7 @@ mentioned-spec =
     (λ c. search needs)
     (λ c. search needs)
     judged-requires
-    (λ c. c .before .before .before .before .before .before .before .before .before .before .before .before .before .before .before .before .before .before .before .before .before .before .before .mentions .kept .1 .1 .0)
+    (λ c. c .before .before .before .before .before .before .before .before .before .before .before .before .before .before .before .before .before .before .before .before .before .before .before .mentions .kept .1 .0)
+    (λ c. c .before .before .before .before .before .before .before .before .before .before .judged .kept .1 .1 .1 .1 .1 .0)
     (λ c. c .before .before .before .before .before .before .before .before .before .before .judged .kept .1 .1 .1 .1 .1 .1 .0)
-    (λ c. c .before .before .before .before .before .before .before .before .before .before .judged .kept .1 .1 .1 .1 .1 .1 .1 .0)
     returns)

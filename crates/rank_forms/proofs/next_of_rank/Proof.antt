@@ -3,7 +3,6 @@ use mathlib.Core.Path.{_≡_}
 use Prim.Native.Nat.{ℕ, _-_, _≤_, _<_}
 use native.Mathlib.Omega.{arith}
 use lib.ListN.{getD}
-use borrow.Author.Needs.{needs}
 use Rattle.rank_forms.specs.Next.{passed-more}
 use Rattle.rank_forms.proofs.next_of_rank.Statement.{statement}
 use Rattle.rank_forms.proofs.next_of_rank.Tie as tie

@@ -1,11 +1,11 @@
 -- `resolver::resolved` meets its contract: measured first, then evaluated with 97 units of fuel. Assumes nothing.
-use mathlib.Core.Path.{sym}
 use native.Mathlib.Omega.{arith}
 use Rattle.outcomes.specs.Laws.Nodes.{nodes-none}
 use Rattle.outcomes.specs.Laws.Scratch.{part-none}
 use Rattle.resolving.specs.ResolverLaws.{type-ten, type-node}
 use borrow.Author.Needs.{needs}
 use Rattle.resolver.proofs.resolved.Statement.{statement}
+use Rattle.tables.specs.Tables.{lines-in}
 use Rattle.resolver.proofs.resolved.Tie as tie
 use Rattle.resolver.proofs.resolved.Reads as reads
 use Rattle.resolver.proofs.resolved.Lts as lts
@@ -20,13 +20,13 @@ same-length c = search needs
 
 returns : tie.Need-returns
 returns c =
-    let a = c .before .before .before .before .before .before .before .before .args in
-    type-ten (a .s .now) (a .t .now) (a .u .now) (a .y) (a .d) (c .before .before .before .before .before .before .before .before .pre .0) (a .out .now) _ (c .before .weigh .ensures) 97 (a .slots .now) (c .before .before .before .before .before .before .before .before .pre .1) (c .if1 .taken)
+    let a = c .before .before .before .before .before .before .before .args in
+    type-ten (lines-in (a .t .now)) (a .t .now) (a .u .now) (a .y) (a .d) (c .before .before .before .before .before .before .before .pre .0) (a .out .now) _ (c .before .weigh .ensures) 97 (a .slots .now) (c .before .before .before .before .before .before .before .pre .1) (c .if1 .taken)
 
 node-requires : tie.Need-node-requires
 node-requires c κs =
-    let a = c .before .before .before .before .before .before .before .before .before .before .args in
-    (c .before .before .before .before .before .before .before .before .before .before .pre .0, ((record { inside = omega arith; room = omega arith; nodes = rw (part-none 0 (a .out .now)) nodes-none }, omega arith, λ e. omega arith), c .before .before .before .before .before .before .before .before .before .before .pre .1))
+    let a = c .before .before .before .before .before .before .before .before .before .args in
+    (c .before .before .before .before .before .before .before .before .before .pre .0, ((record { inside = omega arith; room = omega arith; nodes = rw (part-none 0 (a .out .now)) nodes-none }, omega arith, λ e. omega arith), c .before .before .before .before .before .before .before .before .before .pre .1))
 
 same-length-2 : tie.Need-same-length-2
 same-length-2 c = search needs
@@ -36,8 +36,8 @@ same-length-3 c = search needs
 
 returns-2 : tie.Need-returns-2
 returns-2 c =
-    let a = c .before .before .before .before .before .before .before .before .before .before .before .before .before .before .before .args in
-    type-node (a .s .now) (a .t .now) (a .u .now) (a .y) (a .d) (c .before .before .before .before .before .before .before .before .before .before .before .before .before .before .before .pre .0) (a .out .now) _ (c .before .before .before .before .before .before .before .before .weigh .ensures) 96 _ _ _ (c .before .before .before .before .before .before .before .if1 .left) (c .before .before .before .before .node .ensures)
+    let a = c .before .before .before .before .before .before .before .before .before .before .before .before .before .before .args in
+    type-node (lines-in (a .t .now)) (a .t .now) (a .u .now) (a .y) (a .d) (c .before .before .before .before .before .before .before .before .before .before .before .before .before .before .pre .0) (a .out .now) _ (c .before .before .before .before .before .before .before .before .weigh .ensures) 96 _ _ _ (c .before .before .before .before .before .before .before .if1 .left) (c .before .before .before .before .node .ensures)
 
 pub resolved-spec : {M : Type 1} → statement M
 resolved-spec =

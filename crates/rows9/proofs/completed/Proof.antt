@@ -4,10 +4,10 @@ use Rattle.rows9.proofs.completed.Statement.{statement}
 use Rattle.rows9.proofs.completed.Tie as tie
 
 returns : tie.Need-returns
-returns c = rw (c .enum-told .given .1) at (c .before .before .before .before .before .before .pre .1)
+returns c = rw (c .enum-told .given .1) at (c .before .before .before .before .before .pre .1)
 
 returns-2 : tie.Need-returns-2
-returns-2 c = rw (c .before .r .given .1) at (c .before .before .before .before .before .before .before .pre .1)
+returns-2 c = rw (c .before .r .given .1) at (c .before .before .before .before .before .before .pre .1)
 
 pub completed-spec : {M : Type 1} → statement M
 completed-spec =

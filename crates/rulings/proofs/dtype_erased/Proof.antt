@@ -1,34 +1,34 @@
 -- `rulings::dtype_erased` meets its contract, by the way of its declaration. Assumes nothing.
 use mathlib.Core.Bool.{true, false}
 use borrow.Author.Needs.{needs}
-use Rattle.sheet.specs.Sheet.{lines}
 use Rattle.marks.specs.Marks.{marks-of}
 use Rattle.bodies.specs.BodiesLaws.{way-rest, settled-now}
 use Rattle.rulings.proofs.dtype_erased.Statement.{statement}
+use Rattle.tables.specs.Tables.{lines-in}
 use Rattle.rulings.proofs.dtype_erased.Tie as tie
 
 abbrev-erased-requires : tie.Need-abbrev-erased-requires
 abbrev-erased-requires c κs =
-    let a = c .before .before .before .before .before .before .before .before .before .before .before .before .before in
+    let a = c .before .before .before .before .before .before .before .before .before .before .before .before in
     let w = c .before .before .before .before .before .way .ensures in
     let k = c .before .before .before .before .match .keys3 in
     (a .pre .0, ((a .pre .1 .0 .0, w .type k, w .typed k), a .pre .1 .1))
 
 fields-erased-requires : tie.Need-fields-erased-requires
 fields-erased-requires c κs =
-    let a = c .before .before .before .before .before .before .before .before .before .before .before .before .before in
+    let a = c .before .before .before .before .before .before .before .before .before .before .before .before in
     let r = c .before .before .before .before .match .rest in
-    (a .pre .0, ((a .pre .1 .0 .0, way-rest (lines 6 (a .args .s .now)) (a .args .d) _ (c .before .before .before .before .before .way .ensures) (r .0 .0 .1) (r .0 .1) (r .1)), a .pre .1 .1))
+    (a .pre .0, ((a .pre .1 .0 .0, way-rest (lines-in (a .args .t .now)) (a .args .d) _ (c .before .before .before .before .before .way .ensures) (r .0 .0 .1) (r .0 .1) (r .1)), a .pre .1 .1))
 
 returns : tie.Need-returns
 returns c =
-    let a = c .before .before .before .before .before .before .before .before .before in
-    settled-now (lines 6 (a .args .s .now)) (a .args .decl .now) (a .args .node .now) (a .args .member .now) (a .args .field .now) (a .args .wait .now) (a .args .node .now) (a .args .member .now) (a .args .right) (a .args .d) (a .pre .1 .1) (a .pre .1 .0 .0) true (c .before .way .ensures .erased (c .match .keys1) (marks-of (a .args .decl .now)))
+    let a = c .before .before .before .before .before .before .before .before in
+    settled-now (lines-in (a .args .t .now)) (a .args .decl .now) (a .args .node .now) (a .args .member .now) (a .args .field .now) (a .args .wait .now) (a .args .node .now) (a .args .member .now) (a .args .right) (a .args .d) (a .pre .1 .1) (a .pre .1 .0 .0) true (c .before .way .ensures .erased (c .match .keys1) (marks-of (a .args .decl .now)))
 
 returns-2 : tie.Need-returns-2
 returns-2 c =
-    let a = c .before .before .before .before .before .before .before .before .before in
-    settled-now (lines 6 (a .args .s .now)) (a .args .decl .now) (a .args .node .now) (a .args .member .now) (a .args .field .now) (a .args .wait .now) (a .args .node .now) (a .args .member .now) (a .args .right) (a .args .d) (a .pre .1 .1) (a .pre .1 .0 .0) false (c .before .way .ensures .kept (c .match .keys2) (marks-of (a .args .decl .now)))
+    let a = c .before .before .before .before .before .before .before .before in
+    settled-now (lines-in (a .args .t .now)) (a .args .decl .now) (a .args .node .now) (a .args .member .now) (a .args .field .now) (a .args .wait .now) (a .args .node .now) (a .args .member .now) (a .args .right) (a .args .d) (a .pre .1 .1) (a .pre .1 .0 .0) false (c .before .way .ensures .kept (c .match .keys2) (marks-of (a .args .decl .now)))
 
 pub dtype-erased-spec : {M : Type 1} → statement M
 dtype-erased-spec =

@@ -1,18 +1,11 @@
 -- `settling::settle` meets its contract, round after round. Assumes nothing.
-use mathlib.Core.Path.{_≡_, refl, ap, sym, _∙_}
-use mathlib.Core.List.{List}
-use mathlib.Core.Bool.{Bool}
+use mathlib.Core.Path.{_≡_, ap, sym, _∙_}
 use Prim.Native.Nat.{suc, _+_, _-_, _≤_}
 use native.Mathlib.Omega.{arith}
-use lib.ListN.{length, length-map}
-use lib.Dec.{eqb}
-use borrow.Author.Needs.{needs}
-use Rattle.sheet.specs.Sheet.{lines}
 use Rattle.model.specs.Erasure.{rule, settle, round}
 use Rattle.meaning.specs.Program.{program}
 use Rattle.model_laws.specs.Lists.{trues}
-use Rattle.model_laws.specs.Rounds.{trues-le}
-use Rattle.tables.specs.Tables.{decls-of}
+use Rattle.tables.specs.Tables.{decls-of, lines-in}
 use Rattle.marks.specs.Marks.{marks-of}
 use Rattle.rounds.specs.Rounds.{Running, ends-in}
 use Rattle.rounds.specs.RoundsLaws.{decls-few, settle-last, settle-more, marks-few}
@@ -20,49 +13,49 @@ use Rattle.settling.proofs.settle.Statement.{statement}
 use Rattle.settling.proofs.settle.Tie as tie
 
 abbrev Inv-loop : tie.InvT-loop
-Inv-loop s t used decl₀ node₀ member₀ field₀ wait₀ n₀ right₀ decl node member field wait n right =
-    Running (lines 6 s) used decl node member field wait right
+Inv-loop t used decl₀ node₀ member₀ field₀ wait₀ n₀ right₀ decl node member field wait n right =
+    Running (lines-in t) used decl node member field wait right
     × (n ≤ trues (marks-of decl))
-    × (ends-in (lines 6 s) decl₀ .marks ≡ settle (rule (program (lines 6 s))) (suc (decls-of (lines 6 s)) - n) (marks-of decl) .marks)
-    × (ends-in (lines 6 s) decl₀ .rounds ≡ n + settle (rule (program (lines 6 s))) (suc (decls-of (lines 6 s)) - n) (marks-of decl) .rounds)
-    × Running (lines 6 s) used decl₀ node₀ member₀ field₀ wait₀ 0
+    × (ends-in (lines-in t) decl₀ .marks ≡ settle (rule (program (lines-in t))) (suc (decls-of (lines-in t)) - n) (marks-of decl) .marks)
+    × (ends-in (lines-in t) decl₀ .rounds ≡ n + settle (rule (program (lines-in t))) (suc (decls-of (lines-in t)) - n) (marks-of decl) .rounds)
+    × Running (lines-in t) used decl₀ node₀ member₀ field₀ wait₀ 0
 
 abbrev μ-loop : tie.MeasureT-loop
-μ-loop s t used decl₀ node₀ member₀ field₀ wait₀ n₀ right₀ decl node member field wait n right = decls-of (lines 6 s) - trues (marks-of decl)
+μ-loop t used decl₀ node₀ member₀ field₀ wait₀ n₀ right₀ decl node member field wait n right = decls-of (lines-in t) - trues (marks-of decl)
 
 loop-holds : tie.Need-loop-holds Inv-loop μ-loop
 loop-holds c =
-    let a = c .before .before .before .before .before .before .before .before in
-    let n = decls-of (lines 6 (a .args .s .now)) in
+    let a = c .before .before .before .before .before .before .before in
+    let n = decls-of (lines-in (a .args .t .now)) in
     let e : suc n - 0 ≡ suc n = omega arith in
     (a .pre .1, omega arith, rw e, rw e (omega arith), a .pre .1)
 
 add-n : tie.Need-add-n Inv-loop μ-loop
 add-n c =
-    let a = c .before .before .before .before .before .before .before .before .before in
+    let a = c .before .before .before .before .before .before .before .before in
     let l = c .loop in
-    omega (arith, l .inv .1, marks-few (lines 6 (a .args .s .now)) (l .decl) (l .inv .0 .state .decl-size), decls-few (a .args .s .now) (a .pre .0 .passed))
+    omega (arith, l .inv .1, marks-few (lines-in (a .args .t .now)) (l .decl) (l .inv .0 .state .decl-size), decls-few (lines-in (a .args .t .now)) (a .pre .0 .passed))
 
 sweep-requires : tie.Need-sweep-requires Inv-loop μ-loop
-sweep-requires c κs = let a = c .before .before .before .before .before .before .before .before .before .before .before .before .before .before in (a .pre .0, c .before .before .before .before .before .loop .inv .0)
+sweep-requires c κs = let a = c .before .before .before .before .before .before .before .before .before .before .before .before .before in (a .pre .0, c .before .before .before .before .before .loop .inv .0)
 
 loop-less : tie.Need-loop-less Inv-loop μ-loop
 loop-less c =
-    let a = c .before .before .before .before .before .before .before .before .before .before .before .before .before .before .before .before .before .before .before .before .before .before .before .before .before .before .before in
+    let a = c .before .before .before .before .before .before .before .before .before .before .before .before .before .before .before .before .before .before .before .before .before .before .before .before .before .before in
     let l = c .before .before .before .before .before .before .before .before .before .before .before .before .before .before .before .before .before .before .loop in
     let w = c .before .before .before .before .before .before .before .before .before .before .before .before .sweep in
-    let m = w .last .1 .1 .1 .0 in
+    let m = w .last .1 .1 .0 in
     let z = c .if1 .left in
-    omega (arith, w .ensures .counted, marks-few (lines 6 (a .args .s .now)) m (w .ensures .running .state .decl-size))
+    omega (arith, w .ensures .counted, marks-few (lines-in (a .args .t .now)) m (w .ensures .running .state .decl-size))
 
 loop-again : tie.Need-loop-again Inv-loop μ-loop
 loop-again c =
-    let a = c .before .before .before .before .before .before .before .before .before .before .before .before .before .before .before .before .before .before .before .before .before .before .before .before .before .before .before in
-    let ls = lines 6 (a .args .s .now) in
+    let a = c .before .before .before .before .before .before .before .before .before .before .before .before .before .before .before .before .before .before .before .before .before .before .before .before .before .before in
+    let ls = lines-in (a .args .t .now) in
     let r = rule (program ls) in
     let l = c .before .before .before .before .before .before .before .before .before .before .before .before .before .before .before .before .before .before .loop in
     let w = c .before .before .before .before .before .before .before .before .before .before .before .before .sweep in
-    let m = marks-of (w .last .1 .1 .1 .0) in
+    let m = marks-of (w .last .1 .1 .0) in
     let z = c .if1 .left in
     let f : suc (decls-of ls) - (l .n + 1) ≡ suc (decls-of ls) - l .n - 1 = omega arith in
     let t : trues (round r (marks-of (l .decl))) ≡ trues m = ap trues (sym (w .ensures .marks)) in
@@ -70,11 +63,11 @@ loop-again c =
     (w .ensures .running, omega (arith, l .inv .1, w .ensures .counted), l .inv .2 ∙ k .0 ∙ rw (f, ← (w .ensures .marks)), l .inv .3 ∙ rw (k .1, f, ← (w .ensures .marks)) (omega arith), l .inv .4)
 
 types-requires : tie.Need-types-requires Inv-loop μ-loop
-types-requires c κs = let a = c .before .before .before .before .before .before .before .before .before .before .before .before .before .before .before .before .before .before .before .before .before .before .before .before .before .before .before .before .before .before in a .pre .0
+types-requires c κs = let a = c .before .before .before .before .before .before .before .before .before .before .before .before .before .before .before .before .before .before .before .before .before .before .before .before .before .before .before .before .before in a .pre .0
 
 mark-types-requires : tie.Need-mark-types-requires Inv-loop μ-loop
 mark-types-requires c κs =
-    let a = c .before .before .before .before .before .before .before .before .before .before .before .before .before .before .before .before .before .before .before .before .before .before .before .before .before .before .before .before .before .before .before in
+    let a = c .before .before .before .before .before .before .before .before .before .before .before .before .before .before .before .before .before .before .before .before .before .before .before .before .before .before .before .before .before .before in
     let w = c .before .before .before .before .before .before .before .before .before .before .before .before .before .before .before .before .sweep in
     (a .pre .0, ((omega (arith, c .types .ensures), w .ensures .running .state .decl-size), w .ensures .running .state .marks))
 
@@ -95,8 +88,8 @@ same-length-5 c = c .before .before .before .before .before .before .before .bef
 
 returns : tie.Need-returns Inv-loop μ-loop
 returns c =
-    let a = c .before .before .before .before .before .before .before .before .before .before .before .before .before .before .before .before .before .before .before .before .before .before .before .before .before .before .before .before .before .before .before .before .before .before .before .before in
-    let ls = lines 6 (a .args .s .now) in
+    let a = c .before .before .before .before .before .before .before .before .before .before .before .before .before .before .before .before .before .before .before .before .before .before .before .before .before .before .before .before .before .before .before .before .before .before .before in
+    let ls = lines-in (a .args .t .now) in
     let r = rule (program ls) in
     let l = c .before .before .before .before .before .before .before .before .before .before .before .before .before .before .before .before .before .before .before .before .before .before .before .before .before .before .before .loop in
     let w = c .before .before .before .before .before .before .before .before .before .before .before .before .before .before .before .before .before .before .before .before .before .sweep in

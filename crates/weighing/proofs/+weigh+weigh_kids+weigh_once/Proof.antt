@@ -4,7 +4,6 @@ use mathlib.Core.Path.{_≡_, sym, _∙_, ap}
 use Prim.Native.Nat.{_+_, _-_, _*_, _≤_, ℕ, _<_}
 use native.Mathlib.Omega.{arith}
 use borrow.Author.Needs.{needs}
-use Rattle.sheet.specs.Sheet.{lines}
 use Rattle.outcomes.specs.Scratch.{part, capped}
 use Rattle.outcomes.specs.Laws.Scratch.{capped-most}
 use Rattle.kids.specs.Nodes.{kids-of, kid-of, type-of}
@@ -14,6 +13,9 @@ use Rattle.weighing.specs.Weigh.{weight-of, weights-of}
 use Rattle.weighing.specs.WeighLaws.{weigh-var, weigh-node, kids-none, kids-more, kids-over, once-more, once-last}
 use borrow.Fn.Kinds.{In}
 use borrow.Fn.PlainCycle.{Measures, is, falls, and}
+use Rattle.weighing.proofs.+weigh+weigh_kids+weigh_once.{statement}
+use Rattle.weighing.proofs.+weigh+weigh_kids+weigh_once.Tie.{close}
+use Rattle.tables.specs.Tables.{lines-in}
 use Rattle.weighing.proofs.weigh.Reads as weigh
 use Rattle.weighing.proofs.weigh.Kinds as weigh-kinds
 use Rattle.weighing.proofs.+weigh+weigh_kids+weigh_once.Lts-weigh as weigh-lts
@@ -28,39 +30,37 @@ use Rattle.kids.proofs.kid.Reads as kid-reads
 use Rattle.kids.proofs.kids.Reads as kids-reads
 use Rattle.sums.proofs.more.Reads as more-reads
 use Rattle.tables.proofs.type_number.Reads as type-number-reads
-use Rattle.weighing.proofs.+weigh+weigh_kids+weigh_once.{statement}
-use Rattle.weighing.proofs.+weigh+weigh_kids+weigh_once.Tie.{close}
 
-abbrev μ-weigh : Measures 3 weigh-kinds.ps ℕ
-μ-weigh κs a = 3 * a .1 .1 .0 + 1
+abbrev μ-weigh : Measures 2 weigh-kinds.ps ℕ
+μ-weigh κs a = 3 * a .1 .0 + 1
 
-abbrev μ-weigh-kids : Measures 3 weigh-kids-kinds.ps ℕ
-μ-weigh-kids κs a = 3 * a .1 .1 .0
+abbrev μ-weigh-kids : Measures 2 weigh-kids-kinds.ps ℕ
+μ-weigh-kids κs a = 3 * a .1 .0
 
-abbrev μ-weigh-once : Measures 3 weigh-once-kinds.ps ℕ
-μ-weigh-once κs a = 3 * a .1 .1 .0 + 2
+abbrev μ-weigh-once : Measures 2 weigh-once-kinds.ps ℕ
+μ-weigh-once κs a = 3 * a .1 .0 + 2
 
-abbrev weigh-at : ℕ → In 3 weigh-kinds.ps
-weigh-at t = and 3 weigh-kinds.ps (is 3 weigh-kinds.ps μ-weigh t) weigh.Pre
+abbrev weigh-at : ℕ → In 2 weigh-kinds.ps
+weigh-at t = and 2 weigh-kinds.ps (is 2 weigh-kinds.ps μ-weigh t) weigh.Pre
 
-abbrev weigh-below : ℕ → In 3 weigh-kinds.ps
-weigh-below t = and 3 weigh-kinds.ps (falls 3 weigh-kinds.ps _<_ μ-weigh t) weigh.Pre
+abbrev weigh-below : ℕ → In 2 weigh-kinds.ps
+weigh-below t = and 2 weigh-kinds.ps (falls 2 weigh-kinds.ps _<_ μ-weigh t) weigh.Pre
 
-abbrev weigh-kids-at : ℕ → In 3 weigh-kids-kinds.ps
+abbrev weigh-kids-at : ℕ → In 2 weigh-kids-kinds.ps
 weigh-kids-at t =
-    and 3 weigh-kids-kinds.ps (is 3 weigh-kids-kinds.ps μ-weigh-kids t) weigh-kids.Pre
+    and 2 weigh-kids-kinds.ps (is 2 weigh-kids-kinds.ps μ-weigh-kids t) weigh-kids.Pre
 
-abbrev weigh-kids-below : ℕ → In 3 weigh-kids-kinds.ps
+abbrev weigh-kids-below : ℕ → In 2 weigh-kids-kinds.ps
 weigh-kids-below t =
-    and 3 weigh-kids-kinds.ps (falls 3 weigh-kids-kinds.ps _<_ μ-weigh-kids t) weigh-kids.Pre
+    and 2 weigh-kids-kinds.ps (falls 2 weigh-kids-kinds.ps _<_ μ-weigh-kids t) weigh-kids.Pre
 
-abbrev weigh-once-at : ℕ → In 3 weigh-once-kinds.ps
+abbrev weigh-once-at : ℕ → In 2 weigh-once-kinds.ps
 weigh-once-at t =
-    and 3 weigh-once-kinds.ps (is 3 weigh-once-kinds.ps μ-weigh-once t) weigh-once.Pre
+    and 2 weigh-once-kinds.ps (is 2 weigh-once-kinds.ps μ-weigh-once t) weigh-once.Pre
 
-abbrev weigh-once-below : ℕ → In 3 weigh-once-kinds.ps
+abbrev weigh-once-below : ℕ → In 2 weigh-once-kinds.ps
 weigh-once-below t =
-    and 3 weigh-once-kinds.ps (falls 3 weigh-once-kinds.ps _<_ μ-weigh-once t) weigh-once.Pre
+    and 2 weigh-once-kinds.ps (falls 2 weigh-once-kinds.ps _<_ μ-weigh-once t) weigh-once.Pre
 
 weigh-type-number-requires : (t : ℕ) → weigh-lts.Need-type-number-requires (
   type-number-reads.Asked,
@@ -72,7 +72,7 @@ weigh-type-number-requires : (t : ℕ) → weigh-lts.Need-type-number-requires (
   weigh-kids-below t,
   weigh-kids.Post,
 ) (weigh-at t) weigh.Post
-weigh-type-number-requires t c κs = let p = c .before .before .before .pre .1 in (p .0 .0, (p .0 .1, omega arith))
+weigh-type-number-requires t c κs = let p = c .before .before .pre .1 in (p .0 .0, (p .0 .1, omega arith))
 
 weigh-type-number-requires-2 : (t : ℕ) → weigh-lts.Need-type-number-requires-2 (
   type-number-reads.Asked,
@@ -84,7 +84,7 @@ weigh-type-number-requires-2 : (t : ℕ) → weigh-lts.Need-type-number-requires
   weigh-kids-below t,
   weigh-kids.Post,
 ) (weigh-at t) weigh.Post
-weigh-type-number-requires-2 t c κs = let p = c .before .before .before .before .before .pre .1 in (p .0 .0, (p .0 .1, omega arith))
+weigh-type-number-requires-2 t c κs = let p = c .before .before .before .before .pre .1 in (p .0 .0, (p .0 .1, omega arith))
 
 weigh-cast-v : (t : ℕ) → weigh-lts.Need-cast-v (
   type-number-reads.Asked,
@@ -108,7 +108,7 @@ weigh-argument-requires : (t : ℕ) → weigh-lts.Need-argument-requires (
   weigh-kids-below t,
   weigh-kids.Post,
 ) (weigh-at t) weigh.Post
-weigh-argument-requires t c κs = let p = c .before .before .before .before .before .before .pre .1 in (p .0 .0, p .1 .0, p .1 .1)
+weigh-argument-requires t c κs = let p = c .before .before .before .before .before .pre .1 in (p .0 .0, p .1 .0, p .1 .1)
 
 weigh-more-requires : (t : ℕ) → weigh-lts.Need-more-requires (
   type-number-reads.Asked,
@@ -120,7 +120,7 @@ weigh-more-requires : (t : ℕ) → weigh-lts.Need-more-requires (
   weigh-kids-below t,
   weigh-kids.Post,
 ) (weigh-at t) weigh.Post
-weigh-more-requires t c κs = (omega (arith, c .before .before .before .before .before .before .before .pre .1 .1 .2), omega (arith, c .argument .ensures .1))
+weigh-more-requires t c κs = (omega (arith, c .before .before .before .before .before .before .pre .1 .1 .2), omega (arith, c .argument .ensures .1))
 
 weigh-returns : (t : ℕ) → weigh-lts.Need-returns (
   type-number-reads.Asked,
@@ -133,9 +133,9 @@ weigh-returns : (t : ℕ) → weigh-lts.Need-returns (
   weigh-kids.Post,
 ) (weigh-at t) weigh.Post
 weigh-returns t c =
-    let a = c .before .before .before .before .before .before .before .before .args in
-    let p = c .before .before .before .before .before .before .before .before .pre .1 in
-    weigh-var (a .s .now) (p .0 .0 .passed) (params-of (lines 6 (a .s .now)) (a .d)) (part (a .at) (a .count) (a .out .now)) (a .y) (p .0 .1) (a .from) _ _ _ (sym (c .before .before .before .before .type-number .ensures) ∙ c .before .before .before .if1 .taken) (c .before .before .type-number2 .ensures) (c .before .argument .ensures .0) (c .more .ensures)
+    let a = c .before .before .before .before .before .before .before .args in
+    let p = c .before .before .before .before .before .before .before .pre .1 in
+    weigh-var (lines-in (a .t .now)) (p .0 .0 .passed) (params-of (lines-in (a .t .now)) (a .d)) (part (a .at) (a .count) (a .out .now)) (a .y) (p .0 .1) (a .from) _ _ _ (sym (c .before .before .before .before .type-number .ensures) ∙ c .before .before .before .if1 .taken) (c .before .before .type-number2 .ensures) (c .before .argument .ensures .0) (c .more .ensures)
 
 weigh-more-requires-2 : (t : ℕ) → weigh-lts.Need-more-requires-2 (
   type-number-reads.Asked,
@@ -147,7 +147,7 @@ weigh-more-requires-2 : (t : ℕ) → weigh-lts.Need-more-requires-2 (
   weigh-kids-below t,
   weigh-kids.Post,
 ) (weigh-at t) weigh.Post
-weigh-more-requires-2 t c κs = (omega (arith, c .before .before .before .before .before .pre .1 .1 .2), omega arith)
+weigh-more-requires-2 t c κs = (omega (arith, c .before .before .before .before .pre .1 .1 .2), omega arith)
 
 weigh-weigh-kids-requires : (t : ℕ) → weigh-lts.Need-weigh-kids-requires (
   type-number-reads.Asked,
@@ -160,8 +160,8 @@ weigh-weigh-kids-requires : (t : ℕ) → weigh-lts.Need-weigh-kids-requires (
   weigh-kids.Post,
 ) (weigh-at t) weigh.Post
 weigh-weigh-kids-requires t c κs =
-    let p = c .before .before .before .before .before .before .pre .1 in
-    (omega (arith, c .before .before .before .before .before .before .pre .0), ((p .0 .0, p .0 .1), (p .1 .0, p .1 .1, omega (arith, c .more2 .ensures, capped-most 1024 (c .before .before .before .before .before .before .args .from + 1)))))
+    let p = c .before .before .before .before .before .pre .1 in
+    (omega (arith, c .before .before .before .before .before .pre .0), ((p .0 .0, p .0 .1), (p .1 .0, p .1 .1, omega (arith, c .more2 .ensures, capped-most 1024 (c .before .before .before .before .before .args .from + 1)))))
 
 weigh-returns-2 : (t : ℕ) → weigh-lts.Need-returns-2 (
   type-number-reads.Asked,
@@ -174,15 +174,15 @@ weigh-returns-2 : (t : ℕ) → weigh-lts.Need-returns-2 (
   weigh-kids.Post,
 ) (weigh-at t) weigh.Post
 weigh-returns-2 t c =
-    let a = c .before .before .before .before .before .before .before .args in
-    let p = c .before .before .before .before .before .before .before .pre .1 in
-    weigh-node (a .s .now) (p .0 .0 .passed) (params-of (lines 6 (a .s .now)) (a .d)) (part (a .at) (a .count) (a .out .now)) (a .y) (p .0 .1) (a .from) _ _ (λ e. c .before .before .if1 .left (c .before .before .before .type-number .ensures ∙ e)) (c .before .more2 .ensures) (c .weigh-kids .ensures)
+    let a = c .before .before .before .before .before .before .args in
+    let p = c .before .before .before .before .before .before .pre .1 in
+    weigh-node (lines-in (a .t .now)) (p .0 .0 .passed) (params-of (lines-in (a .t .now)) (a .d)) (part (a .at) (a .count) (a .out .now)) (a .y) (p .0 .1) (a .from) _ _ (λ e. c .before .before .if1 .left (c .before .before .before .type-number .ensures ∙ e)) (c .before .more2 .ensures) (c .weigh-kids .ensures)
 
 abbrev weigh-kids-Inv-loop : weigh-kids-lts.InvT-loop
-weigh-kids-Inv-loop s t y d out at count from n w₀ last₀ prior₀ i₀ w last prior i = (i ≤ n) × (w ≡ capped 1024 (from + weights-of (lines 6 s) d out at count y i)) × ((z : ℕ) → z < y → w ≤ 1024 → z ≡ last → w ≡ prior + weight-of (lines 6 s) d out at count z)
+weigh-kids-Inv-loop t y d out at count from n w₀ last₀ prior₀ i₀ w last prior i = (i ≤ n) × (w ≡ capped 1024 (from + weights-of (lines-in t) d out at count y i)) × ((z : ℕ) → z < y → w ≤ 1024 → z ≡ last → w ≡ prior + weight-of (lines-in t) d out at count z)
 
 abbrev weigh-kids-μ-loop : weigh-kids-lts.MeasureT-loop
-weigh-kids-μ-loop s t y d out at count from n w₀ last₀ prior₀ i₀ w last prior i = n - i
+weigh-kids-μ-loop t y d out at count from n w₀ last₀ prior₀ i₀ w last prior i = n - i
 
 weigh-kids-kids-requires : (t : ℕ) → weigh-kids-lts.Need-kids-requires (
   kids-reads.Asked,
@@ -192,7 +192,7 @@ weigh-kids-kids-requires : (t : ℕ) → weigh-kids-lts.Need-kids-requires (
   weigh-once-below t,
   weigh-once.Post,
 ) (weigh-kids-at t) weigh-kids.Post weigh-kids-Inv-loop weigh-kids-μ-loop
-weigh-kids-kids-requires t c κs = let p = c .before .before .before .pre .1 in (p .0 .0, p .0 .1)
+weigh-kids-kids-requires t c κs = let p = c .before .before .pre .1 in (p .0 .0, p .0 .1)
 
 weigh-kids-loop-holds : (t : ℕ) → weigh-kids-lts.Need-loop-holds (
   kids-reads.Asked,
@@ -203,8 +203,8 @@ weigh-kids-loop-holds : (t : ℕ) → weigh-kids-lts.Need-loop-holds (
   weigh-once.Post,
 ) (weigh-kids-at t) weigh-kids.Post weigh-kids-Inv-loop weigh-kids-μ-loop
 weigh-kids-loop-holds t c =
-    let a = c .before .before .before .before .args in
-    (omega arith, kids-none (params-of (lines 6 (a .s .now)) (a .d)) (part (a .at) (a .count) (a .out .now)) (λ i. type-of (lines 6 (a .s .now)) (kid-of (lines 6 (a .s .now)) (a .y) i)) (a .from) (c .before .before .before .before .pre .1 .1 .2), λ z h f e. absurd (omega arith))
+    let a = c .before .before .before .args in
+    (omega arith, kids-none (params-of (lines-in (a .t .now)) (a .d)) (part (a .at) (a .count) (a .out .now)) (λ i. type-of (lines-in (a .t .now)) (kid-of (lines-in (a .t .now)) (a .y) i)) (a .from) (c .before .before .before .pre .1 .1 .2), λ z h f e. absurd (omega arith))
 
 weigh-kids-returns : (t : ℕ) → weigh-kids-lts.Need-returns (
   kids-reads.Asked,
@@ -215,8 +215,8 @@ weigh-kids-returns : (t : ℕ) → weigh-kids-lts.Need-returns (
   weigh-once.Post,
 ) (weigh-kids-at t) weigh-kids.Post weigh-kids-Inv-loop weigh-kids-μ-loop
 weigh-kids-returns t c =
-    let a = c .before .before .before .before .before .before .before .args in
-    kids-over (params-of (lines 6 (a .s .now)) (a .d)) (part (a .at) (a .count) (a .out .now)) (λ i. type-of (lines 6 (a .s .now)) (kid-of (lines 6 (a .s .now)) (a .y) i)) (a .from) (c .before .before .loop .i) (kids-of (lines 6 (a .s .now)) (a .y)) (c .before .before .loop .w) (omega (arith, c .before .before .loop .inv .0, c .before .before .before .kids .ensures)) (c .before .before .loop .inv .1) (c .if1 .taken)
+    let a = c .before .before .before .before .before .before .args in
+    kids-over (params-of (lines-in (a .t .now)) (a .d)) (part (a .at) (a .count) (a .out .now)) (λ i. type-of (lines-in (a .t .now)) (kid-of (lines-in (a .t .now)) (a .y) i)) (a .from) (c .before .before .loop .i) (kids-of (lines-in (a .t .now)) (a .y)) (c .before .before .loop .w) (omega (arith, c .before .before .loop .inv .0, c .before .before .before .kids .ensures)) (c .before .before .loop .inv .1) (c .if1 .taken)
 
 weigh-kids-kid-requires : (t : ℕ) → weigh-kids-lts.Need-kid-requires (
   kids-reads.Asked,
@@ -226,7 +226,7 @@ weigh-kids-kid-requires : (t : ℕ) → weigh-kids-lts.Need-kid-requires (
   weigh-once-below t,
   weigh-once.Post,
 ) (weigh-kids-at t) weigh-kids.Post weigh-kids-Inv-loop weigh-kids-μ-loop
-weigh-kids-kid-requires t c κs = let p = c .before .before .before .before .before .before .before .pre .1 in (p .0 .0, (p .0 .1, omega (arith, c .before .before .before .kids .ensures, c .before .loop-test .taken)))
+weigh-kids-kid-requires t c κs = let p = c .before .before .before .before .before .before .pre .1 in (p .0 .0, (p .0 .1, omega (arith, c .before .before .before .kids .ensures, c .before .loop-test .taken)))
 
 weigh-kids-weigh-once-requires : (t : ℕ) → weigh-kids-lts.Need-weigh-once-requires (
   kids-reads.Asked,
@@ -237,10 +237,10 @@ weigh-kids-weigh-once-requires : (t : ℕ) → weigh-kids-lts.Need-weigh-once-re
   weigh-once.Post,
 ) (weigh-kids-at t) weigh-kids.Post weigh-kids-Inv-loop weigh-kids-μ-loop
 weigh-kids-weigh-once-requires t c κs =
-    let a = c .before .before .before .before .before .before .before .before .args in
-    let p = c .before .before .before .before .before .before .before .before .pre .1 in
-    let l = node-at (a .s .now) (p .0 .0 .passed) (a .y) (p .0 .1) .lower (c .before .before .before .loop .i) (omega (arith, c .before .before .before .before .kids .ensures, c .before .before .loop-test .taken)) in
-    (omega (arith, l, c .kid .ensures, c .before .before .before .before .before .before .before .before .pre .0), ((p .0 .0, omega (arith, l, c .kid .ensures, p .0 .1)), ((p .1 .0, p .1 .1, omega (arith, c .before .if1 .left)), c .before .before .before .loop .inv .2 _ (omega (arith, l, c .kid .ensures)) (c .before .if1 .left))))
+    let a = c .before .before .before .before .before .before .before .args in
+    let p = c .before .before .before .before .before .before .before .pre .1 in
+    let l = node-at (lines-in (a .t .now)) (p .0 .0 .passed) (a .y) (p .0 .1) .lower (c .before .before .before .loop .i) (omega (arith, c .before .before .before .before .kids .ensures, c .before .before .loop-test .taken)) in
+    (omega (arith, l, c .kid .ensures, c .before .before .before .before .before .before .before .pre .0), ((p .0 .0, omega (arith, l, c .kid .ensures, p .0 .1)), ((p .1 .0, p .1 .1, omega (arith, c .before .if1 .left)), c .before .before .before .loop .inv .2 _ (omega (arith, l, c .kid .ensures)) (c .before .if1 .left))))
 
 weigh-kids-add-i : (t : ℕ) → weigh-kids-lts.Need-add-i (
   kids-reads.Asked,
@@ -271,8 +271,8 @@ weigh-kids-loop-again : (t : ℕ) → weigh-kids-lts.Need-loop-again (
   weigh-once.Post,
 ) (weigh-kids-at t) weigh-kids.Post weigh-kids-Inv-loop weigh-kids-μ-loop
 weigh-kids-loop-again t c =
-    let a = c .before .before .before .before .before .before .before .before .before .args in
-    (omega (arith, c .before .before .before .loop-test .taken), kids-more (params-of (lines 6 (a .s .now)) (a .d)) (part (a .at) (a .count) (a .out .now)) (λ i. type-of (lines 6 (a .s .now)) (kid-of (lines 6 (a .s .now)) (a .y) i)) (a .from) (c .before .before .before .before .loop .i) (c .before .before .before .before .loop .w) _ (c .before .before .before .before .loop .inv .1) (c .weigh-once .ensures ∙ ap (λ k. capped 1024 (c .before .before .before .before .loop .w + weight-of (lines 6 (a .s .now)) (a .d) (a .out .now) (a .at) (a .count) k)) (c .before .kid .ensures)), λ z h f e. once-last (c .before .before .before .before .loop .w) (weight-of (lines 6 (a .s .now)) (a .d) (a .out .now) (a .at) (a .count) z) _ (c .weigh-once .ensures ∙ ap (λ k. capped 1024 (c .before .before .before .before .loop .w + weight-of (lines 6 (a .s .now)) (a .d) (a .out .now) (a .at) (a .count) k)) (sym e)) f)
+    let a = c .before .before .before .before .before .before .before .before .args in
+    (omega (arith, c .before .before .before .loop-test .taken), kids-more (params-of (lines-in (a .t .now)) (a .d)) (part (a .at) (a .count) (a .out .now)) (λ i. type-of (lines-in (a .t .now)) (kid-of (lines-in (a .t .now)) (a .y) i)) (a .from) (c .before .before .before .before .loop .i) (c .before .before .before .before .loop .w) _ (c .before .before .before .before .loop .inv .1) (c .weigh-once .ensures ∙ ap (λ k. capped 1024 (c .before .before .before .before .loop .w + weight-of (lines-in (a .t .now)) (a .d) (a .out .now) (a .at) (a .count) k)) (c .before .kid .ensures)), λ z h f e. once-last (c .before .before .before .before .loop .w) (weight-of (lines-in (a .t .now)) (a .d) (a .out .now) (a .at) (a .count) z) _ (c .weigh-once .ensures ∙ ap (λ k. capped 1024 (c .before .before .before .before .loop .w + weight-of (lines-in (a .t .now)) (a .d) (a .out .now) (a .at) (a .count) k)) (sym e)) f)
 
 weigh-kids-returns-2 : (t : ℕ) → weigh-kids-lts.Need-returns-2 (
   kids-reads.Asked,
@@ -283,8 +283,8 @@ weigh-kids-returns-2 : (t : ℕ) → weigh-kids-lts.Need-returns-2 (
   weigh-once.Post,
 ) (weigh-kids-at t) weigh-kids.Post weigh-kids-Inv-loop weigh-kids-μ-loop
 weigh-kids-returns-2 t c =
-    let a = c .before .before .before .before .before .before .args in
-    c .before .loop .inv .1 ∙ ap (λ k. capped 1024 (a .from + weights-of (lines 6 (a .s .now)) (a .d) (a .out .now) (a .at) (a .count) (a .y) k)) (omega (arith, c .before .before .kids .ensures, c .before .loop .inv .0, c .loop-test .left))
+    let a = c .before .before .before .before .before .args in
+    c .before .loop .inv .1 ∙ ap (λ k. capped 1024 (a .from + weights-of (lines-in (a .t .now)) (a .d) (a .out .now) (a .at) (a .count) (a .y) k)) (omega (arith, c .before .before .kids .ensures, c .before .loop .inv .0, c .loop-test .left))
 
 weigh-once-sub-more : (t : ℕ) → weigh-once-lts.Need-sub-more (
   more-reads.Asked,
@@ -292,7 +292,7 @@ weigh-once-sub-more : (t : ℕ) → weigh-once-lts.Need-sub-more (
   weigh-below t,
   weigh.Post,
 ) (weigh-once-at t) weigh-once.Post
-weigh-once-sub-more t c = omega (arith, c .before .before .before .before .pre .1 .1 .1 (c .if1 .taken))
+weigh-once-sub-more t c = omega (arith, c .before .before .before .pre .1 .1 .1 (c .if1 .taken))
 
 weigh-once-more-requires : (t : ℕ) → weigh-once-lts.Need-more-requires (
   more-reads.Asked,
@@ -300,7 +300,7 @@ weigh-once-more-requires : (t : ℕ) → weigh-once-lts.Need-more-requires (
   weigh-below t,
   weigh.Post,
 ) (weigh-once-at t) weigh-once.Post
-weigh-once-more-requires t c κs = (omega (arith, c .before .before .before .before .pre .1 .1 .0 .2), omega (arith, c .before .before .before .before .pre .1 .1 .0 .2))
+weigh-once-more-requires t c κs = (omega (arith, c .before .before .before .pre .1 .1 .0 .2), omega (arith, c .before .before .before .pre .1 .1 .0 .2))
 
 weigh-once-returns : (t : ℕ) → weigh-once-lts.Need-returns (
   more-reads.Asked,
@@ -308,7 +308,7 @@ weigh-once-returns : (t : ℕ) → weigh-once-lts.Need-returns (
   weigh-below t,
   weigh.Post,
 ) (weigh-once-at t) weigh-once.Post
-weigh-once-returns t c = once-more _ _ _ _ (c .before .before .before .before .before .pre .1 .1 .1 (c .before .if1 .taken)) (c .more .ensures)
+weigh-once-returns t c = once-more _ _ _ _ (c .before .before .before .before .pre .1 .1 .1 (c .before .if1 .taken)) (c .more .ensures)
 
 weigh-once-weigh-requires : (t : ℕ) → weigh-once-lts.Need-weigh-requires (
   more-reads.Asked,
@@ -316,7 +316,7 @@ weigh-once-weigh-requires : (t : ℕ) → weigh-once-lts.Need-weigh-requires (
   weigh-below t,
   weigh.Post,
 ) (weigh-once-at t) weigh-once.Post
-weigh-once-weigh-requires t c κs = let p = c .before .before .before .before .pre .1 in (omega (arith, c .before .before .before .before .pre .0), (p .0, p .1 .0))
+weigh-once-weigh-requires t c κs = let p = c .before .before .before .pre .1 in (omega (arith, c .before .before .before .pre .0), (p .0, p .1 .0))
 
 weigh-once-returns-2 : (t : ℕ) → weigh-once-lts.Need-returns-2 (
   more-reads.Asked,

@@ -2,28 +2,28 @@
 use mathlib.Core.Path.{_≡_, sym, _∙_}
 use borrow.Author.Needs.{needs}
 use borrow.Author.Tests.{ne-eqb}
-use Rattle.sheet.specs.Sheet.{lines}
 use Rattle.marks.specs.Marks.{part}
 use Rattle.erasure.specs.FixpointLaws.{name-of-app}
 use Rattle.fixpoints.proofs.first_marks.named.Statement.{statement}
+use Rattle.tables.specs.Tables.{lines-in}
 use Rattle.fixpoints.proofs.first_marks.named.Tie as tie
 
 decl-of-requires : tie.Need-decl-of-requires
 decl-of-requires c κs =
-    let a = c .before .before .before .before .before in
-    (a .pre .0, rw (c .type-number2 .ensures) (name-of-app (a .args .s .now) (a .pre .0 .passed) (a .args .y) (a .pre .1) (sym (c .before .before .type-number .ensures) ∙ c .before .if1 .taken)))
+    let a = c .before .before .before .before in
+    (a .pre .0, rw (c .type-number2 .ensures) (name-of-app (lines-in (a .args .t .now)) (a .pre .0 .passed) (a .args .y) (a .pre .1) (sym (c .before .before .type-number .ensures) ∙ c .before .if1 .taken)))
 
 returns : tie.Need-returns
 returns c =
-    let a = c .before .before .before .before .before .before in
-    let e : part (lines 6 (a .args .s .now)) (a .args .y) 0 ≡ 8 = sym (c .before .before .before .type-number .ensures) ∙ c .before .before .if1 .taken in
+    let a = c .before .before .before .before .before in
+    let e : part (lines-in (a .args .t .now)) (a .args .y) 0 ≡ 8 = sym (c .before .before .before .type-number .ensures) ∙ c .before .before .if1 .taken in
     c .decl-of .ensures ∙ rw (e, c .before .type-number2 .ensures)
 
 returns-2 : tie.Need-returns-2
 returns-2 c =
-    let a = c .before .before .before .before .before in
+    let a = c .before .before .before .before in
     let n = c .before .if1 .left in
-    c .decls .ensures ∙ rw (ne-eqb (part (lines 6 (a .args .s .now)) (a .args .y) 0) 8 (λ q. n (c .before .before .type-number .ensures ∙ q)))
+    c .decls .ensures ∙ rw (ne-eqb (part (lines-in (a .args .t .now)) (a .args .y) 0) 8 (λ q. n (c .before .before .type-number .ensures ∙ q)))
 
 pub named-spec : {M : Type 1} → statement M
 named-spec =

@@ -1,22 +1,22 @@
 -- `first_marks::starts_erased` meets its contract, by the letter of the declaration. Assumes nothing.
-use mathlib.Core.Path.{_≡_, ap, sym, _∙_}
+use mathlib.Core.Path.{ap, sym, _∙_}
 use Prim.Native.Nat.{ℕ}
 use lib.Dec.{eqb}
 use borrow.Author.Needs.{needs}
-use Rattle.sheet.specs.Sheet.{lines}
 use Rattle.erasure.specs.FixpointLaws.{starts-import, starts-local}
 use Rattle.fixpoints.proofs.first_marks.starts_erased.Statement.{statement}
+use Rattle.tables.specs.Tables.{lines-in}
 use Rattle.fixpoints.proofs.first_marks.starts_erased.Tie as tie
 
 returns : tie.Need-returns
 returns c =
-    let a = c .before .before .before .before .before in
-    ap (λ (x : ℕ). eqb x 1) (c .verdict-number .ensures) ∙ sym (starts-import (a .args .s .now) (a .pre .0 .passed) (a .args .d) (a .pre .1) (sym (c .before .before .is-import .ensures) ∙ c .before .if1 .taken))
+    let a = c .before .before .before .before in
+    ap (λ (x : ℕ). eqb x 1) (c .verdict-number .ensures) ∙ sym (starts-import (lines-in (a .args .t .now)) (a .pre .0 .passed) (a .args .d) (a .pre .1) (sym (c .before .before .is-import .ensures) ∙ c .before .if1 .taken))
 
 returns-2 : tie.Need-returns-2
 returns-2 c =
-    let a = c .before .before .before .before in
-    sym (starts-local (lines 6 (a .args .s .now)) (a .args .d) (a .pre .1) (sym (c .before .is-import .ensures) ∙ c .if1 .left))
+    let a = c .before .before .before in
+    sym (starts-local (lines-in (a .args .t .now)) (a .args .d) (a .pre .1) (sym (c .before .is-import .ensures) ∙ c .if1 .left))
 
 pub starts-erased-spec : {M : Type 1} → statement M
 starts-erased-spec =

@@ -3,7 +3,6 @@ use mathlib.Core.Path.{_≡_, refl, subst}
 use Prim.Native.Nat.{ℕ, _-_, _≤_}
 use native.Mathlib.Omega.{arith}
 use lib.ListN.{length}
-use borrow.Author.Needs.{needs}
 use Rattle.form_tables.specs.Bounds.{Ended, ended-more}
 use Rattle.form_tables.proofs.rank_bounds.ends.Statement.{statement}
 use Rattle.form_tables.proofs.rank_bounds.ends.Tie as tie

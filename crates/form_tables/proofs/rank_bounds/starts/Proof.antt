@@ -3,7 +3,6 @@ use mathlib.Core.Path.{_≡_, refl, sym, subst}
 use Prim.Native.Nat.{ℕ, _+_, _-_, _≤_}
 use native.Mathlib.Omega.{arith}
 use lib.ListN.{length}
-use borrow.Author.Needs.{needs}
 use Rattle.form_tables.specs.Bounds.{Started, started-more}
 use Rattle.form_tables.proofs.rank_bounds.starts.Statement.{statement}
 use Rattle.form_tables.proofs.rank_bounds.starts.Tie as tie

@@ -7,10 +7,10 @@ use Rattle.laying.proofs.collapses.newtype.Statement.{statement}
 use Rattle.laying.proofs.collapses.newtype.Tie as tie
 
 ctor-of-requires : tie.Need-ctor-of-requires
-ctor-of-requires c κs = let p = c .before .before .pre in (p .0, (p .1 .0, p .1 .1))
+ctor-of-requires c κs = let p = c .before .pre in (p .0, (p .1 .0, p .1 .1))
 
 returns : tie.Need-returns
-returns c = ap (λ (x : ℕ). Newtype x (c .before .before .before .args .f)) (c .ctor-of .ensures .0)
+returns c = ap (λ (x : ℕ). Newtype x (c .before .before .args .f)) (c .ctor-of .ensures .0)
 
 pub newtype-spec : {M : Type 1} → statement M
 newtype-spec = tie.close (tie.spec ctor-of-requires (λ c. search needs) returns)

@@ -1,11 +1,10 @@
 -- `node_rows::write_nodes` meets its contract: after i turns the lines of the first i nodes are written, and there is room for the others. Assumes nothing.
-use mathlib.Core.Path.{_≡_, refl, sym, _∙_, subst}
-use mathlib.Core.List.{List, map}
-use Prim.Native.Nat.{ℕ, _+_, _-_, _≤_}
+use mathlib.Core.Path.{_≡_, refl, sym, _∙_}
+use mathlib.Core.List.{map}
+use Prim.Native.Nat.{_+_, _-_, _≤_}
 use native.Mathlib.Omega.{arith}
 use lib.ListN.{length, getD, take, drop}
 use lib.Seq.{take-all}
-use Rattle.normal.specs.Nodes.{Node}
 use Rattle.nodes.specs.Words.{node-of}
 use Rattle.emitter.specs.Pens.{Room, sheet, write-lines}
 use Rattle.emitter.specs.PensLaws.{words-more, words-drop, room-first, room-rest}

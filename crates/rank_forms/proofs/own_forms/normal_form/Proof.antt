@@ -9,25 +9,25 @@ use Rattle.rank_forms.proofs.own_forms.normal_form.Statement.{statement
 use Rattle.rank_forms.proofs.own_forms.normal_form.Tie as tie
 
 cast-y : tie.Need-cast-y
-cast-y c = omega (arith, c .shared-slice-known4 .given (2 * c .before .before .before .before .before .before .args .d + 1))
+cast-y c = omega (arith, c .shared-slice-known3 .given (2 * c .before .before .before .before .before .args .d + 1))
 
 returns : tie.Need-returns
 returns c =
-    let a = c .before .before .before .before .before .before .before .before .before .before .before .before .args in
+    let a = c .before .before .before .before .before .before .before .before .before .before .before .args in
     added-none _ (a .scratch .now) (a .d) (a .pos) (c .before .before .before .emit .result) (a .f .now) _ (c .before .before .before .emit .ensures) (inl (omega (arith, c .if1 .taken, c .before .before .before .emit .ensures .long)))
 
 returns-2 : tie.Need-returns-2
 returns-2 c =
-    let a = c .before .before .before .before .before .before .before .before .before .before .before .before .before .args in
+    let a = c .before .before .before .before .before .before .before .before .before .before .before .before .args in
     added-none _ (a .scratch .now) (a .d) (a .pos) (c .before .before .before .before .emit .result) (a .f .now) _ (c .before .before .before .before .emit .ensures) (inr (omega (arith, c .before .if1 .left, c .before .before .before .before .emit .ensures .long), omega (arith, c .if2 .taken)))
 
 slice-write-f-2 : tie.Need-slice-write-f-2
-slice-write-f-2 c = simp length-set (omega (arith, c .before .before .before .before .before .before .before .before .before .before .before .before .before .before .before .before .before .before .pre))
+slice-write-f-2 c = simp length-set (omega (arith, c .before .before .before .before .before .before .before .before .before .before .before .before .before .before .before .before .before .pre))
 
 returns-3 : tie.Need-returns-3
 returns-3 c =
-    let a = c .before .before .before .before .before .before .before .before .before .before .before .before .before .before .before .before .before .before .args in
-    let p = c .before .before .before .before .before .before .before .before .before .before .before .before .before .before .before .before .before .before .pre in
+    let a = c .before .before .before .before .before .before .before .before .before .before .before .before .before .before .before .before .before .args in
+    let p = c .before .before .before .before .before .before .before .before .before .before .before .before .before .before .before .before .before .pre in
     added-some _ (a .scratch .now) (a .d) (a .pos) (c .before .before .before .before .before .before .before .before .before .emit .result) (a .f .now) _ _ (c .before .before .before .before .before .before .before .before .before .emit .ensures) (omega (arith, c .before .before .before .before .before .before .if1 .left, c .before .before .before .before .before .before .before .before .before .emit .ensures .long)) (omega (arith, c .before .before .before .before .before .if2 .left)) (omega (arith, p .0 .decl, p .2)) (c .before .before .copy-words .ensures)
 
 pub normal-form-spec : {M : Type 1} → statement M

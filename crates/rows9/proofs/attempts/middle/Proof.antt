@@ -5,7 +5,7 @@ use Rattle.rows9.proofs.attempts.middle.Statement.{statement}
 use Rattle.rows9.proofs.attempts.middle.Tie as tie
 
 tried-requires : tie.Need-tried-requires
-tried-requires c κs = (c .before .before .before .before .before .before .pre, slots-zero _ 11264)
+tried-requires c κs = (c .before .before .before .before .before .pre, slots-zero _ 11264)
 
 pub middle-spec : {M : Type 1} → statement M
 middle-spec =

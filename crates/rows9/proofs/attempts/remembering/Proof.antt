@@ -5,7 +5,7 @@ use Rattle.rows9.proofs.attempts.remembering.Statement.{statement}
 use Rattle.rows9.proofs.attempts.remembering.Tie as tie
 
 tried-requires : tie.Need-tried-requires
-tried-requires c κs = (c .before .before .before .before .before .before .before .pre, slots-zero _ 22528)
+tried-requires c κs = (c .before .before .before .before .before .before .pre, slots-zero _ 22528)
 
 pub remembering-spec : {M : Type 1} → statement M
 remembering-spec = tie.close (tie.spec (λ c. search needs) tried-requires (λ c. search needs) (λ c. search needs))

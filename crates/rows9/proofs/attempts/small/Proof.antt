@@ -5,7 +5,7 @@ use Rattle.rows9.proofs.attempts.small.Statement.{statement}
 use Rattle.rows9.proofs.attempts.small.Tie as tie
 
 tried-requires : tie.Need-tried-requires
-tried-requires c κs = (c .before .before .before .before .before .before .pre, slots-zero _ 704)
+tried-requires c κs = (c .before .before .before .before .before .pre, slots-zero _ 704)
 
 pub small-spec : {M : Type 1} → statement M
 small-spec =

@@ -6,10 +6,10 @@ use Rattle.rows9.proofs.attempts.tried.Statement.{statement}
 use Rattle.rows9.proofs.attempts.tried.Tie as tie
 
 first-fault-requires : tie.Need-first-fault-requires
-first-fault-requires c κs = (asked-kept _ _ _ _ (c .before .before .before .before .before .before .before .before .pre .0), c .before .before .before .before .before .before .before .before .pre .1)
+first-fault-requires c κs = (asked-kept _ _ _ _ (c .before .before .before .before .before .before .before .pre .0), c .before .before .before .before .before .before .before .pre .1)
 
 returns : tie.Need-returns
-returns c = attempted _ _ _ _ (c .before .before .before .before .before .before .before .before .before .before .before .before .before .before .pre .0) (length (c .before .before .before .before .before .before .before .before .before .before .before .before .before .before .args .out .now)) _ _ (c .before .before .before .before .before .first-fault .ensures) (c .told .ensures)
+returns c = attempted _ _ _ _ (c .before .before .before .before .before .before .before .before .before .before .before .before .before .pre .0) (length (c .before .before .before .before .before .before .before .before .before .before .before .before .before .args .out .now)) _ _ (c .before .before .before .before .before .first-fault .ensures) (c .told .ensures)
 
 pub tried-spec : {M : Type 1} → statement M
 tried-spec =

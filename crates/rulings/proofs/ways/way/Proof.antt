@@ -1,27 +1,26 @@
 -- `ways::way` meets its contract, by the flags and the body. Assumes nothing.
-use mathlib.Core.Path.{_≡_}
 use borrow.Author.Needs.{needs}
-use Rattle.sheet.specs.Sheet.{lines}
 use Rattle.bodies.specs.BodiesLaws.{by-flag, by-realized, by-body, way-erased, way-kept}
 use Rattle.rulings.proofs.ways.way.Statement.{statement}
+use Rattle.tables.specs.Tables.{lines-in}
 use Rattle.rulings.proofs.ways.way.Tie as tie
 
 returns : tie.Need-returns
 returns c =
-    let a = c .before .before .before .before in
-    way-erased (lines 6 (a .args .s .now)) (a .args .d) (by-flag (a .args .s .now) (a .pre .0 .passed) (a .args .d) (a .pre .1 .0) (a .pre .1 .1) (rw (c .before .decl-number .ensures) at (c .if1 .taken)))
+    let a = c .before .before .before in
+    way-erased (lines-in (a .args .t .now)) (a .args .d) (by-flag (lines-in (a .args .t .now)) (a .pre .0 .passed) (a .args .d) (a .pre .1 .0) (a .pre .1 .1) (rw (c .before .decl-number .ensures) at (c .if1 .taken)))
 
 returns-2 : tie.Need-returns-2
 returns-2 c =
-    let a = c .before .before .before .before .before in
+    let a = c .before .before .before .before in
     let e = c .before .before .decl-number .ensures in
-    way-kept (lines 6 (a .args .s .now)) (a .args .d) (by-realized (a .args .s .now) (a .pre .0 .passed) (a .args .d) (a .pre .1 .0) (a .pre .1 .1) (rw e at (c .before .if1 .left)) (rw e at (c .if2 .taken)))
+    way-kept (lines-in (a .args .t .now)) (a .args .d) (by-realized (lines-in (a .args .t .now)) (a .pre .0 .passed) (a .args .d) (a .pre .1 .0) (a .pre .1 .1) (rw e at (c .before .if1 .left)) (rw e at (c .if2 .taken)))
 
 body-way-requires : tie.Need-body-way-requires
 body-way-requires c κs =
-    let a = c .before .before .before .before .before in
+    let a = c .before .before .before .before in
     let e = c .before .before .decl-number .ensures in
-    (a .pre .0, (a .pre .1 .0, by-body (a .args .s .now) (a .pre .0 .passed) (a .args .d) (a .pre .1 .0) (a .pre .1 .1) (rw e at (c .before .if1 .left)) (rw e at (c .if2 .left))))
+    (a .pre .0, (a .pre .1 .0, by-body (lines-in (a .args .t .now)) (a .pre .0 .passed) (a .args .d) (a .pre .1 .0) (a .pre .1 .1) (rw e at (c .before .if1 .left)) (rw e at (c .if2 .left))))
 
 pub way-spec : {M : Type 1} → statement M
 way-spec = tie.close (tie.spec (λ c κs. search needs) returns returns-2 body-way-requires (λ c. search needs))

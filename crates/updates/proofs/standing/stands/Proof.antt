@@ -1,24 +1,23 @@
 -- `standing::stands` meets its contract, by what is known of the declaration. Assumes nothing.
 use mathlib.Core.Logic.{inl, inr}
-use mathlib.Core.Path.{_≡_}
 use native.Mathlib.Omega.{arith}
 use borrow.Author.Needs.{needs}
-use Rattle.sheet.specs.Sheet.{lines}
 use Rattle.rounds.specs.RoundsLaws.{stands-still, stands-import}
 use Rattle.updates.proofs.standing.stands.Statement.{statement}
+use Rattle.tables.specs.Tables.{lines-in}
 use Rattle.updates.proofs.standing.stands.Tie as tie
 
 returns : tie.Need-returns
-returns c = let a = c .before .before .before .before .before .before .before .args in stands-still (lines 6 (a .s .now)) (a .decl .now) (a .node .now) (a .wait .now) (a .d) (a .right) (inl (c .if1 .taken))
+returns c = let a = c .before .before .before .before .before .before .args in stands-still (lines-in (a .t .now)) (a .decl .now) (a .node .now) (a .wait .now) (a .d) (a .right) (inl (c .if1 .taken))
 
 cast-y : tie.Need-cast-y
-cast-y c = omega (arith, c .shared-slice-known7 .given (c .before .before .before .before .before .before .before .before .args .d))
+cast-y c = omega (arith, c .shared-slice-known6 .given (c .before .before .before .before .before .before .before .args .d))
 
 returns-2 : tie.Need-returns-2
-returns-2 c = let a = c .before .before .before .before .before .before .before .before .before .before .before .args in stands-still (lines 6 (a .s .now)) (a .decl .now) (a .node .now) (a .wait .now) (a .d) (a .right) (inr (inl (c .before .before .before .before .if1 .left, c .before .before .if2 .taken, c .if3 .taken)))
+returns-2 c = let a = c .before .before .before .before .before .before .before .before .before .before .args in stands-still (lines-in (a .t .now)) (a .decl .now) (a .node .now) (a .wait .now) (a .d) (a .right) (inr (inl (c .before .before .before .before .if1 .left, c .before .before .if2 .taken, c .if3 .taken)))
 
 returns-3 : tie.Need-returns-3
-returns-3 c = let a = c .before .before .before .before .before .before .before .before .before .before .args in stands-import (lines 6 (a .s .now)) (a .decl .now) (a .node .now) (a .wait .now) (a .d) (a .right) _ (c .before .before .before .if1 .left) (c .is-import .ensures)
+returns-3 c = let a = c .before .before .before .before .before .before .before .before .before .args in stands-import (lines-in (a .t .now)) (a .decl .now) (a .node .now) (a .wait .now) (a .d) (a .right) _ (c .before .before .before .if1 .left) (c .is-import .ensures)
 
 pub stands-spec : {M : Type 1} → statement M
 stands-spec =
