@@ -9,10 +9,8 @@ use Rattle.sheet.specs.Line.{Line, row}
 use Rattle.sheet.specs.Sheet.{lines}
 use Rattle.model.specs.Decl.{Ctor}
 use Rattle.meaning.specs.Program.{ctor-line}
-use Rattle.meaning.specs.Rows.{count-of}
 use Rattle.meaning.specs.Output.{Written, Lines, field-lines, ctor-lines}
 use Rattle.meaning.specs.Laws.Output.{grows-args, grows-types, ctor-adds}
-use Rattle.header.specs.OrderLaws.{count-of-le}
 use Rattle.arguments.specs.Params.{params-of}
 use Rattle.kept.specs.Kept.{ctor-name, ctor-fields, fields-by, ctors-by}
 use Rattle.kept.specs.KeptLaws.{fields-in}
@@ -67,10 +65,6 @@ module _ (ls : List Line) (keep ps : List ℕ) where
       let a : suc c + k ≡ c + suc k = omega arith in
       let f : i + ctor-fields ls c + fields-in ls (suc c) k ≡ i + (ctor-fields ls c + fields-in ls (suc c) k) = omega arith in
       rw e (ap (λ (r : List Ctor). record { ct-name = ctor-name ls c; ct-fields = fields-by ls keep ps i (ctor-fields ls c) } ∷ r) (ctors-more (suc c) (i + ctor-fields ls c) k n ∙ rw (a, f)))
-
--- no more lines of a letter than bytes
-pub letters-fit : (x : ℕ) (ls : List Line) → count-of x ls ≤ length ls
-letters-fit x ls = omega (arith, count-of-le x ls)
 
 -- ---- one constructor
 abbrev pub ctor-row : ℕ → ℕ → Line

@@ -1,15 +1,14 @@
 -- The lines of an accepted sheet, without their texts, passed rows 1 to 7; so the cells that hold them did. Assumes nothing.
-use mathlib.Core.Path.{_≡_, refl, ap, sym, _∙_}
+use mathlib.Core.Path.{_≡_, ap, sym, _∙_}
 use mathlib.Core.List.{List, [], _∷_, map}
-use mathlib.Core.Bool.{Bool, true, false, _&&_}
+use mathlib.Core.Bool.{false, _&&_}
 use Prim.Native.Nat.{ℕ, zero, suc, _*_, _<_}
 use native.Mathlib.Omega.{arith}
-use lib.Dec.{ltb}
-use lib.ListN.{length, getD, List·getD-eq-default}
-use borrow.Author.Tests.{ltb-true, ltb-false}
+use lib.ListN.{length}
+use borrow.Author.Tests.{ltb-false}
 use Rattle.sheet.specs.Format.{base}
-use Rattle.sheet.specs.Line.{Line, named, row, bad, number, text}
-use Rattle.sheet.specs.ListLaws.{neither, every-at}
+use Rattle.sheet.specs.Line.{Line, number, text}
+use Rattle.sheet.specs.ListLaws.{neither}
 use Rattle.sheet.specs.LineLaws.{Fits}
 use Rattle.sheet.specs.Sheet.{first, count, lines, row2}
 use Rattle.sheet.specs.FirstLaws.{first-before, none-first}
@@ -29,17 +28,11 @@ use Rattle.refusals.specs.declared.Checked.{Checked}
 use Rattle.refusals.specs.Rows.{refused-as, with-counts, checked-of, Passes-rows, Checks}
 use Rattle.refusals.specs.CellLaws.{counts-cells}
 use Rattle.refusals.specs.RowsLaws.{never, accepted-rows, checked-accepted}
+use Rattle.meaning.specs.Laws.Output.{number-fits}
 
 -- ---- numbers of six columns
 number-small : (l : Line) → Fits 6 l → (k : ℕ) → number l k < 1000000
-number-small (named n t) h zero = h .0
-number-small (named n t) h (suc k) = omega arith
-number-small (row x ns) h k = go (ltb k (length ns)) refl
-  where
-    go : (c : Bool) → ltb k (length ns) ≡ c → getD ns k 0 < 1000000
-    go true e = every-at (λ n. n < 1000000) 0 ns (h .2) k (ltb-true k (length ns) e)
-    go false e = rw (List·getD-eq-default ns 0 {n = k} (ltb-false k (length ns) e)) (omega arith)
-number-small bad h k = absurd h
+number-small l h k = number-fits 6 (omega arith) l k h
 
 bare-small : (l : Line) → Fits 6 l → (k : ℕ) → number (bare l) k < 1000000
 bare-small l h zero = number-small l h 0

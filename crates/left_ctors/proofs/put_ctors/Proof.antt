@@ -7,7 +7,8 @@ use Rattle.meaning.specs.Output.{ctor-lines}
 use Rattle.kept.specs.KeptLaws.{fields-in}
 use Rattle.places.specs.Places.{Writes}
 use Rattle.left_ctors.specs.Ctors.{left-ctors}
-use Rattle.left_ctors.specs.CtorsLaws.{letters-fit, ctors-room, ctors-writes, ctors-start, fields-in-start, ctor-next, ctor-given, ctor-few}
+use Rattle.header.specs.OrderLaws.{count-of-le}
+use Rattle.left_ctors.specs.CtorsLaws.{ctors-room, ctors-writes, ctors-start, fields-in-start, ctor-next, ctor-given, ctor-few}
 use native.Mathlib.Omega.{arith}
 use borrow.Author.Needs.{needs}
 use Rattle.left_ctors.proofs.put_ctors.Statement.{statement}
@@ -68,9 +69,9 @@ put-ctors-spec =
     Inv-loop
     μ-loop
     loop-holds
-    (λ c. let z = c .before .before .before .before .before .before .before .before .before .before .before .before in omega (arith, z .pre .0 .inside, letters-fit ctor-line (lines-in (z .args .t .now))))
+    (λ c. let z = c .before .before .before .before .before .before .before .before .before .before .before .before in omega (arith, z .pre .0 .inside, count-of-le ctor-line (lines-in (z .args .t .now))))
     put-ctor-requires
-    (λ c. let z = c .before .before .before .before .before .before .before .before .before .before .before .before .before .before .before .before .before .before .before in omega (arith, z .pre .0 .inside, letters-fit ctor-line (lines-in (z .args .t .now))))
+    (λ c. let z = c .before .before .before .before .before .before .before .before .before .before .before .before .before .before .before .before .before .before .before in omega (arith, z .pre .0 .inside, count-of-le ctor-line (lines-in (z .args .t .now))))
     ctor-number-requires
     (λ c. search needs)
     add-j
