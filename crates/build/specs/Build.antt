@@ -3,28 +3,23 @@ use mathlib.Core.Path.{_≡_}
 use mathlib.Core.List.{List, map}
 use mathlib.Core.Bool.{false}
 use Prim.Native.Nat.{ℕ, _+_, _*_, _≤_}
-use lib.ListN.{length, take, drop}
+use lib.ListN.{length}
 use Rattle.sheet.specs.Format.{base}
-use Rattle.sheet.specs.Line.{Line}
 use Rattle.sheet.specs.Sheet.{count, lines, row1, row2}
-use Rattle.cells.specs.Cells.{lines-of, bare}
+use Rattle.cells.specs.Cells.{bare}
 use Rattle.answer.specs.declared.Refusal.the-variants.{Accepted}
 use Rattle.answer.specs.Answer.{sheet-rows, refusal}
 use Rattle.limits.specs.declared.Counts.{Counts}
 use Rattle.limits.specs.Limits.{counts-of}
 use Rattle.declared.specs.Passed.{Passed}
 use Rattle.tables.specs.declared.Sizes.{Sizes}
-use Rattle.table_index.specs.Index.{Ready, lines-behind}
+use Rattle.table_index.specs.Index.{Ready, behind, lines-behind}
 
 -- None of rows 1 to 7 applies.
 pub record Accepts (b : List ℕ) : Type 0 where
   pub short : row1 base b ≡ false
   pub no-bad : row2 6 b ≡ count 6 b
   pub sheet : refusal (sheet-rows base b) ≡ Accepted
-
--- the lines of the n times six cells behind the header
-abbrev pub behind : ℕ → List ℕ → List Line
-behind n t = lines-of (take (6 * n) (drop 11 t))
 
 -- The lines' cells stand behind the header, and they are counted; there is room for the table.
 pub record Checked (b t : List ℕ) (c : Counts) : Type 0 where

@@ -28,14 +28,14 @@ use Rattle.refusals.specs.Rows.{with-counts, checked-of, Checks}
 use Rattle.refusals.specs.RowsLaws.{checked-accepted}
 use Rattle.tables.specs.declared.Sizes.{Sizes}
 use Rattle.tables.specs.Tables.{decls-of, sizes-of, cell-count, lines-in, Tabled}
-use Rattle.table_index.specs.Index.{lines-behind}
+use Rattle.table_index.specs.Index.{behind, lines-behind}
 use Rattle.table_index.specs.Sizing.{Counted}
 use Rattle.table_index.specs.SizingLaws.{count-all, cells-few}
 use Rattle.built.specs.declared.Built.{Built}
 use Rattle.built.specs.Built.{refused-as, Gives, given}
 use Rattle.built.specs.BuiltLaws.{rows-sheet, gives-refused}
 use Rattle.deciding.specs.Deciding.{Read}
-use Rattle.build.specs.Build.{behind, Checked, Lined}
+use Rattle.build.specs.Build.{Checked, Lined}
 
 -- ---- the cells of lines in the table
 -- what was lent behind the header comes back

@@ -39,10 +39,6 @@ lent-kept b t u rank keep v v′ e h = subst (λ (x : List ℕ). Lent b t u rank
 pub tries-again : (S : Type 0) (b v l : List ℕ) (r : Tried) (v′ l′ : List ℕ) (q : Built) (v″ l″ : List ℕ) → Tries S b v l r v′ l′ → r .room ≡ false → Gives b v′ l′ q v″ l″ → Gives b v l q v″ l″
 tries-again S b v l r v′ l′ q v″ l″ h e g = subst (λ (x : List ℕ). Gives b x l q v″ l″) (h .verdict-kept e) (subst (λ (x : List ℕ). Gives b v′ x q v″ l″) (h .left-kept e) g)
 
--- with as little memory, for another reason
-pub tries-less : (S T : Type 0) → (S → T) → (b v l : List ℕ) (r : Tried) (v′ l′ : List ℕ) → Tries S b v l r v′ l′ → Tries T b v l r v′ l′
-tries-less S T f b v l r v′ l′ h = record { gives = h .gives; short = λ e. f (h .short e); verdict-kept = h .verdict-kept; left-kept = h .left-kept }
-
 -- and the longest has room
 pub tries-last : (b v l : List ℕ) (r : Tried) (v′ l′ : List ℕ) → Tries (Short 98496 1024) b v l r v′ l′ → Gives b v l (r .built) v′ l′
 tries-last b v l r v′ l′ h = go (r .room) refl

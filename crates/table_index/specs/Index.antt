@@ -18,9 +18,12 @@ use Rattle.table_index.specs.declared.Seen.{Seen}
 use Rattle.table_index.specs.Filling.{Agree}
 
 -- ---- before the walk
--- the lines whose cells stand behind the room for the header
+-- n lines whose cells stand behind the room for the header
+abbrev pub behind : ℕ → List ℕ → List Line
+behind n t = lines-of (take (6 * n) (drop 11 t))
+
 abbrev pub lines-behind : Sizes → List ℕ → List Line
-lines-behind z t = lines-of (take (6 * z .lines) (drop 11 t))
+lines-behind z t = behind (z .lines) t
 
 -- they passed rows 1 to 7, are of these sizes, and there is room for the table
 pub record Ready (z : Sizes) (t : List ℕ) : Type 0 where

@@ -16,8 +16,7 @@ ghost use mathlib.Core.Path.{_≡_};
 ghost use mathlib.Core.List.{_++_};
 ghost use mathlib.Core.Bool.{true};
 ghost use Prim.Native.Nat.{suc, _+_, _*_, _≤_, _<_};
-ghost use lib.ListN.{length, getD, set, take, drop};
-ghost use Rattle.cells.specs.Cells as cells;
+ghost use lib.ListN.{length, getD, set, drop};
 ghost use Rattle.meaning.specs.Program as program;
 ghost use Rattle.meaning.specs.Rows as rows;
 ghost use Rattle.header.specs.Header as header;
@@ -45,8 +44,8 @@ pub fn sizes(
     ctors: usize,
     fields: usize,
 ) -> Sizes
-    requires { ⌜ sizing.Counted (cells.lines-of (take (6 * lines) (drop 11 (now t)))) lines names args types decls ctors fields ⌝ }
-    ensures { λ r. ⌜ r ≡ tables.sizes-of (cells.lines-of (take (6 * lines) (drop 11 (now (t .entry))))) ⌝ }
+    requires { ⌜ sizing.Counted (index.behind lines (now t)) lines names args types decls ctors fields ⌝ }
+    ensures { λ r. ⌜ r ≡ tables.sizes-of (index.behind lines (now (t .entry))) ⌝ }
 {
     let params = lines - (names + args + types + decls * 2 + ctors + fields);
     Sizes {

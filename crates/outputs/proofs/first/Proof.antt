@@ -2,7 +2,7 @@
 use mathlib.Core.Logic.{inl}
 use native.Mathlib.Omega.{arith}
 use borrow.Author.Needs.{needs}
-use Rattle.outputs.specs.OutputsLaws.{tries-less}
+use Rattle.sheets.specs.SheetsLaws.{tries-less}
 use Rattle.outputs.proofs.first.Statement.{statement}
 use Rattle.outputs.proofs.first.Tie as tie
 
