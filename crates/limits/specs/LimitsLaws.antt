@@ -12,7 +12,7 @@ use lib.ListN.{length, take}
 use lib.Seq.{take-length}
 use borrow.Author.Tests.{lt-ltb, le-ltb, ltb-true, ltb-false, leb-true, leb-false, eqb-true}
 use Rattle.columns.specs.Column.{pick}
-use Rattle.sheet.specs.Format.{Format, base}
+use Rattle.sheet.specs.Format.{Format, base, Wider}
 use Rattle.sheet.specs.Line.{Line, letter}
 use Rattle.sheet.specs.Sheet.{first, row1}
 use Rattle.sheet.specs.FirstLaws.{Place, first-place, first-le-at, first-found, first-none, none-first}
@@ -201,6 +201,34 @@ module _ (f : Format) (ls : List Line) (none-past : first (row4 f ls) (length ls
         ctors = rw w at (ctors-kept (length ls) r);
         fields = rw w at (fields-kept (length ls) r);
       }
+
+-- ---- wider limits
+leb-wider : (m n k : ℕ) → m ≤ n → leb m k ≡ false → leb n k ≡ false
+leb-wider m n k h e = go (leb n k) refl
+  where
+    go : (c : Bool) → leb n k ≡ c → c ≡ false
+    go true q = absurd (omega (arith, leb-false m k e, leb-true n k q))
+    go false q = refl
+
+-- a line that is not past narrow limits is not past wide ones
+past-wider : (f g : Format) → Wider f g → (t : Tally) (x : ℕ) → Kind x → past f t x ≡ false → past g t x ≡ false
+unfolding past
+past-wider f g w t x (a-name k) e = rw k (leb-wider (f .names) (g .names) (t .names) (w .names) (rw k at e))
+past-wider f g w t x (an-arg k) e = rw k (leb-wider (f .args) (g .args) (t .args) (w .args) (rw k at e))
+past-wider f g w t x (a-type k) e = rw k (leb-wider (f .types) (g .types) (t .types) (w .types) (rw k at e))
+past-wider f g w t x (a-local k) e = rw k (leb-wider (f .decls) (g .decls) (t .decls) (w .decls) (rw k at e))
+past-wider f g w t x (an-import k) e = rw k (leb-wider (f .decls) (g .decls) (t .decls) (w .decls) (rw k at e))
+past-wider f g w t x (a-param k) e = rw k (leb-wider (f .params) (g .params) (t .params) (w .params) (rw k at e))
+past-wider f g w t x (a-ctor k) e = rw k (leb-wider (f .ctors) (g .ctors) (t .ctors) (w .ctors) (rw k at e))
+past-wider f g w t x (a-field k) e = rw k (leb-wider (f .fields) (g .fields) (t .fields) (w .fields) (rw k at e))
+past-wider f g w t x (another n a y d i p c z) e = rw (n, a, y, d, i, p, c, z)
+
+pub row4-wider : (f g : Format) → Wider f g → (ls : List Line) → first (row4 f ls) (length ls) ≡ length ls → first (row4 g ls) (length ls) ≡ length ls
+row4-wider f g w ls e =
+    first-none (row4 g ls) (length ls)
+    (λ i h.
+    let x : ℕ = letter (line-at ls i) in
+    row4-past g ls i ∙ past-wider f g w (tally-before ls i) x (kind x) (sym (row4-past f ls i) ∙ none-first (row4 f ls) (length ls) e i h))
 
 -- ---- where declarations begin
 module _ (ls : List Line) where

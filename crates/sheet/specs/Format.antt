@@ -1,6 +1,6 @@
 -- A sheet's format: the columns of a number and the limits (FORMAT, sections 1 and 2). Every other
 -- length of a line follows from the columns. Assumes nothing.
-use Prim.Native.Nat.{_^_, _<_, ℕ, _+_, _*_}
+use Prim.Native.Nat.{_^_, _<_, _≤_, ℕ, _+_, _*_}
 
 pub record Format : Type 0 where
   -- columns of a number
@@ -35,6 +35,22 @@ base = record {
   fuel = 100;
 }
 
+-- The largest limits that the passes are held to. A format's owner lends what its own limits need.
+abbrev pub largest : Format
+largest = record {
+  columns = 9;
+  lines = 16384;
+  names = 2048;
+  args = 2048;
+  types = 4096;
+  decls = 512;
+  ctors = 1024;
+  fields = 2048;
+  params = 8;
+  nodes = 1024;
+  fuel = 513;
+}
+
 -- a letter, five numbers and byte 10
 abbrev pub lineBytes : ℕ → ℕ
 lineBytes w = 5 * w + 2
@@ -49,3 +65,15 @@ pub record Ample (f : Format) : Type 0 where
   pub counts : f .lines < 10 ^ f .columns
   pub nodes : f .nodes * (f .decls + f .fields) < 10 ^ f .columns
   pub depth : f .decls < f .fuel
+
+-- no limit of f is past g's
+pub record Wider (f g : Format) : Type 0 where
+  pub columns : 10 ^ f .columns ≤ 10 ^ g .columns
+  pub lines : f .lines ≤ g .lines
+  pub names : f .names ≤ g .names
+  pub args : f .args ≤ g .args
+  pub types : f .types ≤ g .types
+  pub decls : f .decls ≤ g .decls
+  pub ctors : f .ctors ≤ g .ctors
+  pub fields : f .fields ≤ g .fields
+  pub params : f .params ≤ g .params
