@@ -14,7 +14,6 @@ use Rattle.meaning.specs.Rows.{count-of, count-before}
 use Rattle.meaning.specs.Laws.Program.{select-append}
 use Rattle.limits.specs.Limits.{counts-of}
 use Rattle.declared.specs.Passed.{Passed}
-use Rattle.declared.specs.PassedLaws.{passed-kept}
 use Rattle.tables.specs.Tables.{nth, decls-of, first-of}
 use Rattle.outcomes.specs.Outcome.{one, argument}
 use Rattle.outcomes.specs.Scratch.{part}
@@ -87,14 +86,6 @@ select-le x (l ∷ ls) = go (is x l) (select-le x ls)
     go : (b : Bool) → count-of x ls ≤ length ls → length (pick b (l ∷ select x ls) (select x ls)) ≤ suc (length ls)
     go true h = omega arith
     go false h = omega arith
-
-module _ (ls : List Line) (passed : Passed ls) where
-  pub params-few : count-of param-line ls ≤ 2048
-  params-few = omega (arith, select-le param-line ls, passed .few)
-
-  pub decls-few : decls-of ls ≤ 96
-  unfolding counts-of
-  decls-few = passed-kept ls passed .decls
 
 -- what the code seeks
 pub found-of : (ls : List Line) (d : ℕ) (xs : List ℕ) (at count v first end : ℕ) → first ≡ first-of param-line ls d → end ≡ first-of param-line ls (d + 1) →

@@ -21,7 +21,6 @@ use Rattle.model_laws.specs.Rounds.{cases-eq}
 use Rattle.limits.specs.Limits.{start, counts-of}
 use Rattle.header.specs.OrderLaws.{count-of-le}
 use Rattle.declared.specs.Passed.{Passed}
-use Rattle.declared.specs.PassedLaws.{passed-kept}
 use Rattle.tables.specs.Tables.{nth, group, head-line, decls-of, first-of}
 use Rattle.declared.specs.LineLaws.{stands, good-line}
 use Rattle.declared.specs.DeclLaws.{line-inside, line-of-head, group-is, first-next, nth-in, dtype-is, origin-local, whole-at}
@@ -75,14 +74,6 @@ pub last-types : (ls : List Line) → Passed ls → (d : ℕ) → d < decls-of l
 last-types ls p d h k =
     let m : head-line ls d ≡ line-at ls (start ls d) = ap (λ (g : Group). g .head) (group-is ls d h) in
     rw (← m) at (good-last (count-of name-line ls) (count-of type-line ls) (line-at ls (start ls d)) (good-head-at ls p d h) (rw m at k))
-
--- ---- the limits
-pub fields-few : (ls : List Line) → Passed ls → count-of field-line ls ≤ 2048
-fields-few ls p = omega (arith, count-of-le field-line ls, p .few)
-
-pub types-few : (ls : List Line) → Passed ls → count-of type-line ls ≤ 1024
-unfolding counts-of
-types-few ls p = passed-kept ls p .types
 
 -- ---- a local declaration
 module _ (ls : List Line) (p : Passed ls) (d : ℕ) (h : d < decls-of ls) where

@@ -11,7 +11,7 @@ use Rattle.answer.specs.declared.Refusal.the-variants.{Accepted}
 use Rattle.answer.specs.Answer.{sheet-rows, refusal}
 use Rattle.limits.specs.declared.Counts.{Counts}
 use Rattle.limits.specs.Limits.{counts-of}
-use Rattle.declared.specs.Passed.{Passed}
+use Rattle.declared.specs.Passed.{Bounded, Passed}
 use Rattle.tables.specs.declared.Sizes.{Sizes}
 use Rattle.table_index.specs.Index.{Ready, behind, lines-behind}
 
@@ -26,6 +26,7 @@ pub record Checked (b t : List ℕ) (c : Counts) : Type 0 where
   pub accepts : Accepts b
   pub lines-are : behind (count 6 b) t ≡ map bare (lines 6 b)
   pub passed : Passed (behind (count 6 b) t)
+  pub bounded : Bounded base (behind (count 6 b) t)
   pub counts : c ≡ counts-of (behind (count 6 b) t)
   pub room : 8 * count 6 b + 16 ≤ length t
 
@@ -33,4 +34,5 @@ pub record Checked (b t : List ℕ) (c : Counts) : Type 0 where
 pub record Lined (b t : List ℕ) (z : Sizes) : Type 0 where
   pub accepts : Accepts b
   pub lines-are : lines-behind z t ≡ map bare (lines 6 b)
+  pub bounded : Bounded base (lines-behind z t)
   pub ready : Ready z t

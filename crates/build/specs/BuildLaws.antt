@@ -22,7 +22,6 @@ use Rattle.limits.specs.declared.Counts.{Counts}
 use Rattle.limits.specs.Limits.{counts-of}
 use Rattle.limits.specs.LimitsLaws.{fields-kept}
 use Rattle.declared.specs.Passed.{Passed}
-use Rattle.declared.specs.PassedLaws.{passed-kept}
 use Rattle.refusals.specs.declared.Checked as rows
 use Rattle.refusals.specs.Rows.{with-counts, checked-of, Checks}
 use Rattle.refusals.specs.RowsLaws.{checked-accepted}
@@ -75,6 +74,7 @@ module _ (b t : List ℕ) (r : rows.Checked) (short : row1 base b ≡ false) (e 
         accepts = record { short = short; no-bad = y .no-bad; sheet = checked-accepted b r (c .answer) a };
         lines-are = q ∙ y .lines-are;
         passed = rw q (y .passed);
+        bounded = rw q (y .bounded);
         counts = y .counts-are ∙ ap counts-of (sym q);
         room = room;
       }
@@ -108,16 +108,17 @@ module _ (b t : List ℕ) (k : Counts) (c : Checked b t k) where
         record {
           accepts = c .accepts;
           lines-are = q ∙ c .lines-are;
+          bounded = rw q (c .bounded);
           ready = record { passed = rw q (c .passed); sizes = s ∙ ap sizes-of (sym q); room = length-take-le (m - 0) t (omega (arith, part-room)) ∙ v ∙ w };
         }
 
-pub cells-small : (b t : List ℕ) (k : Counts) → Checked b t k → (z : Sizes) → z ≡ sizes-of (behind (count 6 b) t) → cell-count z < 65536
+pub cells-small : (b t : List ℕ) (k : Counts) → Checked b t k → (z : Sizes) → z ≡ sizes-of (behind (count 6 b) t) → cell-count z < 262144
 cells-small b t k c z s = rw s (cells-few (behind (count 6 b) t) (c .passed))
 
 -- the table, beside the bytes
 pub read-of : (b t : List ℕ) (z : Sizes) (t′ : List ℕ) → Lined b t z → Tabled t′ → lines-in t′ ≡ lines-behind z t → Read b t′
 read-of b t z t′ c m e =
-    record { of = record { tabled = m; short = c .accepts .short; no-bad = c .accepts .no-bad; lines-are = e ∙ c .lines-are }; sheet = c .accepts .sheet }
+    record { of = record { tabled = m; short = c .accepts .short; no-bad = c .accepts .no-bad; lines-are = e ∙ c .lines-are; bounded = rw e (c .bounded) }; sheet = c .accepts .sheet }
 
 pub names-of : (b t : List ℕ) (z : Sizes) (t′ : List ℕ) → Lined b t z → lines-in t′ ≡ lines-behind z t → z .names ≡ count-of name-line (lines-in t′)
 unfolding sizes-of
@@ -137,13 +138,6 @@ gives-sheet b v l code place e =
 -- the first n cells
 pub part-length : (m n : ℕ) → n ≤ m → length {A = ℕ} (take (n - 0) (replicate m 0)) ≡ n
 part-length m n h = let e : n - 0 ≡ n = omega arith in rw e (length-take-le n (replicate m 0) (rw length-replicate h))
-
-pub decls-few : (ls : List Line) → Passed ls → decls-of ls ≤ 96
-unfolding counts-of
-decls-few ls p = passed-kept ls p .decls
-
-pub fields-few : (ls : List Line) → Passed ls → count-of field-line ls ≤ 512
-fields-few ls p = rw (take-length ls) at (fields-kept base ls (p .in-limits) (length ls) (omega arith))
 
 -- ---- calls
 -- A call of the build is a call that the claims speak of (`cut-calls`).

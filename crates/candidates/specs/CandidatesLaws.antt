@@ -22,6 +22,7 @@ use Rattle.meaning.specs.Laws.Program.{length-program}
 use Rattle.declared.specs.Passed.{Passed}
 use Rattle.tables.specs.Tables.{head-line, decls-of}
 use Rattle.declared.specs.DeclLaws.{dtype-is, origin-local, origin-import}
+use Rattle.declared.specs.PassedLaws.{fields-few}
 use Rattle.marks.specs.Marks.{marks-of}
 use Rattle.marks.specs.MarksLaws.{marks-at}
 use Rattle.kids.specs.Nodes.{type-of}
@@ -69,9 +70,6 @@ module _ (ls : List Line) (d : ℕ) (h : d < decls-of ls) where
         go false o = refl
 
 -- ---- by numbers
-pub fields-few : (ls : List Line) → Passed ls → count-of field-line ls < no-field
-fields-few ls p = omega (arith, bodies.fields-few ls p)
-
 module _ (ls : List Line) (p : Passed ls) (d : ℕ) where
   pub none-told : candidate-of ls d ≡ none → Candidate ls d no-field
   unfolding field-told

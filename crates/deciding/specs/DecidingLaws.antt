@@ -25,10 +25,10 @@ use Rattle.answer.specs.declared.Refusal.the-variants.{Accepted, Refused}
 use Rattle.limits.specs.Limits.{start}
 use Rattle.declared.specs.Passed.{Passed}
 use Rattle.declared.specs.BareLaws.{place8-bare, fault-bare, place9-10-bare}
+use Rattle.declared.specs.PassedLaws.{decls-within}
 use Rattle.tables.specs.Tables.{decls-of, lines-in}
 use Rattle.tables.specs.OfSheet.{OfSheet, program-same}
 use Rattle.head_rows.specs.HeadRows.{returns-row, faults-row, resolvable}
-use Rattle.keeps.specs.KeepsLaws.{decls-few}
 use Rattle.loops.specs.Loops.{First}
 use Rattle.returning.specs.ReturningLaws.{no-return, ranked-all}
 use Rattle.rows9.specs.Attempts.{Asked}
@@ -127,7 +127,7 @@ module _ (b t u rank keep : List ℕ) (f : Found b t u rank keep) where
   eight-bytes = sym (eight-same b t (f .read .of)) ∙ f .eight
 
   pub asked-of : Asked (lines-in t) t u keep
-  asked-of = record { tabled = f .ranked .tabled; settled = f .settled; slotted = f .slotted; fields = f .keeps; no-return = f .no-return }
+  asked-of = record { tabled = f .ranked .tabled; bounded = f .read .of .bounded; settled = f .settled; slotted = f .slotted; fields = f .keeps; no-return = f .no-return }
 
   pub gives-faults : (v l : List ℕ) (code place : ℕ) → refusal (faults-row base (lines-in t) ∷ []) ≡ Refused code place → Gives b v l (refused-as code place) v l
   gives-faults v l code place e =
@@ -151,7 +151,7 @@ module _ (b t u rank keep : List ℕ) (c : Clear b t u rank keep) where
         resolvable = resolvable base (lines-in t) (c .found .eight) (c .faults);
         keeps = c .found .keeps;
         verdict-room = h;
-        cells = omega (arith, decls-few (lines-in t) (c .found .ranked .tabled .passed));
+        cells = omega (arith, decls-within base (lines-in t) (c .found .read .of .bounded));
         small = omega arith;
         stacked = omega arith;
       }

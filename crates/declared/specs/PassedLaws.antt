@@ -3,25 +3,25 @@
 use mathlib.Core.Path.{_≡_, ap, sym, _∙_}
 use mathlib.Core.List.{List, map}
 use mathlib.Core.Bool.{true}
-use Prim.Native.Nat.{ℕ, suc, _+_, _-_, _<_}
+use Prim.Native.Nat.{ℕ, suc, _+_, _-_, _^_, _≤_, _<_}
 use native.Mathlib.Omega.{arith}
 use lib.ListN.{length}
 use borrow.Author.Tests.{eq-eqb, lt-ltb, le-ltb}
-use Rattle.sheet.specs.Format.{base}
+use Rattle.sheet.specs.Format.{Format, base, largest, Wider}
 use Rattle.sheet.specs.Line.{Line, letter, number}
 use Rattle.sheet.specs.FirstLaws.{first-place, place-unique}
 use Rattle.sheet.specs.ListLaws.{contrary}
 use Rattle.model.specs.Names.{Distinct}
-use Rattle.meaning.specs.Program.{name-line, arg-line, type-line, is, program}
+use Rattle.meaning.specs.Program.{name-line, arg-line, type-line, param-line, ctor-line, field-line, is, program}
 use Rattle.meaning.specs.Rows.{line-at, count-of, count-before}
 use Rattle.answer.specs.Laws.Pass.{distinct-heads}
 use Rattle.bares.specs.RowLaws.{renumbers, repeats-number}
-use Rattle.header.specs.OrderLaws.{Ordered, ordered-of, arg-at, type-before}
+use Rattle.header.specs.OrderLaws.{Ordered, ordered-of, arg-at, type-before, count-of-le}
 use Rattle.order.specs.StepLaws.{count-before-step, count-before-mono}
 use Rattle.limits.specs.Limits.{start, counts-of, Kept}
-use Rattle.limits.specs.LimitsLaws.{counts-kept}
+use Rattle.limits.specs.LimitsLaws.{counts-kept, row4-wider}
 use Rattle.declared.specs.Lines.{nth, place-of, head-line, decls-of}
-use Rattle.declared.specs.Passed.{Passed}
+use Rattle.declared.specs.Passed.{Bounded, Passed}
 use Rattle.declared.specs.LineLaws.{Stands, stands}
 use Rattle.declared.specs.DeclLaws.{group-is}
 
@@ -46,6 +46,58 @@ nth-place x ls j h =
 pub head-place : (ls : List Line) (d : ℕ) → d < decls-of ls → head-line ls d ≡ line-at ls (start ls d)
 head-place ls d h = ap (λ g. g .head) (group-is ls d h)
 
+-- ---- the limits of a format
+module _ (f : Format) (ls : List Line) (w : Bounded f ls) where
+  pub nth-within : (x j k : ℕ) → j < count-of x ls → number (nth x ls j) k < 10 ^ f .columns
+  nth-within x j k h = rw (nth-place x ls j h .1) (w .small (place-of x ls j) k)
+
+  kept : Kept f (counts-of ls)
+  kept = counts-kept f ls (w .in-limits)
+
+  pub names-within : count-of name-line ls ≤ f .names
+  unfolding counts-of
+  names-within = kept .names
+
+  pub args-within : count-of arg-line ls ≤ f .args
+  unfolding counts-of
+  args-within = kept .args
+
+  pub types-within : count-of type-line ls ≤ f .types
+  unfolding counts-of
+  types-within = kept .types
+
+  pub decls-within : decls-of ls ≤ f .decls
+  unfolding counts-of
+  decls-within = kept .decls
+
+  pub ctors-within : count-of ctor-line ls ≤ f .ctors
+  unfolding counts-of
+  ctors-within = kept .ctors
+
+  pub fields-within : count-of field-line ls ≤ f .fields
+  unfolding counts-of
+  fields-within = kept .fields
+
+-- narrow limits are within wide ones
+pub bounded-wider : (f g : Format) → Wider f g → (ls : List Line) → Bounded f ls → Bounded g ls
+bounded-wider f g v ls w = record { few = omega (arith, w .few, v .lines); small = λ i k. omega (arith, w .small i k, v .columns); in-limits = row4-wider f g v ls (w .in-limits) }
+
+pub bounded-largest : (ls : List Line) → Bounded base ls → Bounded largest ls
+bounded-largest =
+    bounded-wider base largest
+    (record {
+      columns = omega arith;
+      lines = omega arith;
+      names = omega arith;
+      args = omega arith;
+      types = omega arith;
+      decls = omega arith;
+      ctors = omega arith;
+      fields = omega arith;
+      params = omega arith;
+    })
+
+-- ---- what a sheet that passed says
 module _ (ls : List Line) (p : Passed ls) where
   pub ordered : Ordered 0 (map letter ls)
   ordered = ordered-of ls (p .in-order)
@@ -60,11 +112,32 @@ module _ (ls : List Line) (p : Passed ls) where
       r .same ∙ ap (line-at ls) e
 
   -- ---- the limits
-  pub nth-small : (x j k : ℕ) → j < count-of x ls → number (nth x ls j) k < 1000000
-  nth-small x j k h = rw (nth-place x ls j h .1) (p .small (place-of x ls j) k)
+  pub nth-small : (x j k : ℕ) → j < count-of x ls → number (nth x ls j) k < 1000000000
+  nth-small = nth-within largest ls (p .bounded)
 
-  pub passed-kept : Kept base (counts-of ls)
-  passed-kept = counts-kept base ls (p .in-limits)
+  pub lines-few : length ls ≤ 16384
+  lines-few = p .bounded .few
+
+  pub names-few : count-of name-line ls ≤ 2048
+  names-few = names-within largest ls (p .bounded)
+
+  pub args-few : count-of arg-line ls ≤ 2048
+  args-few = args-within largest ls (p .bounded)
+
+  pub types-few : count-of type-line ls ≤ 4096
+  types-few = types-within largest ls (p .bounded)
+
+  pub decls-few : decls-of ls ≤ 512
+  decls-few = decls-within largest ls (p .bounded)
+
+  pub ctors-few : count-of ctor-line ls ≤ 1024
+  ctors-few = ctors-within largest ls (p .bounded)
+
+  pub fields-few : count-of field-line ls ≤ 2048
+  fields-few = fields-within largest ls (p .bounded)
+
+  pub params-few : count-of param-line ls ≤ 16384
+  params-few = omega (arith, count-of-le param-line ls, lines-few)
 
   -- ---- row 6
   pub distinct-names : Distinct (program ls)

@@ -18,7 +18,6 @@ use Rattle.meaning.specs.Laws.Program.{length-program}
 use Rattle.limits.specs.Limits.{counts-of}
 use Rattle.type_lines.specs.TypeLists.{types-of}
 use Rattle.declared.specs.Passed.{Passed}
-use Rattle.declared.specs.PassedLaws.{passed-kept}
 use Rattle.tables.specs.Tables.{nth, head-line, decls-of}
 use Rattle.declared.specs.TypeLaws.{good-app, good-type-at}
 use Rattle.declared.specs.DeclLaws.{origin-local, origin-import, verdict-is}
@@ -26,15 +25,6 @@ use Rattle.marks.specs.Marks.{part, marks-of, type-erased}
 use Rattle.marks.specs.MarksLaws.{bit-one, marks-at}
 use Rattle.rounds.specs.Rounds.{Uses, Running, Ended}
 use Rattle.erasure.specs.Fixpoint.{named, Fresh, Fixed, Fixpoint}
-
--- ---- the limits
-pub types-few : (ls : List Line) → Passed ls → count-of type-line ls ≤ 1024
-unfolding counts-of
-types-few ls p = passed-kept ls p .types
-
-pub decls-few : (ls : List Line) → Passed ls → decls-of ls ≤ 96
-unfolding counts-of
-decls-few ls p = passed-kept ls p .decls
 
 -- the name of a `TApp` is a name
 pub name-of-app : (ls : List Line) → Passed ls → (y : ℕ) → y < count-of type-line ls → part ls y 0 ≡ 8 → part ls y 1 < count-of name-line ls

@@ -13,7 +13,7 @@ use Rattle.outcomes.specs.Answer.{Told}
 use Rattle.outcomes.specs.Laws.Fuel.{Leads}
 use Rattle.memory.specs.Slots.{Slots}
 use Rattle.states.specs.States.{resolves-of}
-use Rattle.resolving.specs.Resolver.{Setup, call-of, type-of-decl}
+use Rattle.resolving.specs.Resolver.{Setup, fuel-of, call-of, type-of-decl}
 use Rattle.faults.specs.declared.First.{First}
 use mathlib.Core.Path.{_≡_}
 
@@ -33,7 +33,7 @@ module _ (ls : List Line) (u : List ℕ) (d room : ℕ) where
   -- resolve, or those before one do, and of that one r says why it does not.
   pub data Answers : List ℕ → ℕ → Type 0 where
     clear : {r : ℕ} → 4 ≤ r → Answers [] r
-    stops : {y : ℕ} {ys : List ℕ} {r : ℕ} → r < 4 → Told (type-of-decl ls u d y) 97 r (room < 1024 * 97) r → Answers (y ∷ ys) r
+    stops : {y : ℕ} {ys : List ℕ} {r : ℕ} → r < 4 → Told (type-of-decl ls u d y) (fuel-of ls) r (room < 1024 * fuel-of ls) r → Answers (y ∷ ys) r
     goes : {y : ℕ} {ys : List ℕ} {r : ℕ} → Fine (type-of-decl ls u d y) → Answers ys r → Answers (y ∷ ys) r
 
   -- and every remembered call has its answer

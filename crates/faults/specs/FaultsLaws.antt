@@ -15,20 +15,20 @@ use Rattle.sheet.specs.ListLaws.{Every, getD-within}
 use Rattle.model.specs.Resolve.{Result}
 use Rattle.meaning.specs.Program.{field-line}
 use Rattle.meaning.specs.Rows.{count-of}
+use Rattle.declared.specs.PassedLaws.{decls-few}
 use Rattle.tables.specs.Tables.{decls-of, first-of}
 use Rattle.kept.specs.Kept.{body-kind, body-last, field-type}
 use Rattle.bodies.specs.BodiesLaws.{field-types, last-types, first-le}
-use Rattle.arguments.specs.ParamsLaws.{decls-few}
 use Rattle.outcomes.specs.Laws.Fuel.{Leads}
 use Rattle.outcomes.specs.Laws.Answer.{answer-value}
 use Rattle.memory.specs.Slots.{Slots}
 use Rattle.states.specs.States.{state, body-of, kept-types, resolves-of}
-use Rattle.resolving.specs.Resolver.{Place, call-of, type-of-decl, Found}
+use Rattle.resolving.specs.Resolver.{Place, fuel-of, call-of, type-of-decl, Found}
 use Rattle.faults.specs.Faults.{Kept, Fine, Answers, clear, stops, goes, Went, AllFine, Firstly}
 
 -- what the resolution found of one type
 module _ (ls : List Line) (u : List ℕ) (d y : ℕ) (out out′ slots′ : List ℕ) (r : ℕ)
-    (f : Found (type-of-decl ls u d y) 97 0 0 out out′ (call-of ls u) slots′ r) where
+    (f : Found (type-of-decl ls u d y) (fuel-of ls) 0 0 out out′ (call-of ls u) slots′ r) where
   found-fine : 4 ≤ r → Fine (type-of-decl ls u d y)
   found-fine h =
       record {
@@ -77,7 +77,7 @@ module _ (ls : List Line) (u keep : List ℕ) (d room from f end : ℕ) (h : f <
     pub rest-skip : (getD keep f 0 ≡ 1 → ⊥) → Rest ls u keep d room from (f + 1) end
     rest-skip e = record { goes-on = λ r a. rest .goes-on r (subst (λ (ys : List ℕ). Answers ls u d room ys r) (sym (kept-no e)) a) }
 
-    module _ (y : ℕ) (ey : y ≡ field-type ls f) (out out′ slots′ : List ℕ) (r : ℕ) (f′ : Found (type-of-decl ls u d y) 97 0 0 out out′ (call-of ls u) slots′ r)
+    module _ (y : ℕ) (ey : y ≡ field-type ls f) (out out′ slots′ : List ℕ) (r : ℕ) (f′ : Found (type-of-decl ls u d y) (fuel-of ls) 0 0 out out′ (call-of ls u) slots′ r)
         (kept : getD keep f 0 ≡ 1) where
       listed : kept-types ls keep f (end - f) ≡ y ∷ kept-types ls keep (f + 1) (end - (f + 1))
       listed = kept-yes kept ∙ ap (λ (x : ℕ). x ∷ kept-types ls keep (f + 1) (end - (f + 1))) (sym ey)
@@ -172,7 +172,7 @@ module _ (ls : List Line) (t u keep : List ℕ) (kept : Kept ls t u keep) (d : �
   pub payload-place : cell ≡ 1 → Place ls t u (body-of u d) d
   payload-place e = record { setup = kept .setup; type = kept .setup .states .bodies d h (inl (state-is ∙ e)); decl = h }
 
-  pub decl-payload : cell ≡ 1 → (out out′ slots′ : List ℕ) (r : ℕ) → Found (type-of-decl ls u d (body-of u d)) 97 0 0 out out′ (call-of ls u) slots′ r → Went ls u d (length out) (resolves-of ls u keep d) r slots′
+  pub decl-payload : cell ≡ 1 → (out out′ slots′ : List ℕ) (r : ℕ) → Found (type-of-decl ls u d (body-of u d)) (fuel-of ls) 0 0 out out′ (call-of ls u) slots′ r → Went ls u d (length out) (resolves-of ls u keep d) r slots′
   decl-payload e out out′ slots′ r f =
       went-same ls u d (length out) (resolves-of ls u keep d) (body-of u d ∷ []) r slots′ (resolves-payload ls u keep d (state-is ∙ e)) (found-one ls u d (body-of u d) out out′ slots′ r f (length out) refl)
 
@@ -189,7 +189,7 @@ module _ (ls : List Line) (t u keep : List ℕ) (kept : Kept ls t u keep) (d : �
     pub abbrev-place : kind ≡ 1 → (y : ℕ) → y ≡ body-last ls d → Place ls t u y d
     abbrev-place e y q = record { setup = kept .setup; type = omega (arith, last-types ls (kept .setup .tabled .passed) d h (sym ek ∙ e)); decl = h }
 
-    pub decl-abbrev : kind ≡ 1 → (y : ℕ) → y ≡ body-last ls d → (out out′ slots′ : List ℕ) (r : ℕ) → Found (type-of-decl ls u d y) 97 0 0 out out′ (call-of ls u) slots′ r → Went ls u d (length out) (resolves-of ls u keep d) r slots′
+    pub decl-abbrev : kind ≡ 1 → (y : ℕ) → y ≡ body-last ls d → (out out′ slots′ : List ℕ) (r : ℕ) → Found (type-of-decl ls u d y) (fuel-of ls) 0 0 out out′ (call-of ls u) slots′ r → Went ls u d (length out) (resolves-of ls u keep d) r slots′
     decl-abbrev e y q out out′ slots′ r f =
         went-same ls u d (length out) (resolves-of ls u keep d) (y ∷ []) r slots′ (resolves-abbrev ls u keep d s0 s1 (sym ek ∙ e) ∙ ap (λ (x : ℕ). x ∷ []) (sym q)) (found-one ls u d y out out′ slots′ r f (length out) refl)
 
@@ -202,5 +202,5 @@ module _ (ls : List Line) (t u keep : List ℕ) (kept : Kept ls t u keep) (d : �
   pub fields-inside : (end : ℕ) → end ≡ first-of field-line ls (d + 1) → end ≤ count-of field-line ls
   fields-inside end e = omega (arith, first-le field-line ls (d + 1))
 
-pub kept-decls : (ls : List Line) (t u keep : List ℕ) → Kept ls t u keep → decls-of ls ≤ 96
+pub kept-decls : (ls : List Line) (t u keep : List ℕ) → Kept ls t u keep → decls-of ls ≤ 512
 kept-decls ls t u keep kept = decls-few ls (kept .setup .tabled .passed)

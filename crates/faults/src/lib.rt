@@ -91,7 +91,7 @@ fn decl_fault(
 }
 
 // Resolves what is resolved of each declaration, up to the first type that does not resolve. With
-// 97 * 1,024 places to work in it never answers that there is no room.
+// 1,024 places for each declaration and as many more it never answers that there is no room.
 pub fn first_fault(t: &[u32], u: &[u16], keep: &[u8], out: &mut [u16], slots: &mut [u16]) -> First
     requires { ⌜ faults.Kept (tables.lines-in (now t)) (now t) (now u) (now keep) ⌝ }
     requires { ⌜ Slots (resolver.call-of (tables.lines-in (now t)) (now u)) (now slots) ⌝ }

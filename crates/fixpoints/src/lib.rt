@@ -2,6 +2,7 @@
 mod first_marks;
 
 use erasure::Erasure;
+ghost use Rattle.sheet.specs.Format.{base};
 ghost use Rattle.tables.specs.Tables as tables;
 ghost use Rattle.erasure.specs.Fixpoint as fixpoint;
 
@@ -30,7 +31,7 @@ fn fixpoint(
 
 // Layout's `erasure_fixpoint`.
 pub fn erasure_fixpoint(t: &[u32]) -> Erasure
-    requires { ⌜ tables.Tabled (now t) ⌝ }
+    requires { ⌜ tables.TabledIn base (now t) ⌝ }
     ensures { λ r. ⌜ fixpoint.Fixpoint (tables.lines-in (now (t .entry))) r ⌝ }
 {
     let n = tables::decls(t);

@@ -4,6 +4,8 @@ mod rank_bounds;
 ghost use mathlib.Core.Path.{_≡_};
 ghost use Prim.Native.Nat.{ℕ, _*_, _≤_, _<_};
 ghost use lib.ListN.{length, getD};
+ghost use Rattle.sheet.specs.Format.{base};
+ghost use Rattle.declared.specs.Passed.{Bounded};
 ghost use Rattle.tables.specs.Tables.{decls-of, lines-in};
 ghost use Rattle.normal_forms.specs.Ranks.{Ranked, Formed};
 ghost use Rattle.form_tables.specs.Bounds.{Starts, Ends};
@@ -70,7 +72,7 @@ fn bounded(
 // The normal forms of all unfolded declarations, callees first, and the place after them; a place past the end where the list
 // or the scratch is too short.
 pub fn normal_forms(t: &[u32], u: &[u16], rank: &[u16], f: &mut [u64], scratch: &mut [u64]) -> usize
-    requires { ⌜ Ranked (lines-in (now t)) (now t) (now u) (now rank) × (2 * decls-of (lines-in (now t)) ≤ length (now f)) ⌝ }
+    requires { ⌜ Ranked (lines-in (now t)) (now t) (now u) (now rank) × (2 * decls-of (lines-in (now t)) ≤ length (now f)) × Bounded base (lines-in (now t)) ⌝ }
     ensures { λ e. ⌜ Formed (lines-in (now (t .entry))) (now (u .entry)) (now (rank .entry)) (length (now (scratch .entry))) (now (f .entry)) (now (f .exit)) e ⌝ }
 {
     let mut start = [0u16; 96];

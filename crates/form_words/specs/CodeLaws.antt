@@ -29,8 +29,8 @@ use Rattle.form_words.specs.Emit.{run, step, filled, grown, form-words, 
 use Rattle.form_words.specs.Filling.{leaf, leaf-var, leaf-own}
 use Rattle.model_laws.specs.Names.{position-le}
 use Rattle.meaning.specs.Laws.Program.{length-program}
-use Rattle.arguments.specs.ParamsLaws.{decls-few}
-use Rattle.kids.specs.NodesLaws.{node-at, kids-8, args-few}
+use Rattle.declared.specs.PassedLaws.{decls-few, args-few}
+use Rattle.kids.specs.NodesLaws.{node-at, kids-8}
 use Rattle.form_words.specs.EmitLaws.{words-var, words-plain, words-gone, words-stays, placed-words, words-exact, words-placed}
 
 -- other words that are the same
@@ -371,7 +371,7 @@ state-below u m x d e h l = go (ltb (2 * m) (length u)) refl
     go false q = absurd (omega (arith, e, List·getD-eq-default u 3 {n = 2 * m} (ltb-false (2 * m) (length u) q)))
 
 -- a name's declaration, or their number
-pub place-few : (ls : List Line) → Passed ls → (n : ℕ) → position (program ls) n ≤ 96
+pub place-few : (ls : List Line) → Passed ls → (n : ℕ) → position (program ls) n ≤ 512
 place-few ls passed n = omega (arith, position-le (program ls) n, length-program ls, decls-few ls passed)
 
 pub count-few : (w : ℕ) → node-of w .count < 1024
@@ -379,7 +379,7 @@ unfolding node-of
 count-few w = omega arith
 
 -- a name has few arguments
-pub name-kids : (ls : List Line) (passed : Passed ls) (y : ℕ) → y < count-of type-line ls → kind-of ls y ≡ 8 → kids-of ls y ≤ 512
+pub name-kids : (ls : List Line) (passed : Passed ls) (y : ℕ) → y < count-of type-line ls → kind-of ls y ≡ 8 → kids-of ls y ≤ 2048
 name-kids ls passed y h k = omega (arith, kids-8 ls y k, node-at ls passed y h .listed8 k, args-few ls passed)
 
 -- what is asked of a part

@@ -23,7 +23,6 @@ use Rattle.meaning.specs.Laws.Program.{Whole}
 use Rattle.model_laws.specs.Rounds.{cases-eq}
 use Rattle.limits.specs.Limits.{counts-of}
 use Rattle.declared.specs.Passed.{Passed}
-use Rattle.declared.specs.PassedLaws.{passed-kept}
 use Rattle.tables.specs.Tables.{nth, group, head-line, decls-of, first-of}
 use Rattle.declared.specs.DeclLaws.{first-next, nth-in, dtype-is, origin-local, origin-import, whole-at}
 use Rattle.declared.specs.BodyLaws.{close-erased, closed, fields-of, ctor-fields}
@@ -232,7 +231,3 @@ kept-slotted ls p keep k =
           k .fields d h h (first-of field-line ls d + j) (omega arith) (omega (arith, slots-length ls p d h, first-next ls d h field-line refl refl))
           ∙ ap bit (sym (slot-is ls p d h j l));
     }
-
-pub decls-few : (ls : List Line) → Passed ls → decls-of ls ≤ 96
-unfolding counts-of
-decls-few ls p = passed-kept ls p .decls

@@ -20,7 +20,6 @@ use Rattle.model_laws.specs.Lists.{getD-map}
 use Rattle.meaning.specs.Laws.Written.{trees-after-later}
 use Rattle.limits.specs.Limits.{counts-of}
 use Rattle.declared.specs.Passed.{Passed}
-use Rattle.declared.specs.PassedLaws.{passed-kept}
 use Rattle.tables.specs.Tables.{nth}
 use Rattle.outcomes.specs.Answer.{parts, plain, listed}
 use Rattle.kids.specs.Nodes.{y-line, kind-of, arg-of, type-of, kids-of, kid-of, Node}
@@ -404,16 +403,6 @@ module _ (ls : List Line) (passed : Passed ls) (y : ℕ) (h : y < count-of type-
 
   pub list9-within : kind-of all y ≡ 9 → (i : ℕ) → i < kids-of all y → number line 1 + i < count-of arg-line all
   list9-within k i q = omega (arith, node-at ls passed y h .listed9 k, kids-9 all y k)
-
--- the limits (FORMAT, section 2)
-module _ (ls : List Line) (passed : Passed ls) where
-  pub args-few : count-of arg-line ls ≤ 512
-  unfolding counts-of
-  args-few = passed-kept ls passed .args
-
-  pub types-few : count-of type-line ls ≤ 1024
-  unfolding counts-of
-  types-few = passed-kept ls passed .types
 
 pub seven : (k : ℕ) → k < 10 → (k ≡ 7 → ⊥) → (k ≡ 8 → ⊥) → (k ≡ 9 → ⊥) → k ≤ 6
 seven k h m7 m8 m9 = omega arith

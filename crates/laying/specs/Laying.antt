@@ -2,7 +2,7 @@
 use mathlib.Core.Path.{_≡_}
 use mathlib.Core.List.{List}
 use mathlib.Core.Bool.{false}
-use Prim.Native.Nat.{ℕ, _<_}
+use Prim.Native.Nat.{ℕ, _≤_, _<_}
 use lib.ListN.{length, getD}
 use Rattle.sheet.specs.Line.{Line}
 use Rattle.model.specs.Erasure.{erasure-fixpoint}
@@ -23,6 +23,6 @@ of-body ls d = layout-of-body (decl.dtype-at (program ls) d .dt-body) (dropped-o
 
 -- the first n declarations have their verdicts
 pub record Partly (ls : List Line) (vs : List Verdict) (n : ℕ) : Type 0 where
-  pub long : length vs ≡ 96
+  pub long : decls-of ls ≤ length vs
   pub marks : (d : ℕ) → d < n → d < decls-of ls → getD vs d no-verdict .erased ≡ getD (erasure-fixpoint (program ls) .marks) d false
   pub chosen : (d : ℕ) → d < n → d < decls-of ls → Chosen ls d (layout-of-decl (program ls) d) (getD vs d no-verdict .layout)

@@ -22,7 +22,6 @@ use Rattle.meaning.specs.Program.{import-line, verdict-line, is, trees, body-of
 use Rattle.meaning.specs.Laws.Program.{length-program}
 use Rattle.limits.specs.Limits.{counts-of}
 use Rattle.declared.specs.Passed.{Passed}
-use Rattle.declared.specs.PassedLaws.{passed-kept}
 use Rattle.tables.specs.Tables.{nth, group, head-line, decls-of}
 use Rattle.declared.specs.DeclLaws.{dtype-is, origin-local, origin-import, verdict-is}
 use Rattle.marks.specs.Marks.{marks-of}
@@ -133,17 +132,13 @@ module _ (ls : List Line) (p : Passed ls) (d : ℕ) (h : d < decls-of ls) (imp :
     import-opaque n0 n1 n2 n3 = opaque-chosen ls d _ (import-is ∙ rw (← is, ne-eqb n 0 n0, ne-eqb n 1 n1, ne-eqb n 2 n2, ne-eqb n 3 n3))
 
 -- ---- one declaration after the other
-pub decls-few : (ls : List Line) → Passed ls → decls-of ls ≤ 96
-unfolding counts-of
-decls-few ls p = passed-kept ls p .decls
-
-pub partly-none : (ls : List Line) (vs : List Verdict) → length vs ≡ 96 → Partly ls vs 0
+pub partly-none : (ls : List Line) (vs : List Verdict) → decls-of ls ≤ length vs → Partly ls vs 0
 partly-none ls vs e = record { long = e; marks = λ d l. absurd (omega arith); chosen = λ d l. absurd (omega arith) }
 
-pub partly-next : (ls : List Line) (vs : List Verdict) (n : ℕ) (v : Verdict) → n < 96 → v .erased ≡ getD (erasure-fixpoint (program ls) .marks) n false → Chosen ls n (layout-of-decl (program ls) n) (v .layout) → Partly ls vs n → Partly ls (set vs n v) (n + 1)
+pub partly-next : (ls : List Line) (vs : List Verdict) (n : ℕ) (v : Verdict) → n < decls-of ls → v .erased ≡ getD (erasure-fixpoint (program ls) .marks) n false → Chosen ls n (layout-of-decl (program ls) n) (v .layout) → Partly ls vs n → Partly ls (set vs n v) (n + 1)
 partly-next ls vs n v h e c p =
     record {
-      long = length-set vs n v ∙ p .long;
+      long = omega (arith, length-set vs n v, p .long);
       marks = λ d l k. cases-eq d n (λ q. rw (q, at) e) (λ o. rw (other d o) (p .marks d (omega arith) k));
       chosen = λ d l k. cases-eq d n (λ q. rw (q, at) c) (λ o. rw (other d o) (p .chosen d (omega arith) k));
     }

@@ -8,6 +8,7 @@ ghost use mathlib.Core.Path.{_≡_};
 ghost use mathlib.Core.Bool.{true};
 ghost use Prim.Native.Nat.{_≤_, _<_};
 ghost use lib.ListN.{length};
+ghost use Rattle.sheet.specs.Format.{base};
 ghost use Rattle.model.specs.Run as run;
 ghost use Rattle.meaning.specs.Program as program;
 ghost use Rattle.meaning.specs.Rows as rows;
@@ -86,7 +87,7 @@ fn lay_out(
     found: &[u8],
     blank: [Verdict; 96],
 ) -> [Verdict; 96]
-    requires { ⌜ tables.Tabled (now t) ⌝ }
+    requires { ⌜ tables.TabledIn base (now t) ⌝ }
     requires { ⌜ candidates.Ruled (tables.lines-in (now t)) (now decl) (now keep) ⌝ }
     requires { ⌜ chosen.Screened (tables.lines-in (now t)) (now fields) (now found) ⌝ }
     requires { ⌜ length blank ≡ 96 ⌝ }
@@ -122,7 +123,7 @@ pub fn compute_layouts(
     fields: &[u16],
     found: &[u8],
 ) -> [Verdict; 96]
-    requires { ⌜ tables.Tabled (now t) ⌝ }
+    requires { ⌜ tables.TabledIn base (now t) ⌝ }
     requires { ⌜ candidates.Ruled (tables.lines-in (now t)) (now decl) (now keep) ⌝ }
     requires { ⌜ chosen.Screened (tables.lines-in (now t)) (now fields) (now found) ⌝ }
     ensures { λ r. ⌜ layouts.Laid (tables.lines-in (now (t .entry))) r ⌝ }

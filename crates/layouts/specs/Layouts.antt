@@ -2,7 +2,7 @@
 use mathlib.Core.Path.{_≡_}
 use mathlib.Core.List.{List}
 use mathlib.Core.Bool.{false}
-use Prim.Native.Nat.{ℕ, _-_, _<_}
+use Prim.Native.Nat.{ℕ, _-_, _≤_, _<_}
 use lib.ListN.{length, getD}
 use Rattle.sheet.specs.Line.{Line, number}
 use Rattle.model.specs.Cty.{uninline}
@@ -52,7 +52,7 @@ no-verdict = record { erased = false; layout = Opaque }
 
 -- Every declaration has its verdict.
 pub record Laid (ls : List Line) (vs : List Verdict) : Type 0 where
-  pub long : length vs ≡ 96
+  pub long : decls-of ls ≤ length vs
   pub marks : (d : ℕ) → d < decls-of ls → getD vs d no-verdict .erased ≡ getD (erasure-fixpoint (program ls) .marks) d false
   pub layouts : (d : ℕ) → d < decls-of ls → layout-told ls d (getD vs d no-verdict .layout) ≡ layout-of-decl (program ls) d
   pub fields : (d ctor f : ℕ) → d < decls-of ls → getD vs d no-verdict .layout ≡ Newtype ctor f → f < count-of field-line ls

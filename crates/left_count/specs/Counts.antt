@@ -22,6 +22,6 @@ decl-count ls u keep left d = pick (eqb (getD left d 0) 0) 0 (length (params-of 
 
 -- counts far below what a word holds
 pub record Few (r : Count) : Type 0 where
-  pub args : r .room ≡ true → r .args ≤ 1000000000
-  pub types : r .room ≡ true → r .types ≤ 1000000000
-  pub lines : r .room ≡ true → r .lines ≤ 1000000000
+  pub args : r .room ≡ true → r .args ≤ 2000000000
+  pub types : r .room ≡ true → r .types ≤ 2000000000
+  pub lines : r .room ≡ true → r .lines ≤ 2000000000

@@ -17,17 +17,17 @@ use Rattle.model.specs.Decl.{Dtype, bit, dtype-at, table, Layout, L-erased, L-n
 use Rattle.model.specs.Resolve.{resolve}
 use Rattle.model.specs.Run.{with-body, rw-decl, somes, lay, layout-of-decl, left-at}
 use Rattle.model_laws.specs.Run.{run-lefts}
-use Rattle.meaning.specs.Program.{param-line, field-line, program}
+use Rattle.meaning.specs.Program.{param-line, ctor-line, field-line, program}
 use Rattle.meaning.specs.Laws.Program.{length-program}
 use Rattle.meaning.specs.Output.{Written, Lines, emit, decl-lines, program-lines}
 use Rattle.meaning.specs.Laws.Output.{emit-all, decl-written, program-append-written, program-append-lines, nothing}
 use Rattle.declared.specs.Passed.{Passed}
 use Rattle.limits.specs.Limits.{start}
 use Rattle.tables.specs.Tables.{head-line, decls-of, first-of}
-use Rattle.declared.specs.DeclLaws.{whole-at}
+use Rattle.declared.specs.DeclLaws.{whole-at, first-next}
+use Rattle.bodies.specs.BodiesLaws.{first-le}
 use Rattle.arguments.specs.Params.{params-from, params-of}
-use Rattle.bodies.specs.BodiesLaws.{fields-few}
-use Rattle.arguments.specs.ParamsLaws.{count-before-le, params-few}
+use Rattle.arguments.specs.ParamsLaws.{count-before-le}
 use Rattle.kept.specs.Kept.{body-kind, body-last}
 use Rattle.kept.specs.KeptLaws.{params-are}
 use Rattle.states.specs.States.{state, body-of, Shape, kept-types, resolves-of}
@@ -38,7 +38,7 @@ use Rattle.lefts.specs.declared.Count.{Count}
 use Rattle.left_types.specs.Sums.{sum-args, sum-types, Told, Added}
 use Rattle.left_types.specs.SumsLaws.{told, Rest, added-lines, added-more, kept-few}
 use Rattle.left_count.specs.Counts.{decl-types, decl-count, Few}
-use Rattle.declared.specs.PassedLaws.{head-place}
+use Rattle.declared.specs.PassedLaws.{ctors-few, fields-few, params-few}
 
 -- ---- types written
 all-args : (ls : List Line) (d : ℕ) (ys : List ℕ) (w : Written) → length (emit-all (map (λ y. left-type ls d y) ys) w .args) ≡ length (w .args) + sum-args ls d ys
@@ -56,7 +56,7 @@ unfolding params-from
 length-params ls p zero = refl
 length-params ls p (suc n) = ap suc (length-params ls (suc p) n)
 
-pub params-few-of : (ls : List Line) → Passed ls → (d : ℕ) → length (params-of ls d) ≤ 2048
+pub params-few-of : (ls : List Line) → Passed ls → (d : ℕ) → length (params-of ls d) ≤ 16384
 params-few-of ls p d =
     omega (arith, length-params ls (first-of param-line ls d) (first-of param-line ls (d + 1) - first-of param-line ls d), count-before-le param-line ls (start ls (d + 1)), params-few ls p)
 
@@ -64,9 +64,9 @@ params-few-of ls p d =
 pub added-as : (ls : List Line) (d : ℕ) (xs ys : List ℕ) (j k n : ℕ) (c r : Count) → xs ≡ ys → j ≡ k → Added ls d xs j n c r → Added ls d ys k n c r
 added-as ls d xs ys j k n c r p q x = subst (λ (l : List ℕ). Added ls d l k n c r) p (subst (λ (m : ℕ). Added ls d xs m n c r) q x)
 
--- a D or I line's numbers
-pub head-small : (ls : List Line) → Passed ls → (d k : ℕ) → d < decls-of ls → number (head-line ls d) k ≤ 1000000
-head-small ls p d k h = rw (head-place ls d h) (omega (arith, p .small (start ls d) k))
+-- a variant's constructors are C lines
+pub variant-few : (ls : List Line) → Passed ls → (d : ℕ) → d < decls-of ls → body-kind ls d ≡ 3 → number (head-line ls d) 4 ≤ 1024
+variant-few ls p d h k = omega (arith, whole-at ls p d h .ctors k, first-next ls d h ctor-line refl refl, first-le ctor-line ls (suc d), ctors-few ls p)
 
 module _ (ls : List Line) (t u f keep : List ℕ) (ready : Ready ls t u f keep) (d : ℕ) (below : d < decls-of ls) where
   abbrev ys : List ℕ
@@ -152,7 +152,7 @@ module _ (ls : List Line) (t u f keep : List ℕ) (ready : Ready ls t u f keep) 
       go false false false true = omega arith
       go false false false false = few
 
-  pub lines-few : (state u d ≡ 0 → ⊥) → body-lines (left-body ls u keep d) ≤ 1002048
+  pub lines-few : (state u d ≡ 0 → ⊥) → body-lines (left-body ls u keep d) ≤ 3072
   lines-few n0 = go (eqb (state u d) 1) refl (ltb (body-kind ls d) 2) refl (eqb (body-kind ls d) 2) refl
     where
       p : Passed ls
@@ -161,12 +161,13 @@ module _ (ls : List Line) (t u f keep : List ℕ) (ready : Ready ls t u f keep) 
       three : (body-kind ls d ≡ 2 → ⊥) → 2 ≤ body-kind ls d → body-kind ls d ≡ 3
       three n l = omega (arith, whole-at ls p d below .kinds)
 
-      go : (x : Bool) → eqb (state u d) 1 ≡ x → (y : Bool) → ltb (body-kind ls d) 2 ≡ y → (z : Bool) → eqb (body-kind ls d) 2 ≡ z → body-lines (left-body ls u keep d) ≤ 1002048
+      go : (x : Bool) → eqb (state u d) 1 ≡ x → (y : Bool) → ltb (body-kind ls d) 2 ≡ y → (z : Bool) → eqb (body-kind ls d) 2 ≡ z → body-lines (left-body ls u keep d) ≤ 3072
       go true e y h z k = omega (arith, lines-newtype ls u keep p (ready .slotted) (ready .settled) d below (eqb-true (state u d) 1 e))
       go false e true h z k = omega (arith, lines-bare ls u keep p (ready .slotted) (ready .settled) d below (eqb-false (state u d) 1 e) (omega (arith, ltb-true (body-kind ls d) 2 h)))
       go false e false h true k = omega (arith, lines-record ls u keep p (ready .slotted) (ready .settled) d below n0 (eqb-false (state u d) 1 e) (eqb-true (body-kind ls d) 2 k), resolves-few)
       go false e false h false k =
-          omega (arith, lines-variant ls u keep p (ready .slotted) (ready .settled) d below n0 (eqb-false (state u d) 1 e) (three (eqb-false (body-kind ls d) 2 k) (ltb-false (body-kind ls d) 2 h)), resolves-few, head-small ls p d 4 below)
+          let q : body-kind ls d ≡ 3 = three (eqb-false (body-kind ls d) 2 k) (ltb-false (body-kind ls d) 2 h) in
+          omega (arith, lines-variant ls u keep p (ready .slotted) (ready .settled) d below n0 (eqb-false (state u d) 1 e) q, resolves-few, variant-few ls p d below q)
 
   -- a declaration that is left is not erased
   module _ (left : List ℕ) (flagged : Flagged ls left) where
@@ -262,7 +263,7 @@ pub record Upto (ls : List Line) (u keep : List ℕ) (n d : ℕ) (c : Count) : T
   pub fit : (e y : ℕ) → e < d → is-left (left-at 100 (program ls) e) ≡ true → List·Memᴰ y (resolves-of ls u keep e) → size (left-type ls e y) ≤ n
   pub few-args : c .args ≤ 2097152 * d
   pub few-types : c .types ≤ 2097152 * d
-  pub few-lines : c .lines ≤ 2000000 * d
+  pub few-lines : c .lines ≤ 20000 * d
 
 pub upto-none : (ls : List Line) (u keep : List ℕ) (n : ℕ) (c : Count) → c .args ≡ 0 → c .types ≡ 0 → c .lines ≡ 0 → Upto ls u keep n 0 c
 unfolding upto table somes program-lines
@@ -277,11 +278,11 @@ module _ (ls : List Line) (t u f keep left : List ℕ) (ready : Ready ls t u f k
       go true h = omega arith
       go false h = h
 
-  count-few : decl-count ls u keep left d ≤ 2000000
+  count-few : decl-count ls u keep left d ≤ 20000
   unfolding decl-count
   count-few = go (eqb (getD left d 0) 0) refl
     where
-      go : (x : Bool) → eqb (getD left d 0) 0 ≡ x → pick x 0 (length (params-of ls d) + 2 + body-lines (left-body ls u keep d)) ≤ 2000000
+      go : (x : Bool) → eqb (getD left d 0) 0 ≡ x → pick x 0 (length (params-of ls d) + 2 + body-lines (left-body ls u keep d)) ≤ 20000
       go true e = omega arith
       go false e = omega (arith, params-few-of ls (ready .tabled .passed) d, lines-few ls t u f keep ready d below (left-open ls t u f keep ready d below left flagged (eqb-false (getD left d 0) 0 e)))
 
@@ -334,7 +335,7 @@ pub counted-short : (ls : List Line) (u keep : List ℕ) (n : ℕ) (c : Count) �
 counted-short ls u keep n c e h =
     record { args = λ z. contrary (c .room) z e; types = λ z. contrary (c .room) z e; lines-are = λ z. contrary (c .room) z e; fit = λ z. contrary (c .room) z e; short = λ z. h }
 
-pub few-upto : (ls : List Line) (u keep : List ℕ) (n d : ℕ) (c : Count) → d ≤ 96 → Upto ls u keep n d c → Few c
+pub few-upto : (ls : List Line) (u keep : List ℕ) (n d : ℕ) (c : Count) → d ≤ 512 → Upto ls u keep n d c → Few c
 few-upto ls u keep n d c h x = record { args = λ e. omega (arith, x .few-args); types = λ e. omega (arith, x .few-types); lines = λ e. omega (arith, x .few-lines) }
 
 pub few-short : (c : Count) → c .room ≡ false → Few c

@@ -28,7 +28,7 @@ fn count_body(
     c: Count,
 ) -> Count
     requires { ⌜ Ready (lines-in (now t)) (now t) (now u) (now f) (now keep) × (d < decls-of (lines-in (now t))) × (count-of field-line (lines-in (now t)) ≤ length (now keep)) ⌝ }
-    requires { ⌜ (state (now u) d ≡ 0 → ⊥) × (c .room ≡ true) × (c .args ≤ 400000000) × (c .types ≤ 400000000) × (c .lines ≤ 700000000) ⌝ }
+    requires { ⌜ (state (now u) d ≡ 0 → ⊥) × (c .room ≡ true) × (c .args ≤ 1100000000) × (c .types ≤ 1100000000) × (c .lines ≤ 700000000) ⌝ }
     ensures { λ r. ⌜ Added (lines-in (now (t .entry))) d (resolves-of (lines-in (now (t .entry))) (now (u .entry)) (now (keep .entry)) d) (body-lines (left-body (lines-in (now (t .entry))) (now (u .entry)) (now (keep .entry)) d)) (length (now (scratch .entry))) c r ⌝ }
 {
     if node_words::state(u, d) == 1 {
@@ -61,7 +61,7 @@ fn count_decl(
     c: Count,
 ) -> Count
     requires { ⌜ Ready (lines-in (now t)) (now t) (now u) (now f) (now keep) × (d < decls-of (lines-in (now t))) × (count-of field-line (lines-in (now t)) ≤ length (now keep)) × Flagged (lines-in (now t)) (now left) ⌝ }
-    requires { ⌜ (c .room ≡ true) × (c .args ≤ 400000000) × (c .types ≤ 400000000) × (c .lines ≤ 600000000) ⌝ }
+    requires { ⌜ (c .room ≡ true) × (c .args ≤ 1100000000) × (c .types ≤ 1100000000) × (c .lines ≤ 600000000) ⌝ }
     ensures { λ r. ⌜ Added (lines-in (now (t .entry))) d (decl-types (lines-in (now (t .entry))) (now (u .entry)) (now (keep .entry)) (now (left .entry)) d) (decl-count (lines-in (now (t .entry))) (now (u .entry)) (now (keep .entry)) (now (left .entry)) d) (length (now (scratch .entry))) c r ⌝ }
 {
     if left[d] == 0 {

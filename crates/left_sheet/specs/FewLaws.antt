@@ -18,9 +18,8 @@ use Rattle.meaning.specs.Rows.{row7}
 use Rattle.meaning.specs.Laws.Output.{nothing, types-of, total-bound, program-adds}
 use Rattle.meaning.specs.Laws.Numbers.{Numbered, weights, run-count, run-types, program-full, weights-program}
 use Rattle.answer.specs.Laws.Left.{program-matches}
-use Rattle.arguments.specs.ParamsLaws.{decls-few}
-use Rattle.bodies.specs.BodiesLaws.{fields-few}
 use Rattle.declared.specs.Passed.{Passed}
+use Rattle.declared.specs.PassedLaws.{decls-few, fields-few}
 use Rattle.lefts.specs.Lefts.{left-written}
 use Rattle.head_rows.specs.HeadRows.{Resolvable}
 
@@ -29,7 +28,7 @@ module _ (ls : List Line) (passed : Passed ls) (resolvable : Resolvable base ls)
   ds = left-program (run 100 (program ls))
 
   -- a type for each declaration and each F line at most
-  types-count : length (types-of ds) ≤ 2144
+  types-count : length (types-of ds) ≤ 2560
   types-count =
       let U : ℕ → Type 0 = λ n. Unit {0} in
       let c : length (types-of ds) ≤ weights (program ls) = run-count U (λ n k. tt) (λ m n h q. tt) 100 (program ls) (program-full U (λ n k. tt) (λ m n h q. tt) ls (mem-every (Numbered U) ls (λ l m k. tt)) tt) in

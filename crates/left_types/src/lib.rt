@@ -27,7 +27,7 @@ pub fn count_type(
     d: usize,
     c: Count,
 ) -> Count
-    requires { ⌜ Told (lines-in (now t)) (now t) (now u) (now f) d y × (c .args ≤ 1000000000) × (c .types ≤ 1000000000) ⌝ }
+    requires { ⌜ Told (lines-in (now t)) (now t) (now u) (now f) d y × (c .args ≤ 2000000000) × (c .types ≤ 2000000000) ⌝ }
     ensures { λ r. ⌜ Added (lines-in (now (t .entry))) d (y ∷ []) 0 (length (now (scratch .entry))) c r ⌝ }
 {
     let n = forms::emit(t, u, f, y, d, false, scratch, 0);
@@ -50,7 +50,7 @@ pub fn count_type(
 
 // And so many lines.
 pub fn add_lines(c: Count, n: usize) -> Count
-    requires { ⌜ (c .room ≡ true) × (c .lines ≤ 1000000000) × (n ≤ 1000000000) ⌝ }
+    requires { ⌜ (c .room ≡ true) × (c .lines ≤ 2000000000) × (n ≤ 2000000000) ⌝ }
     ensures { λ r. ⌜ (r .room ≡ true) × (r .args ≡ c .args) × (r .types ≡ c .types) × (r .lines ≡ c .lines + n) ⌝ }
 {
     Count {
@@ -72,7 +72,7 @@ fn count_field(
     d: usize,
     c: Count,
 ) -> Count
-    requires { ⌜ (i < length (now keep)) × (getD (now keep) i 0 ≡ 1 → Tells (lines-in (now t)) (now t) (now u) (now f) d i) × (c .room ≡ true) × (c .args ≤ 1000000000) × (c .types ≤ 1000000000) × (c .lines ≤ 900000000) ⌝ }
+    requires { ⌜ (i < length (now keep)) × (getD (now keep) i 0 ≡ 1 → Tells (lines-in (now t)) (now t) (now u) (now f) d i) × (c .room ≡ true) × (c .args ≤ 2000000000) × (c .types ≤ 2000000000) × (c .lines ≤ 900000000) ⌝ }
     ensures { λ r. ⌜ One (lines-in (now (t .entry))) (now (keep .entry)) d i (length (now (scratch .entry))) c r ⌝ }
 {
     if keep[i] != 1 {
@@ -98,7 +98,7 @@ pub fn count_fields(
 ) -> Count
     requires { ⌜ Ready (lines-in (now t)) (now t) (now u) (now f) (now keep) × (d < decls-of (lines-in (now t))) × (count-of field-line (lines-in (now t)) ≤ length (now keep)) ⌝ }
     requires { ⌜ (state (now u) d ≡ 0 → ⊥) × (state (now u) d ≡ 1 → ⊥) × (2 ≤ body-kind (lines-in (now t)) d) ⌝ }
-    requires { ⌜ (c .room ≡ true) × (c .args ≤ 500000000) × (c .types ≤ 500000000) × (c .lines ≤ 800000000) ⌝ }
+    requires { ⌜ (c .room ≡ true) × (c .args ≤ 1200000000) × (c .types ≤ 1200000000) × (c .lines ≤ 800000000) ⌝ }
     ensures { λ r. ⌜ Rest (lines-in (now (t .entry))) (now (keep .entry)) d (first-of field-line (lines-in (now (t .entry))) d) (first-of field-line (lines-in (now (t .entry))) (d + 1)) (length (now (scratch .entry))) c r ⌝ }
 {
     let end = tables::first_field(t, d + 1);

@@ -26,7 +26,7 @@ use Rattle.declared.specs.Passed.{Passed}
 use Rattle.tables.specs.Tables.{decls-of, first-of}
 use Rattle.kids.specs.Nodes.{type-of}
 use Rattle.arguments.specs.Params.{params-of, params-from}
-use Rattle.arguments.specs.ParamsLaws.{count-before-le, params-few}
+use Rattle.arguments.specs.ParamsLaws.{count-before-le}
 use Rattle.keeps.specs.Keeps.{Slotted}
 use Rattle.kept.specs.Kept.{body-kind}
 use Rattle.states.specs.States.{state, body-of, unfold-at, lay-of, Open, closed, Shape, resolves-of, Settled}
@@ -38,6 +38,7 @@ use Rattle.nodes.specs.Words.{word, node-of}
 use Rattle.form_words.specs.Emit.{words, form-words, Asked}
 use Rattle.form_words.specs.CodeLaws.{state-below}
 use Rattle.meaning.specs.Laws.Numbers.{UnfoldNumbers, close-numbers, resolve-numbers}
+use Rattle.declared.specs.PassedLaws.{params-few}
 use Rattle.normal_forms.specs.LeftLaws.{held, Told, Answered, AnsweredOf, left-words, place-words}
 use Rattle.normal_forms.specs.HeldLaws.{Sign, Own, Held, post-held, renamed-kept}
 use Rattle.lefts.specs.Lefts.{Ready, left-type}

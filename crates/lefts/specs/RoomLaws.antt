@@ -22,7 +22,6 @@ use Rattle.declared.specs.Passed.{Passed}
 use Rattle.tables.specs.Tables.{decls-of}
 use Rattle.kids.specs.Nodes.{type-of}
 use Rattle.arguments.specs.Params.{params-of}
-use Rattle.arguments.specs.ParamsLaws.{decls-few}
 use Rattle.keeps.specs.Keeps.{Slotted}
 use Rattle.states.specs.States.{body-of, lay-of, Open, closed, Settled}
 use Rattle.normal.specs.Nodes.{Node, post}
@@ -162,19 +161,19 @@ module _ (ls : List Line) (t u rank keep : List ℕ) (ranked : ranks.Ranked ls t
             omega (arith, e, ap length (table .right d h), own-few d l (h .1) (h .2))
 
   -- 1,024 words for each form, and two cells
-  pub never-short : (sc room : ℕ) → 1024 ≤ sc → 98496 ≤ room → ranks.Short ls u rank sc room → ⊥
+  pub never-short : (sc room : ℕ) → 1024 ≤ sc → 1026 * decls-of ls ≤ room → ranks.Short ls u rank sc room → ⊥
   never-short sc room p q x =
       let k : length (own-words ls u (x .list) (x .decl)) ≤ 1024 = own-few (x .list) (x .place) (x .level) (x .decl) (x .table) (x .decl) (x .below) (x .unfolded) (omega (arith, x .of-level)) in
       let z : getD (x .list) (2 * x .decl + 1) 0 ≡ 0 = ⊎-elim (λ h. absurd (never (x .decl) (h .3 (x .of-level)))) (λ e. e) (x .table .fresh (x .decl) (x .below)) in
       ⊎-elim (λ h. omega arith)
-      (λ h. omega (arith, x .table .used, counts-but (x .list) (x .decl) (decls-of ls) (count-few (x .list) (x .place) (x .level) (x .decl) (x .table)) z (x .below), decls-few ls passed))
+      (λ h. omega (arith, x .table .used, counts-but (x .list) (x .decl) (decls-of ls) (count-few (x .list) (x .place) (x .level) (x .decl) (x .table)) z (x .below)))
       (x .fits)
     where
       never : (d : ℕ) → d < d → ⊥
       never d h = omega arith
 
   -- so the forms are there
-  pub formed-ready : (f₀ f : List ℕ) (e : ℕ) → 98496 ≤ length f₀ → ranks.Formed ls u rank 1024 f₀ f e → Ready ls t u f keep
+  pub formed-ready : (f₀ f : List ℕ) (e : ℕ) → 1026 * decls-of ls ≤ length f₀ → ranks.Formed ls u rank 1024 f₀ f e → Ready ls t u f keep
   formed-ready f₀ f e q x =
       let l : e ≤ length f₀ = within (ltb (length f₀) e) refl in
       record { tabled = ranked .tabled; settled = settled; slotted = slotted; resolvable = resolvable; place = e; forms = x .table l }

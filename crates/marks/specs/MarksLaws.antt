@@ -20,7 +20,7 @@ use Rattle.limits.specs.Limits.{counts-of}
 use Rattle.type_lines.specs.TypeLists.{types-of}
 use Rattle.type_lines.specs.TypeLinesLaws.{past}
 use Rattle.declared.specs.Passed.{Passed}
-use Rattle.declared.specs.PassedLaws.{passed-kept}
+use Rattle.declared.specs.PassedLaws.{args-few}
 use Rattle.tables.specs.Tables.{nth}
 use Rattle.declared.specs.TypeLaws.{good-kind, good-arrow, good-app, good-tuple, good-inline, good-type-at, type-tree}
 use Rattle.marks.specs.Marks.{part, arg-of, marks-of, type-erased, Before, Found, Tuple, Tupled, Placed, Marks, Marked}
@@ -62,11 +62,6 @@ list-same er er' ts xs i (suc k) h =
 -- the type of an A line
 pub arg-is : (ls : List Line) (i : ℕ) → getD (types-of ls) i 0 ≡ arg-of ls i
 arg-is ls i = List·getD-map (λ (l : Line). number l 0) (select arg-line ls) i bad
-
--- no more A lines than the limit
-pub args-few : (ls : List Line) → Passed ls → count-of arg-line ls ≤ 512
-unfolding counts-of
-args-few ls p = passed-kept ls p .args
 
 -- one member more is marked
 pub before-next : (ls : List Line) (node : List ℕ) (first j : ℕ) → Before ls node first j → (getD node (arg-of ls (first + j)) 0 ≡ 0 → ⊥) → Before ls node first (j + 1)
@@ -219,7 +214,7 @@ module _ (ls : List Line) (p : Passed ls) (m : List Bool) (y : ℕ) (h : y < cou
       where
         few : (k : ℕ) → part ls y 2 ≡ k → part ls y 2 < 65536
         few zero q = omega arith
-        few (suc k) q = omega (arith, member-lower e k (omega arith) .0, passed-kept ls p .args)
+        few (suc k) q = omega (arith, member-lower e k (omega arith) .0, args-few ls p)
 
     module _ (e : part ls y 0 ≡ 9) (member' : List ℕ) (r : Bool) (u : Tupled ls node member member' y r) where
       j : ℕ

@@ -22,10 +22,9 @@ use Rattle.meaning.specs.Laws.Program.{length-program, body-number}
 use Rattle.declared.specs.Passed.{Passed}
 use Rattle.tables.specs.Tables.{head-line, decls-of}
 use Rattle.declared.specs.DeclLaws.{dtype-is}
-use Rattle.bodies.specs.BodiesLaws.{last-types, types-few}
+use Rattle.bodies.specs.BodiesLaws.{last-types}
 use Rattle.kids.specs.Nodes.{type-of}
 use Rattle.arguments.specs.Params.{params-of}
-use Rattle.arguments.specs.ParamsLaws.{decls-few}
 use Rattle.kept.specs.Kept.{body-kind, body-last, field-type}
 use Rattle.kept.specs.KeptLaws.{params-lines, params-are}
 use Rattle.states.specs.States.{state, body-of, unfold-at, Open, closed, Shape, Settled}
@@ -38,6 +37,7 @@ use Rattle.payloads.specs.PayloadsLaws.{close-uninline}
 use Rattle.name_states.specs.KindLaws.{Fits, kind-is, layout-fits}
 use Rattle.name_states.specs.Cells.{named, Cells, Told, Known, Put, Filled}
 use Rattle.meaning.specs.Program as program
+use Rattle.declared.specs.PassedLaws.{types-few}
 
 -- an element is the same, whatever stands for one past the last
 any-default : {A : Type 0} (xs : List A) (i : ℕ) (x y : A) → i < length xs → getD xs i x ≡ getD xs i y
@@ -152,7 +152,7 @@ module _ (ls : List Line) (p : Passed ls) (vs : List Verdict) (laid : Laid ls vs
   fits-at d h = subst (Fits (body-kind all d)) (sym (laid .layouts d h)) (layout-fits ls p d h)
 
   same-layout : (d : ℕ) → d < decls-of all → (z : Verdict) → getD vs d no-verdict .layout ≡ getD vs d z .layout
-  same-layout d h z = ap (λ (v : Verdict). v .layout) (any-default vs d no-verdict z (omega (arith, laid .long, decls-few ls p)))
+  same-layout d h z = ap (λ (v : Verdict). v .layout) (any-default vs d no-verdict z (omega (arith, laid .long)))
 
   known-at : (d : ℕ) → d < decls-of all → Known all d (getD vs d no-verdict .layout)
   unfolding layout-told
@@ -223,8 +223,8 @@ module _ (ls : List Line) (d : ℕ) (l : Layout) where
   told-opaque c e = rw e (record { cells = refl })
 
 -- the cells of Y lines fit
-pub payload-fits : (ls : List Line) → Passed ls → (f y : ℕ) → Payload ls f y → y < 1024
+pub payload-fits : (ls : List Line) → Passed ls → (f y : ℕ) → Payload ls f y → y < 4096
 payload-fits ls p f y q = omega (arith, q .inside, types-few ls p)
 
-pub last-fits : (ls : List Line) → Passed ls → (d : ℕ) → d < decls-of ls → (l : Layout) → Known ls d l → l ≡ Abbreviation → body-last ls d < 1024
+pub last-fits : (ls : List Line) → Passed ls → (d : ℕ) → d < decls-of ls → (l : Layout) → Known ls d l → l ≡ Abbreviation → body-last ls d < 4096
 last-fits ls p d h l k e = omega (arith, last-types ls p d h (k .kind e), types-few ls p)

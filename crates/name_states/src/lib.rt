@@ -4,6 +4,7 @@ use layouts::Verdict;
 ghost use mathlib.Core.Path.{_≡_};
 ghost use Prim.Native.Nat.{_+_, _*_, _<_};
 ghost use lib.ListN.{length};
+ghost use Rattle.sheet.specs.Format.{base};
 ghost use Rattle.columns.specs.Column.{pick};
 ghost use Rattle.tables.specs.Tables as tables;
 ghost use Rattle.layouts.specs.Layouts as layouts;
@@ -68,7 +69,7 @@ fn put_state(t: &[u32], l: Layout, u: &mut [u16], d: usize)
 
 // The cells of every declaration.
 pub fn states(t: &[u32], vs: [Verdict; 96], u: &mut [u16])
-    requires { ⌜ tables.Tabled (now t) ⌝ }
+    requires { ⌜ tables.TabledIn base (now t) ⌝ }
     requires { ⌜ layouts.Laid (tables.lines-in (now t)) vs ⌝ }
     requires { ⌜ length (now u) ≡ 2 * tables.decls-of (tables.lines-in (now t)) ⌝ }
     ensures { λ _. ⌜ states.Settled (tables.lines-in (now (t .entry))) (now (u .exit)) ⌝ }

@@ -21,7 +21,6 @@ use Rattle.meaning.specs.Rows.{count-of}
 use Rattle.meaning.specs.Laws.Program.{length-program}
 use Rattle.limits.specs.Limits.{counts-of}
 use Rattle.declared.specs.Passed.{Passed}
-use Rattle.declared.specs.PassedLaws.{passed-kept}
 use Rattle.tables.specs.Tables.{decls-of}
 use Rattle.bits.specs.Bits.{digit, has, inserted, cleared, united}
 use Rattle.bits.specs.BitsLaws.{row-room, row-before, has-words, digit-lt, digit-or, or-one, length-inserted, inserted-far, inserted-same, inserted-other, length-cleared, cleared-far, cleared-none, length-united, united-far, united-has}
@@ -259,8 +258,3 @@ module _ (ls : List Line) (p : Passed ls) (words : ℕ) (s : List ℕ) (y : ℕ)
       u
       (λ m q. ap (λ (x : Bool). named ls (part ls y 1) m || x) (list-names ls words y (part ls y 2) (part ls y 3) t (kept ls words s t y (named ls (part ls y 1)) k a) (app-low ls p y h e) m q) ∙ sym (app-names ls p y h m e))
       (adds-both words y (named ls (part ls y 1)) (of-list ls words t (part ls y 2) (part ls y 3)) s t u a c)
-
--- ---- sizes
-pub args-few : (ls : List Line) → Passed ls → count-of arg-line ls ≤ 512
-unfolding counts-of
-args-few ls p = passed-kept ls p .args

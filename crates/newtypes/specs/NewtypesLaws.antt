@@ -22,7 +22,7 @@ use Rattle.limits.specs.Limits.{start, counts-of}
 use Rattle.distinct.specs.Ways.{Declared, Constructors, takes}
 use Rattle.distinct.specs.WaysLaws.{named-below}
 use Rattle.declared.specs.Passed.{Passed}
-use Rattle.declared.specs.PassedLaws.{passed-kept}
+use Rattle.declared.specs.PassedLaws.{names-few}
 use Rattle.tables.specs.Tables.{head-line, decls-of, first-of}
 use Rattle.declared.specs.DeclLaws.{first-next, group-is, line-inside, line-of-head, whole-at}
 use Rattle.declared.specs.LineLaws.{stands, good-line}
@@ -216,18 +216,14 @@ module _ (ls : List Line) (p : Passed ls) (d : ℕ) (h : d < decls-of ls) where
             (omega (arith, u, v, first-le field-line ls (d + 1)), omega arith, o)
 
 -- ---- its constructor's name
-names-few : (ls : List Line) → Passed ls → count-of name-line ls ≤ 256
-unfolding counts-of
-names-few ls p = passed-kept ls p .names
-
 module _ (ls : List Line) (p : Passed ls) (d : ℕ) (h : d < decls-of ls) where
-  pub head-name-low : number (head-line ls d) 0 < 256
+  pub head-name-low : number (head-line ls d) 0 < 2048
   head-name-low =
       let m : head-line ls d ≡ line-at ls (start ls d) = ap (λ (g : Group). g .head) (group-is ls d h) in
       let i = line-inside ls d h in
       rw m (omega (arith, names-few ls p, named-below ls (start ls d) (good-line ls p (start ls d) i) Declared (line-of-head ls d h)))
 
-  pub ctor-name-low : (c : ℕ) → c < count-of ctor-line ls → ctor-name ls c < 256
+  pub ctor-name-low : (c : ℕ) → c < count-of ctor-line ls → ctor-name ls c < 2048
   ctor-name-low c l =
       let r = stands ctor-line ls c l in
       let t : takes Constructors (line-at ls (r .place)) ≡ true = rw (r .lettered) in

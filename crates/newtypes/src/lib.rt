@@ -38,7 +38,7 @@ fn one_ctor(t: &[u32], d: usize) -> bool
 pub fn ctor_of(t: &[u32], d: usize) -> usize
     requires { ⌜ tables.Tabled (now t) ⌝ }
     requires { ⌜ (d < tables.decls-of (tables.lines-in (now t))) × (newtypes.one-ctor (tables.lines-in (now t)) d ≡ true) ⌝ }
-    ensures { λ r. ⌜ (r ≡ newtypes.ctor-told (tables.lines-in (now (t .entry))) d) × (r < 256) ⌝ }
+    ensures { λ r. ⌜ (r ≡ newtypes.ctor-told (tables.lines-in (now (t .entry))) d) × (r < 2048) ⌝ }
 {
     if tables::decl_number(t, d, 2) == 2 {
         return tables::decl_number(t, d, 0) as usize;

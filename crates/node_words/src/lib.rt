@@ -68,7 +68,7 @@ pub fn place_of(t: &[u32], d: usize, v: usize) -> usize
 
 // What becomes of declaration d's name: 0 erased, 1 and 2 unfolded, else it is left, as a foreign name is.
 pub fn state(u: &[u16], d: usize) -> usize
-    requires { ⌜ d ≤ 96 ⌝ }
+    requires { ⌜ d ≤ 512 ⌝ }
     ensures { λ r. ⌜ r ≡ getD (now (u .entry)) (2 * d) 3 ⌝ }
 {
     if 2 * d >= u.len() {

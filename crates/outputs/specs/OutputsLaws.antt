@@ -5,8 +5,9 @@ use mathlib.Core.List.{List}
 use mathlib.Core.Bool.{Bool, true, false}
 use Prim.Native.Nat.{ℕ, _≤_}
 use native.Mathlib.Omega.{arith}
+use Rattle.sheet.specs.Format.{base}
+use Rattle.declared.specs.PassedLaws.{decls-within}
 use Rattle.tables.specs.Tables.{lines-in}
-use Rattle.keeps.specs.KeepsLaws.{decls-few}
 use Rattle.built.specs.declared.Tried.{Tried}
 use Rattle.built.specs.declared.Built.{Built}
 use Rattle.built.specs.Built.{Gives, Tries}
@@ -26,7 +27,7 @@ lent-less b t u rank keep v forms scratch stack p q r h =
       resolvable = h .resolvable;
       keeps = h .keeps;
       verdict-room = h .verdict-room;
-      cells = omega (arith, decls-few (lines-in t) (h .ranked .tabled .passed));
+      cells = omega (arith, decls-within base (lines-in t) (h .of .bounded));
       small = q;
       stacked = r;
     }
@@ -40,8 +41,8 @@ pub tries-again : (S : Type 0) (b v l : List ℕ) (r : Tried) (v′ l′ : List 
 tries-again S b v l r v′ l′ q v″ l″ h e g = subst (λ (x : List ℕ). Gives b x l q v″ l″) (h .verdict-kept e) (subst (λ (x : List ℕ). Gives b v′ x q v″ l″) (h .left-kept e) g)
 
 -- and the longest has room
-pub tries-last : (b v l : List ℕ) (r : Tried) (v′ l′ : List ℕ) → Tries (Short 98496 1024) b v l r v′ l′ → Gives b v l (r .built) v′ l′
-tries-last b v l r v′ l′ h = go (r .room) refl
+pub tries-last : (n : ℕ) → n ≤ 96 → (b v l : List ℕ) (r : Tried) (v′ l′ : List ℕ) → Tries (Short n 98496 1024) b v l r v′ l′ → Gives b v l (r .built) v′ l′
+tries-last n few b v l r v′ l′ h = go (r .room) refl
   where
     go : (c : Bool) → r .room ≡ c → Gives b v l (r .built) v′ l′
     go true e = h .gives e

@@ -9,7 +9,7 @@ ghost use Rattle.meaning.specs.Program.{name-line, program};
 ghost use Rattle.meaning.specs.Rows.{count-of};
 ghost use Rattle.built.specs.Built.{Gives, Tries};
 ghost use Rattle.sheets.specs.Sheets.{Lent};
-ghost use Rattle.tables.specs.Tables.{lines-in};
+ghost use Rattle.tables.specs.Tables.{decls-of, lines-in};
 ghost use Rattle.outputs.specs.Outputs.{Short};
 
 fn small(
@@ -25,7 +25,7 @@ fn small(
 ) -> Tried
     requires { ⌜ Lent (now s) (now t) (now u) (now rank) (now keep) (now v) 98496 1024 1024 ⌝ }
     requires { ⌜ (names ≡ count-of name-line (lines-in (now t))) × (rounds ≡ run 100 (program (lines-in (now t))) .rounds) ⌝ }
-    ensures { λ r. ⌜ Tries (Short 224 64) (now (s .entry)) (now (v .entry)) (now (l .entry)) r (now (v .exit)) (now (l .exit)) ⌝ }
+    ensures { λ r. ⌜ Tries (Short (decls-of (lines-in (now (t .entry)))) 224 64) (now (s .entry)) (now (v .entry)) (now (l .entry)) r (now (v .exit)) (now (l .exit)) ⌝ }
 {
     let mut forms = [0u64; 224];
     let mut scratch = [0u64; 64];
@@ -59,7 +59,7 @@ fn wide(
 ) -> Tried
     requires { ⌜ Lent (now s) (now t) (now u) (now rank) (now keep) (now v) 98496 1024 1024 ⌝ }
     requires { ⌜ (names ≡ count-of name-line (lines-in (now t))) × (rounds ≡ run 100 (program (lines-in (now t))) .rounds) ⌝ }
-    ensures { λ r. ⌜ Tries (Short 512 64) (now (s .entry)) (now (v .entry)) (now (l .entry)) r (now (v .exit)) (now (l .exit)) ⌝ }
+    ensures { λ r. ⌜ Tries (Short (decls-of (lines-in (now (t .entry)))) 512 64) (now (s .entry)) (now (v .entry)) (now (l .entry)) r (now (v .exit)) (now (l .exit)) ⌝ }
 {
     let mut forms = [0u64; 512];
     let mut scratch = [0u64; 64];
@@ -94,7 +94,7 @@ fn first(
 ) -> Tried
     requires { ⌜ Lent (now s) (now t) (now u) (now rank) (now keep) (now v) 98496 1024 1024 ⌝ }
     requires { ⌜ (names ≡ count-of name-line (lines-in (now t))) × (rounds ≡ run 100 (program (lines-in (now t))) .rounds) ⌝ }
-    ensures { λ r. ⌜ Tries (Short 512 64) (now (s .entry)) (now (v .entry)) (now (l .entry)) r (now (v .exit)) (now (l .exit)) ⌝ }
+    ensures { λ r. ⌜ Tries (Short (decls-of (lines-in (now (t .entry)))) 512 64) (now (s .entry)) (now (v .entry)) (now (l .entry)) r (now (v .exit)) (now (l .exit)) ⌝ }
 {
     if rank.len() <= 64 {
         return small(s, t, names, rounds, u, rank, keep, v, l);
@@ -115,7 +115,7 @@ fn middle(
 ) -> Tried
     requires { ⌜ Lent (now s) (now t) (now u) (now rank) (now keep) (now v) 98496 1024 1024 ⌝ }
     requires { ⌜ (names ≡ count-of name-line (lines-in (now t))) × (rounds ≡ run 100 (program (lines-in (now t))) .rounds) ⌝ }
-    ensures { λ r. ⌜ Tries (Short 2048 1024) (now (s .entry)) (now (v .entry)) (now (l .entry)) r (now (v .exit)) (now (l .exit)) ⌝ }
+    ensures { λ r. ⌜ Tries (Short (decls-of (lines-in (now (t .entry)))) 2048 1024) (now (s .entry)) (now (v .entry)) (now (l .entry)) r (now (v .exit)) (now (l .exit)) ⌝ }
 {
     let mut forms = [0u64; 2048];
     let mut scratch = [0u64; 1024];
@@ -149,7 +149,7 @@ fn large(
 ) -> Tried
     requires { ⌜ Lent (now s) (now t) (now u) (now rank) (now keep) (now v) 98496 1024 1024 ⌝ }
     requires { ⌜ (names ≡ count-of name-line (lines-in (now t))) × (rounds ≡ run 100 (program (lines-in (now t))) .rounds) ⌝ }
-    ensures { λ r. ⌜ Tries (Short 98496 1024) (now (s .entry)) (now (v .entry)) (now (l .entry)) r (now (v .exit)) (now (l .exit)) ⌝ }
+    ensures { λ r. ⌜ Tries (Short (decls-of (lines-in (now (t .entry)))) 98496 1024) (now (s .entry)) (now (v .entry)) (now (l .entry)) r (now (v .exit)) (now (l .exit)) ⌝ }
 {
     let mut forms = [0u64; 98496];
     let mut scratch = [0u64; 1024];

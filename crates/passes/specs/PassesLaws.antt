@@ -8,28 +8,29 @@ use lib.ListN.{length, take, replicate, length-replicate}
 use lib.Seq.{length-take-le}
 use Rattle.meaning.specs.Program.{type-line, field-line}
 use Rattle.meaning.specs.Rows.{count-of}
-use Rattle.declared.specs.Passed.{Passed}
+use Rattle.sheet.specs.Format.{base}
+use Rattle.declared.specs.Passed.{Bounded}
 use Rattle.tables.specs.Tables.{decls-of}
 use Rattle.erasure.specs.declared.Erasure.{Erasure}
 use Rattle.erasure.specs.Fixpoint.{Fixpoint}
-use Rattle.erasure.specs.FixpointLaws.{types-few, decls-few}
 use Rattle.keeps.specs.Keeps.{Erased, Slotted}
 use Rattle.candidates.specs.Candidates.{Ruled}
 use Rattle.passes.specs.Passes.{Room, Lent}
 use Rattle.sheet.specs.Line.{Line}
+use Rattle.declared.specs.PassedLaws.{decls-within, types-within}
 use Rattle.returning.specs.Returning as returning
 
 -- ---- erasure
-module _ (ls : List Line) (p : Passed ls) (r : Erasure) (f : Fixpoint ls r) where
+module _ (ls : List Line) (w : Bounded base ls) (r : Erasure) (f : Fixpoint ls r) where
   -- the array of the marks of types serves the keep table,
   pub erased-of : length (r .node) ≡ 1024 → Erased ls (r .node)
-  erased-of l = record { marks = f .types; size = omega (arith, types-few ls p) }
+  erased-of l = record { marks = f .types; size = omega (arith, types-within base ls w) }
 
   -- and the first marks of declarations serve the layouts
   pub ruled-of : length (r .decl) ≡ 96 → (n : ℕ) → n ≡ decls-of ls → (keep : List ℕ) → Slotted ls keep → count-of field-line ls ≤ length keep → Ruled ls (take (n - 0) (r .decl)) keep
   ruled-of l n e keep s k =
       let h : n - 0 ≡ decls-of ls = omega arith in
-      rw h (record { marked = record { marks = f .marks; long = length-take-le (decls-of ls) (r .decl) (omega (arith, decls-few ls p)) }; slotted = s; long = k })
+      rw h (record { marked = record { marks = f .marks; long = length-take-le (decls-of ls) (r .decl) (omega (arith, decls-within base ls w)) }; slotted = s; long = k })
 
 -- ---- memory
 -- m rows of at most two words
@@ -44,10 +45,10 @@ front : (n : ℕ) → n ≤ 96 → length {A = ℕ} (take (n - 0) (replicate 96 
 front n h = let e : n - 0 ≡ n = omega arith in rw e (length-take-le n (replicate 96 0) (rw length-replicate h))
 
 -- local arrays are room enough
-pub room-of : (ls : List Line) → Passed ls → (n words : ℕ) (u rank : List ℕ) → n ≡ decls-of ls → words ≤ 2 → length u ≡ 2 * decls-of ls → length rank ≡ decls-of ls
+pub room-of : (ls : List Line) → Bounded base ls → (n words : ℕ) (u rank : List ℕ) → n ≡ decls-of ls → words ≤ 2 → length u ≡ 2 * decls-of ls → length rank ≡ decls-of ls
     → Room (decls-of ls) words u rank (take (n - 0) (replicate 96 0)) (take (n - 0) (replicate 96 0)) (replicate 192 0) (replicate 2 0) (replicate 96 0) (replicate 96 0)
 room-of ls p n words u rank e w cells ranks =
-    let d : decls-of ls ≤ 96 = decls-few ls p in
+    let d : decls-of ls ≤ 96 = decls-within base ls p in
     let h : length {A = ℕ} (take (n - 0) (replicate 96 0)) ≡ decls-of ls = front n (omega arith) ∙ e in
     let s : decls-of ls * words ≤ length {A = ℕ} (replicate 192 0) = rw length-replicate (two-words (decls-of ls) words 96 d w) in
     record {

@@ -2,9 +2,10 @@
 ghost use mathlib.Core.Path.{_≡_};
 ghost use Prim.Native.Nat.{_*_, _≤_};
 ghost use lib.ListN.{length};
+ghost use Rattle.sheet.specs.Format.{base};
 ghost use Rattle.meaning.specs.Program.{type-line, field-line};
 ghost use Rattle.meaning.specs.Rows.{count-of};
-ghost use Rattle.tables.specs.Tables.{Tabled, decls-of, lines-in};
+ghost use Rattle.tables.specs.Tables.{TabledIn, decls-of, lines-in};
 ghost use Rattle.candidates.specs.Candidates.{Ruled};
 ghost use Rattle.namesets.specs.Mentions.{Mentioned};
 ghost use Rattle.passes.specs.Passes.{Room, Lent, Judged, Ran};
@@ -31,7 +32,7 @@ fn judged(
     queue: &mut [u16],
     found: &mut [u8],
 ) -> usize
-    requires { ⌜ Tabled (now t) × Ruled (lines-in (now t)) (now decl) (now keep) ⌝ }
+    requires { ⌜ TabledIn base (now t) × Ruled (lines-in (now t)) (now decl) (now keep) ⌝ }
     requires { ⌜ Mentioned (lines-in (now t)) words (now sets) (count-of type-line (lines-in (now t))) ⌝ }
     requires { ⌜ Room (decls-of (lines-in (now t))) words (now u) (now rank) (now fields) (now bodies) (now steps) (now marks) (now queue) (now found) ⌝ }
     ensures { λ r. ⌜ Judged (lines-in (now (t .entry))) (now (u .exit)) r (now (rank .entry)) (now (rank .exit)) ⌝ }
@@ -63,7 +64,7 @@ fn mentioned(
     u: &mut [u16],
     rank: &mut [u16],
 ) -> usize
-    requires { ⌜ Tabled (now t) × Ruled (lines-in (now t)) (now decl) (now keep) ⌝ }
+    requires { ⌜ TabledIn base (now t) × Ruled (lines-in (now t)) (now decl) (now keep) ⌝ }
     requires { ⌜ Lent (decls-of (lines-in (now t))) (count-of type-line (lines-in (now t))) words (now sets) (now u) (now rank) ⌝ }
     ensures { λ r. ⌜ Judged (lines-in (now (t .entry))) (now (u .exit)) r (now (rank .entry)) (now (rank .exit)) ⌝ }
 {
@@ -105,7 +106,7 @@ fn words_for(n: usize) -> usize
 
 // In as many words as the sheet's types need: few for nearly every sheet.
 fn named(t: &[u32], decl: &[u8], keep: &[u8], u: &mut [u16], rank: &mut [u16]) -> usize
-    requires { ⌜ Tabled (now t) × Ruled (lines-in (now t)) (now decl) (now keep) ⌝ }
+    requires { ⌜ TabledIn base (now t) × Ruled (lines-in (now t)) (now decl) (now keep) ⌝ }
     requires { ⌜ (length (now u) ≡ 2 * decls-of (lines-in (now t))) × (length (now rank) ≡ decls-of (lines-in (now t))) ⌝ }
     ensures { λ r. ⌜ Judged (lines-in (now (t .entry))) (now (u .exit)) r (now (rank .entry)) (now (rank .exit)) ⌝ }
 {
@@ -120,7 +121,7 @@ fn named(t: &[u32], decl: &[u8], keep: &[u8], u: &mut [u16], rank: &mut [u16]) -
 
 // All passes: the keep table, what becomes of each name, and the ranks of declarations where none returns to itself.
 pub fn passes(t: &[u32], keep: &mut [u8], u: &mut [u16], rank: &mut [u16]) -> Run
-    requires { ⌜ Tabled (now t) × (count-of field-line (lines-in (now t)) ≤ length (now keep)) ⌝ }
+    requires { ⌜ TabledIn base (now t) × (count-of field-line (lines-in (now t)) ≤ length (now keep)) ⌝ }
     requires { ⌜ (length (now u) ≡ 2 * decls-of (lines-in (now t))) × (length (now rank) ≡ decls-of (lines-in (now t))) ⌝ }
     ensures { λ r. ⌜ Ran (lines-in (now (t .entry))) (now (keep .exit)) (now (u .exit)) r (now (rank .entry)) (now (rank .exit)) ⌝ }
 {

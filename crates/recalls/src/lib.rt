@@ -10,7 +10,7 @@ ghost use Rattle.tables.specs.Tables.{lines-in};
 
 // What becomes of declaration d's name; a foreign name is left.
 pub fn state(u: &[u16], d: usize) -> usize
-    requires { ⌜ d ≤ 96 ⌝ }
+    requires { ⌜ d ≤ 512 ⌝ }
     ensures { λ r. ⌜ r ≡ getD (now (u .entry)) (2 * d) 3 ⌝ }
 {
     if 2 * d >= u.len() {
@@ -21,7 +21,7 @@ pub fn state(u: &[u16], d: usize) -> usize
 
 // The Y line that declaration d's name is unfolded to.
 pub fn body(u: &[u16], d: usize) -> usize
-    requires { ⌜ (d ≤ 96) × (2 * d + 1 < length (now u)) ⌝ }
+    requires { ⌜ (d ≤ 512) × (2 * d + 1 < length (now u)) ⌝ }
     ensures { λ r. ⌜ r ≡ getD (now (u .entry)) (2 * d + 1) 0 ⌝ }
 {
     u[2 * d + 1] as usize

@@ -23,7 +23,8 @@ use Rattle.bares.specs.RowLaws.{repeats-number, repeats-split, repeats-bare}
 use Rattle.bares.specs.PlaceLaws.{count-bare, place3, place4, place5, place7}
 use Rattle.limits.specs.Limits.{counts-of}
 use Rattle.limits.specs.LimitsLaws.{short-bytes}
-use Rattle.declared.specs.Passed.{Passed}
+use Rattle.declared.specs.Passed.{Bounded, Passed}
+use Rattle.declared.specs.PassedLaws.{bounded-largest}
 use Rattle.refusals.specs.declared.Checked.{Checked}
 use Rattle.refusals.specs.Rows.{refused-as, with-counts, checked-of, Passes-rows, Checks}
 use Rattle.refusals.specs.CellLaws.{counts-cells}
@@ -56,14 +57,21 @@ none-repeats ls n e i j h l =
     neither (is name-line (line-at ls j) && is name-line (line-at ls i) && equal (text (line-at ls j)) (text (line-at ls i))) (repeats-number ls i j) (sym (repeats-split ls i j) ∙ r) .1
 
 module _ (b : List ℕ) where
-  rows-passed : Passes-rows b → Passed (map bare (lines 6 b))
-  rows-passed p =
+  rows-bounded : Passes-rows b → Bounded base (map bare (lines 6 b))
+  rows-bounded p =
       let n : length (map bare (lines 6 b)) ≡ count 6 b = count-bare 6 b in
       record {
         few = omega (arith, short-bytes b (p .short));
         small = lines-small (lines 6 b) (fit-lines 6 b (line-good 6 b (p .no-bad)));
-        in-order = place3 6 b (p .no-bad) ∙ p .in-order ∙ ap suc (sym n);
         in-limits = place4 6 b base ∙ p .in-limits ∙ sym n;
+      }
+
+  rows-passed : Passes-rows b → Passed (map bare (lines 6 b))
+  rows-passed p =
+      let n : length (map bare (lines 6 b)) ≡ count 6 b = count-bare 6 b in
+      record {
+        bounded = bounded-largest (map bare (lines 6 b)) (rows-bounded p);
+        in-order = place3 6 b (p .no-bad) ∙ p .in-order ∙ ap suc (sym n);
         in-range = place5 6 b ∙ p .in-range ∙ sym n;
         distinct = λ i j h l. repeats-bare (lines 6 b) i j ∙ none-repeats (lines 6 b) (count 6 b) (p .distinct) i j (omega arith) l;
         in-verdict = place7 6 b ∙ p .in-verdict ∙ sym n;
@@ -71,6 +79,9 @@ module _ (b : List ℕ) where
 
   pub accepted-passed : refusal (sheet-rows base b) ≡ Accepted → Passed (map bare (lines 6 b))
   accepted-passed e = rows-passed (accepted-rows b e)
+
+  pub accepted-bounded : refusal (sheet-rows base b) ≡ Accepted → Bounded base (map bare (lines 6 b))
+  accepted-bounded e = rows-bounded (accepted-rows b e)
 
 -- ---- what the test promises
 -- of a refused sheet
@@ -91,6 +102,7 @@ checks-lines b t r answer good n e =
             sized = n;
             lines-are = e;
             passed = rw e (accepted-passed b q);
+            bounded = rw e (accepted-bounded b q);
             counts-are = ap (λ (c : Checked). c .counts) answer ∙ ap (λ (x : Refusal). with-counts x (counts-of (lines 6 b)) .counts) q ∙ sym (counts-cells b t e);
           };
     }

@@ -13,7 +13,7 @@ use Rattle.meaning.specs.Rows.{raws, row3, row4, row5, row6, row7}
 use Rattle.answer.specs.Answer.{sheet-rows, refusal}
 use Rattle.limits.specs.declared.Counts.{Counts}
 use Rattle.limits.specs.Limits.{counts-of}
-use Rattle.declared.specs.Passed.{Passed}
+use Rattle.declared.specs.Passed.{Bounded, Passed}
 use Rattle.refusals.specs.declared.Checked.{Checked}
 
 -- ---- what the test of these rows answers
@@ -41,12 +41,13 @@ pub record Passes-rows (b : List ℕ) : Type 0 where
   pub distinct : first (row6 (lines 6 b)) (count 6 b) ≡ count 6 b
   pub in-verdict : first (row7 (lines 6 b)) (count 6 b) ≡ count 6 b
 
--- An accepted sheet: the cells hold its lines but for their texts, and these passed; so what reads the cells needs the bytes no more.
+-- An accepted sheet: the cells hold its lines but for their texts, and these passed, within the limits of the format; so what reads the cells needs the bytes no more.
 pub record Accepts (b t : List ℕ) (r : Checked) : Type 0 where
   pub no-bad : row2 6 b ≡ count 6 b
   pub sized : length t ≡ 6 * count 6 b
   pub lines-are : lines-of t ≡ map bare (lines 6 b)
   pub passed : Passed (lines-of t)
+  pub bounded : Bounded base (lines-of t)
   pub counts-are : r .counts ≡ counts-of (lines-of t)
 
 -- the answer r, and the cells t that it leaves

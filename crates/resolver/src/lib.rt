@@ -16,8 +16,8 @@ pub const TEN: usize = resolving::TEN;
 
 pub const VALUE: usize = resolving::VALUE;
 
-// The outcome of Y line y's type as it stands in declaration d. With 97 * 1,024 places there is
-// room for it.
+// The outcome of Y line y's type as it stands in declaration d. With 1,024 places for each declaration
+// and as many more there is room for it.
 pub fn resolved(
     t: &[u32],
     u: &[u16],
@@ -28,10 +28,11 @@ pub fn resolved(
 ) -> usize
     requires { ⌜ resolver.Place (lines-in (now t)) (now t) (now u) y d ⌝ }
     requires { ⌜ Slots (resolver.call-of (lines-in (now t)) (now u)) (now slots) ⌝ }
-    ensures { λ r. ⌜ resolver.Found (resolver.type-of-decl (lines-in (now (t .entry))) (now (u .entry)) d y) 97 0 0 (now (out .entry)) (now (out .exit)) (resolver.call-of (lines-in (now (t .entry))) (now (u .entry))) (now (slots .exit)) r ⌝ }
+    ensures { λ r. ⌜ resolver.Found (resolver.type-of-decl (lines-in (now (t .entry))) (now (u .entry)) d y) (resolver.fuel-of (lines-in (now (t .entry)))) 0 0 (now (out .entry)) (now (out .exit)) (resolver.call-of (lines-in (now (t .entry))) (now (u .entry))) (now (slots .exit)) r ⌝ }
 {
     if weighing::weigh(t, y, d, out, 0, 0, 0) > sums::LIMIT {
         return TEN;
     }
-    resolution::node(t, u, out, slots, 96, y, d, 0, 0, 0, 0)
+    let fuel = tables::decls(t);
+    resolution::node(t, u, out, slots, fuel, y, d, 0, 0, 0, 0)
 }

@@ -2,7 +2,7 @@
 use mathlib.Core.Logic.{_⊎_}
 use mathlib.Core.Path.{_≡_}
 use mathlib.Core.List.{List, []}
-use Prim.Native.Nat.{ℕ, _+_, _-_, _*_, _≤_, _<_}
+use Prim.Native.Nat.{ℕ, suc, _+_, _-_, _*_, _≤_, _<_}
 use lib.ListN.{length, getD, drop}
 use Rattle.sheet.specs.Line.{Line}
 use Rattle.model.specs.Cty.{size}
@@ -74,6 +74,10 @@ pub record Again (ls : List Line) (u : List ℕ) (d : ℕ) (os : List ℕ) (y la
   pub gives : y ≡ last → (j : ℕ) → Leads (eval-of ls u d os y [] j) (ok (getD out (top - 1) 0))
 
 -- ---- what is answered
+-- fuel for a chain through all declarations; with 1,024 places for each unit of it there is always room
+abbrev pub fuel-of : List Line → ℕ
+fuel-of ls = suc (decls-of ls)
+
 -- Short: how little room there is, with fuel k, for what has yet to wait above place `top`
 abbrev pub Short : List ℕ → ℕ → ℕ → Type 0
 Short out top k = length out < top + 1024 * k

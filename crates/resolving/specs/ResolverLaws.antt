@@ -20,7 +20,7 @@ use Rattle.model_laws.specs.Names.{position-le}
 use Rattle.meaning.specs.Laws.Program.{length-program}
 use Rattle.limits.specs.Limits.{counts-of}
 use Rattle.declared.specs.Passed.{Passed}
-use Rattle.declared.specs.PassedLaws.{passed-kept}
+use Rattle.declared.specs.PassedLaws.{decls-few}
 use Rattle.tables.specs.Tables.{decls-of}
 use Rattle.outcomes.specs.Outcome.{other, app, one, total, attached, built, argument, weight, instance-head, instance-shape, nodes, extra, called, eval, evals, entered, ev, fits}
 use Rattle.outcomes.specs.Answer.{listed, answer, Told}
@@ -34,7 +34,6 @@ use Rattle.outcomes.specs.Laws.Call.{extra-none, shape-parts, unfolded, fits-en
 use Rattle.kids.specs.Nodes.{y-line, kind-of, type-of, kids-of, kid-of}
 use Rattle.kids.specs.NodesLaws.{node-at, var-type, app-type, plain-type}
 use Rattle.arguments.specs.Params.{params-of}
-use Rattle.arguments.specs.ParamsLaws.{decls-few}
 use Rattle.weighing.specs.Weigh.{kid-types, weight-of}
 use Rattle.calls.specs.CallsLaws.{Copied}
 use Rattle.memory.specs.Slots.{Slots, Written, Recalled, slots-written}
@@ -767,7 +766,7 @@ module _ (ls : List Line) (t u : List ℕ) where
   body-here y d e p = subst (λ (i : ℕ). Place ls t u i d × (unfold-at ls u d ≡ unfolded (eqb (getD u (2 * d) 3) 1) (params-of ls d) (type-of ls i))) (sym e) p
 
 -- a name's declaration, or their number
-pub decl-least : (ls : List Line) → Passed ls → (n : ℕ) → position (program ls) n ≤ 96
+pub decl-least : (ls : List Line) → Passed ls → (n : ℕ) → position (program ls) n ≤ 512
 decl-least ls passed n = omega (arith, position-le (program ls) n, length-program ls, decls-few ls passed)
 
 -- ---- for the code
@@ -777,11 +776,6 @@ module _ (ls : List Line) (passed : Passed ls) (y : ℕ) (h : y < count-of type-
 
   pub name-within : kind-of ls y ≡ 8 → number (y-line ls y) 1 < count-of name-line ls
   name-within = node-at ls passed y h .named
-
--- names are few
-pub names-few : (ls : List Line) → Passed ls → count-of name-line ls ≤ 256
-unfolding counts-of
-names-few ls passed = passed-kept ls passed .names
 
 pub capped-least : (r n : ℕ) → r ≡ capped 1024 n → r ≤ 1025
 capped-least r n e = omega (arith, capped-most 1024 n)

@@ -22,7 +22,6 @@ use Rattle.model_laws.specs.Erasure.{cty-erased-mono, rule-mono, start-at}
 use Rattle.type_lines.specs.TypeLists.{types-of}
 use Rattle.limits.specs.Limits.{counts-of}
 use Rattle.declared.specs.Passed.{Passed}
-use Rattle.declared.specs.PassedLaws.{passed-kept}
 use Rattle.tables.specs.Tables.{nth, head-line, decls-of}
 use Rattle.declared.specs.TypeLaws.{good-arrow, good-tuple, good-inline, good-type-at}
 use Rattle.declared.specs.DeclLaws.{origin-import}
@@ -31,11 +30,7 @@ use Rattle.marks.specs.MarksLaws.{arg-is, bit-zero, marks-at, erased-unit, eras
 use Rattle.bodies.specs.Bodies.{field-type, State}
 use Rattle.rounds.specs.Rounds.{Running, Still, Stands, Updated}
 
--- ---- the limits
-pub decls-few : (ls : List Line) → Passed ls → decls-of ls ≤ 96
-unfolding counts-of
-decls-few ls p = passed-kept ls p .decls
-
+-- ---- how many marks there are
 pub marks-few : (ls : List Line) (decl : List ℕ) → length decl ≡ decls-of ls → trues (marks-of decl) ≤ decls-of ls
 marks-few ls decl e = omega (arith, trues-le (marks-of decl), length-map decl (λ x. eqb x 1))
 

@@ -9,16 +9,20 @@ use Rattle.columns.specs.Column.{_⇒_∥_}
 use Rattle.model.specs.Run.{layouts-of, returns, decl-fault}
 use Rattle.meaning.specs.Program.{program, field-line}
 use Rattle.meaning.specs.Rows.{count-of}
+use Rattle.sheet.specs.Format.{base}
+use Rattle.declared.specs.Passed.{Bounded}
 use Rattle.tables.specs.Tables.{decls-of, TableOf}
+use Rattle.resolving.specs.Resolver.{fuel-of}
 use Rattle.keeps.specs.Keeps.{Slotted}
 use Rattle.states.specs.States.{Settled}
 use Rattle.rows9.specs.declared.attempts.Outcome.{Outcome}
 use Rattle.rows9.specs.declared.attempts.Outcome.the-variants.{Clear, Fault, NoRoom}
 use Rattle.sheet.specs.Line.{Line}
 
--- what is asked: the table, the cells of names, the keep table, and that row 8 passed
+-- what is asked: the table, in the limits of the format, the cells of names, the keep table, and that row 8 passed
 pub record Asked (ls : List Line) (t u keep : List ℕ) : Type 0 where
   pub tabled : TableOf ls t
+  pub bounded : Bounded base ls
   pub settled : Settled ls u
   pub slotted : Slotted ls keep
   pub fields : count-of field-line ls ≤ length keep
@@ -35,11 +39,11 @@ pub record FaultAt (ls : List Line) (code d : ℕ) : Type 0 where
   pub is : code ≡ fault-of ls d
   pub any : code ≡ 0 → ⊥
 
--- what an attempt with so many places comes to; with 97 * 1,024 there is always room
+-- what an attempt with so many places comes to; with 1,024 for each unit of fuel there is always room
 abbrev pub Comes : List Line → ℕ → Outcome → Type 0
 Comes ls room Clear = (d : ℕ) → d < decls-of ls → fault-of ls d ≡ 0
 Comes ls room (Fault code d) = FaultAt ls code d
-Comes ls room NoRoom = room < 1024 * 97
+Comes ls room NoRoom = room < 1024 * fuel-of ls
 
 -- by the answer of the search, and its declaration
 unfoldable pub outcome-of : ℕ → ℕ → Outcome

@@ -9,6 +9,7 @@ use lib.Dec.{eqb, ltb}
 use lib.ListN.{length, getD, replicate}
 use borrow.Author.Tests.{eqb-true, eqb-false, ltb-true, ltb-false}
 use Rattle.columns.specs.Column.{pick, _⇒_∥_}
+use Rattle.sheet.specs.Format.{base}
 use Rattle.sheet.specs.Line.{Line}
 use Rattle.sheet.specs.ListLaws.{Every}
 use Rattle.model.specs.Cty.{Cty}
@@ -18,11 +19,11 @@ use Rattle.model.specs.Run.{lay, fault-code, decl-fault}
 use Rattle.model_laws.specs.Resolve.{Unspent}
 use Rattle.meaning.specs.Program.{program}
 use Rattle.meaning.specs.Laws.Program.{length-program}
+use Rattle.declared.specs.PassedLaws.{decls-within}
 use Rattle.locality.specs.Laws.Fuel.{NoReturn, fuel-unspent}
 use Rattle.tables.specs.Tables.{decls-of}
 use Rattle.kids.specs.Nodes.{type-of}
 use Rattle.arguments.specs.Params.{params-of}
-use Rattle.arguments.specs.ParamsLaws.{decls-few}
 use Rattle.outcomes.specs.Outcome.{outcome, mapped}
 use Rattle.outcomes.specs.Answer.{nine, answer, Told}
 use Rattle.outcomes.specs.Laws.Fuel.{Leads}
@@ -30,7 +31,7 @@ use Rattle.outcomes.specs.Laws.Answer.{answer-value, told-known}
 use Rattle.memory.specs.Slots.{Slots, slots-none}
 use Rattle.states.specs.States.{lay-of, resolves-of}
 use Rattle.states.specs.StatesLaws.{resolves-are}
-use Rattle.resolving.specs.Resolver.{type-of-decl}
+use Rattle.resolving.specs.Resolver.{type-of-decl, fuel-of}
 use Rattle.rows9.specs.Closing.{answered-is}
 use Rattle.faults.specs.declared.First.{First}
 use Rattle.faults.specs.Faults.{Kept, Fine, Answers, clear, stops, goes, AllFine, Firstly}
@@ -63,17 +64,15 @@ module _ (ls : List Line) (t u keep : List ℕ) (asked : Asked ls t u keep) (d :
   abbrev ds : List Decl
   ds = program ls
 
-  few : length ds ≤ 96
-  few = omega (arith, length-program ls, decls-few ls (asked .tabled .passed))
-
   no-return : NoReturn ds
   no-return i l = asked .no-return i (omega (arith, length-program ls))
 
-  unspent-97 : (c : Cty) → Unspent (resolve-checked 1024 (lay ds) 97 c)
-  unspent-97 c = fuel-unspent ds no-return 96 few 1024 c
+  -- the fuel of the search is enough, and so is the format's
+  unspent-search : (c : Cty) → Unspent (resolve-checked 1024 (lay ds) (fuel-of ls) c)
+  unspent-search c = fuel-unspent ds no-return (decls-of ls) (omega (arith, length-program ls)) 1024 c
 
-  unspent-100 : (c : Cty) → Unspent (resolve-checked 1024 (lay ds) 100 c)
-  unspent-100 c = fuel-unspent ds no-return 99 (omega (arith, few)) 1024 c
+  unspent-base : (c : Cty) → Unspent (resolve-checked 1024 (lay ds) 100 c)
+  unspent-base c = fuel-unspent ds no-return 99 (omega (arith, length-program ls, decls-within base ls (asked .bounded))) 1024 c
 
   -- a type of the declaration, closed, and its resolution
   abbrev type-at : ℕ → Cty
@@ -82,14 +81,14 @@ module _ (ls : List Line) (t u keep : List ℕ) (asked : Asked ls t u keep) (d :
   abbrev res : Cty → Result Cty
   res = resolve-checked 1024 (lay ds) 100
 
-  told-is : (y r : ℕ) → Told (type-of-decl ls u d y) 97 r ⊥ r → (nine ≤ r) × (outcome (res (type-at y)) ≡ answer r r)
+  told-is : (y r : ℕ) → Told (type-of-decl ls u d y) (fuel-of ls) r ⊥ r → (nine ≤ r) × (outcome (res (type-at y)) ≡ answer r r)
   told-is y r t =
-      answered-is 1024 (omega arith) (lay ds) (lay-of ls u) (asked .settled .names) (params-of ls d) (params-of ls d) (type-of ls y) 97 100 ⊥ r t (λ z. z) (unspent-97 (type-at y)) (unspent-100 (type-at y))
+      answered-is 1024 (omega arith) (lay ds) (lay-of ls u) (asked .settled .names) (params-of ls d) (params-of ls d) (type-of ls y) (fuel-of ls) 100 ⊥ r t (λ z. z) (unspent-search (type-at y)) (unspent-base (type-at y))
 
   fine-is : (y : ℕ) → (f : Fine (type-of-decl ls u d y)) → outcome (res (type-at y)) ≡ ok (f .outcome)
   fine-is y f =
       told-is y (f .outcome)
-      (told-known (type-of-decl ls u d y) 97 (f .outcome) ⊥ (f .outcome) (omega (arith, f .value)) (λ j. subst (λ (x : Result ℕ). Leads (type-of-decl ls u d y j) x) (sym (answer-value (f .outcome) (f .outcome) (f .value))) (f .gives j)))
+      (told-known (type-of-decl ls u d y) (fuel-of ls) (f .outcome) ⊥ (f .outcome) (omega (arith, f .value)) (λ j. subst (λ (x : Result ℕ). Leads (type-of-decl ls u d y j) x) (sym (answer-value (f .outcome) (f .outcome) (f .value))) (f .gives j)))
       .1
       ∙ answer-value (f .outcome) (f .outcome) (f .value)
 
@@ -98,7 +97,7 @@ module _ (ls : List Line) (t u keep : List ℕ) (asked : Asked ls t u keep) (d :
   all-fine [] f = refl
   all-fine (y ∷ ys) f = code-fine res (type-at y) (map type-at ys) (f .0 .outcome) (fine-is y (f .0)) ∙ all-fine ys (f .1)
 
-  stop-code : (y r : ℕ) (cs : List Cty) → r < 4 → (r ≡ 1 → ⊥) → Told (type-of-decl ls u d y) 97 r ⊥ r → (2 ≤ r) × (fault-code res (type-at y ∷ cs) ≡ pick (eqb r 2) 9 10)
+  stop-code : (y r : ℕ) (cs : List Cty) → r < 4 → (r ≡ 1 → ⊥) → Told (type-of-decl ls u d y) (fuel-of ls) r ⊥ r → (2 ≤ r) × (fault-code res (type-at y ∷ cs) ≡ pick (eqb r 2) 9 10)
   unfolding answer
   stop-code y r cs l n t =
       let q = told-is y r t in
@@ -112,7 +111,7 @@ module _ (ls : List Line) (t u keep : List ℕ) (asked : Asked ls t u keep) (d :
       go false e true f = refl
       go false e false f = absurd (omega (arith, eqb-false r 2 e, eqb-false r 3 f, low))
 
-  short : (room : ℕ) (ys : List ℕ) → Answers ls u d room ys 1 → room < 1024 * 97
+  short : (room : ℕ) (ys : List ℕ) → Answers ls u d room ys 1 → room < 1024 * fuel-of ls
   short room [] (clear q) = absurd (omega arith)
   short room (y ∷ ys) (stops q t) = t .short refl
   short room (y ∷ ys) (goes f a) = short room ys a
@@ -135,7 +134,7 @@ module _ (ls : List Line) (t u keep : List ℕ) (asked : Asked ls t u keep) (d :
   pub stopped-fault : (room r : ℕ) → r < 4 → (r ≡ 1 → ⊥) → Answers ls u d room (resolves-of ls u keep d) r → (2 ≤ r) × (fault-of ls d ≡ pick (eqb r 2) 9 10)
   stopped-fault room r l n a = let q = stopped room (resolves-of ls u keep d) r l n a in (q .0, fault-is ∙ q .1)
 
-  pub short-fault : (room : ℕ) → Answers ls u d room (resolves-of ls u keep d) 1 → room < 1024 * 97
+  pub short-fault : (room : ℕ) → Answers ls u d room (resolves-of ls u keep d) 1 → room < 1024 * fuel-of ls
   short-fault room a = short room (resolves-of ls u keep d) a
 
 -- ---- what an attempt comes to

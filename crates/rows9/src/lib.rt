@@ -68,7 +68,7 @@ fn completed(t: &[u32], u: &[u16], keep: &[u8], r: Outcome) -> Outcome
 
 // The place is the declaration's line. There is room by now.
 fn refused(t: &[u32], r: Outcome) -> Refusal
-    requires { ⌜ tables.Tabled (now t) ⌝ }
+    requires { ⌜ tables.TabledIn base (now t) ⌝ }
     requires { ⌜ attempts.Comes (tables.lines-in (now t)) 99328 r ⌝ }
     ensures { λ r. ⌜ r ≡ answer.refusal (head_rows.faults-row base (tables.lines-in (now (t .entry))) ∷ []) ⌝ }
 {

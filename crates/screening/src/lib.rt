@@ -1,5 +1,6 @@
 // From the marks and the kept fields to the verdicts: candidates, the guard against cycles, layouts.
 use layouts::Verdict;
+ghost use Rattle.sheet.specs.Format.{base};
 ghost use Rattle.meaning.specs.Program as program;
 ghost use Rattle.meaning.specs.Rows as rows;
 ghost use Rattle.tables.specs.Tables as tables;
@@ -22,7 +23,7 @@ pub fn verdicts(
     queue: &mut [u16],
     found: &mut [u8],
 ) -> [Verdict; 96]
-    requires { ⌜ tables.Tabled (now t) ⌝ }
+    requires { ⌜ tables.TabledIn base (now t) ⌝ }
     requires { ⌜ Ruled (tables.lines-in (now t)) (now decl) (now keep) ⌝ }
     requires { ⌜ Mentioned (tables.lines-in (now t)) words (now sets) (rows.count-of program.type-line (tables.lines-in (now t))) ⌝ }
     requires { ⌜ Room (tables.decls-of (tables.lines-in (now t))) words (now fields) (now bodies) (now steps) (now marks) (now queue) (now found) ⌝ }

@@ -24,8 +24,7 @@ use Rattle.answer.specs.Laws.Build.{verdict-sheet-length}
 use Rattle.answer.specs.Laws.Left.{pass-fit}
 use Rattle.limits.specs.Limits.{counts-of}
 use Rattle.declared.specs.Passed.{Passed}
-use Rattle.declared.specs.PassedLaws.{passed-kept}
-use Rattle.tables.specs.Tables.{lines-in}
+use Rattle.tables.specs.Tables.{decls-of, lines-in}
 use Rattle.tables.specs.OfSheet.{OfSheet, program-same, count-same}
 use Rattle.normal_forms.specs.Ranks.{Formed}
 use Rattle.lefts.specs.declared.Count.{Count}
@@ -107,10 +106,6 @@ tries-twelve Short b v l n r a h e q z =
     tries-gives Short b v l r v l (rw (z, e) (gives-refused b v l 12 (needed b) (rows-twelve b (length v) (length l) a h (rw e at q))))
 
 -- ---- the counts
-pub names-few : (ls : List Line) → Passed ls → count-of name-line ls ≤ 256
-unfolding counts-of
-names-few ls p = passed-kept ls p .names
-
 module _ (b t u keep : List ℕ) (n : ℕ) (of : OfSheet b t) where
   pub needed-of : input-refusal base b ≡ Accepted → (r : Count) (names : ℕ) → names ≡ count-of name-line (lines-in t) → Counted (lines-in t) u keep n r → r .room ≡ true
       → 32 * (names + r .args + r .types + r .lines) ≡ needed b
@@ -133,10 +128,10 @@ module _ (b t u rank keep v : List ℕ) (forms scratch stack : ℕ) (f₀ f : Li
         stacked = lent .stacked;
       }
 
-  pub short-of : length f < e → (length f₀ < 98496) ⊎ (scratch < 1024)
-  short-of h = go (decLt (length f₀) 98496) (decLt scratch 1024)
+  pub short-of : length f < e → (length f₀ < 1026 * decls-of (lines-in t)) ⊎ (scratch < 1024)
+  short-of h = go (decLt (length f₀) (1026 * decls-of (lines-in t))) (decLt scratch 1024)
     where
-      go : Dec (length f₀ < 98496) → Dec (scratch < 1024) → (length f₀ < 98496) ⊎ (scratch < 1024)
+      go : Dec (length f₀ < 1026 * decls-of (lines-in t)) → Dec (scratch < 1024) → (length f₀ < 1026 * decls-of (lines-in t)) ⊎ (scratch < 1024)
       go (yes p) q = inl p
       go (no p) (yes q) = inr q
       go (no p) (no q) = absurd (never-short (lines-in t) t u rank keep (lent .ranked) (lent .settled) (lent .resolvable) (lent .slotted) scratch (length f₀) (omega arith) (omega arith) (x .short (omega (arith, x .same))))

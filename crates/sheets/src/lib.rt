@@ -9,7 +9,7 @@ ghost use lib.ListN.{length};
 ghost use Rattle.model.specs.Run.{run};
 ghost use Rattle.meaning.specs.Program.{name-line, program};
 ghost use Rattle.meaning.specs.Rows.{count-of};
-ghost use Rattle.tables.specs.Tables.{lines-in};
+ghost use Rattle.tables.specs.Tables.{decls-of, lines-in};
 ghost use Rattle.lefts.specs.Lefts.{Flagged};
 ghost use Rattle.built.specs.Built.{Tries};
 ghost use Rattle.sheets.specs.Sheets.{no-room, Known, Owed, Lent, Written};
@@ -129,7 +129,7 @@ pub fn sheets(
 ) -> Tried
     requires { ⌜ Lent (now s) (now t) (now u) (now rank) (now keep) (now v) (length (now f)) (length (now scratch)) (length (now stack)) ⌝ }
     requires { ⌜ (names ≡ count-of name-line (lines-in (now t))) × (rounds ≡ run 100 (program (lines-in (now t))) .rounds) ⌝ }
-    ensures { λ r. ⌜ Tries ((length (now (f .entry)) < 98496) ⊎ (length (now (scratch .entry)) < 1024)) (now (s .entry)) (now (v .entry)) (now (l .entry)) r (now (v .exit)) (now (l .exit)) ⌝ }
+    ensures { λ r. ⌜ Tries ((length (now (f .entry)) < 1026 * decls-of (lines-in (now (t .entry)))) ⊎ (length (now (scratch .entry)) < 1024)) (now (s .entry)) (now (v .entry)) (now (l .entry)) r (now (v .exit)) (now (l .exit)) ⌝ }
 {
     let e = form_tables::normal_forms(t, u, rank, f, scratch);
     if e > f.len() {

@@ -66,11 +66,11 @@ section-step T t u false at w j k e a f m = rw e (λ x l h. f x (a x l h))
 
 -- ---- the header
 -- what the sizes of a table that has few cells let its header hold
-module _ (z : Sizes) (h : (cell-count z < 65536) × (z .names + z .args + z .types ≤ z .lines)) where
-  pub places-small : (n : ℕ) → n ≤ z .lines → (n < 65536) × (6 * n < 65536)
+module _ (z : Sizes) (h : (cell-count z < 262144) × (z .names + z .args + z .types ≤ z .lines)) where
+  pub places-small : (n : ℕ) → n ≤ z .lines → (n < 262144) × (6 * n < 262144)
   places-small n l = (omega (arith, h .0), omega (arith, h .0))
 
-  pub header-small : (k : ℕ) → k < 11 → getD (header z) k 0 < 65536
+  pub header-small : (k : ℕ) → k < 11 → getD (header z) k 0 < 262144
   unfolding header
   header-small zero l = omega (arith, h .0, h .1)
   header-small (suc zero) l = omega (arith, h .0)

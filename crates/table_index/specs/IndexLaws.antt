@@ -98,10 +98,10 @@ module _ (ls : List Line) (p : Passed ls) where
   seen-fits i h c e =
       rw e
       (record {
-        line = omega (arith, p .few);
-        params = omega (arith, count-before-le ls param-line i h, p .few);
-        ctors = omega (arith, count-before-le ls ctor-line i h, p .few);
-        fields = omega (arith, count-before-le ls field-line i h, p .few);
+        line = omega (arith, p .bounded .few);
+        params = omega (arith, count-before-le ls param-line i h, p .bounded .few);
+        ctors = omega (arith, count-before-le ls ctor-line i h, p .bounded .few);
+        fields = omega (arith, count-before-le ls field-line i h, p .bounded .few);
       })
 
 -- ---- where a declaration begins
@@ -343,7 +343,7 @@ module _ (ls : List Line) (t : List ℕ) (i : ℕ) (c : Seen) (R : Reached ls t 
         rw (w, le-ltb (position (program ls) n) (heads-before ls i + 1) (omega arith))
 
     pub decls-fit : c .decls < 65536
-    decls-fit = omega (arith, seen-decls, d-lt, heads-before-le ls i (R .inside), R .passed .few)
+    decls-fit = omega (arith, seen-decls, d-lt, heads-before-le ls i (R .inside), R .passed .bounded .few)
 
     pub begin-room : Fits i c × (6 < length t) × (getD t 6 0 + c .decls * 4 + 4 ≤ length t)
     begin-room =

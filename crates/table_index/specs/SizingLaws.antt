@@ -19,7 +19,7 @@ use Rattle.header.specs.OrderLaws.{header-le, count-of-le}
 use Rattle.limits.specs.Limits.{start, counts-of}
 use Rattle.limits.specs.LimitsLaws.{start-past, Kind, kind, a-name, an-arg, a-type, a-local, an-import, a-param, a-ctor, a-field, another}
 use Rattle.declared.specs.Passed.{Passed}
-use Rattle.declared.specs.PassedLaws.{passed-kept}
+use Rattle.declared.specs.PassedLaws.{decls-few, lines-few}
 use Rattle.declared.specs.DeclLaws.{ends-lines, verdicts-first}
 use Rattle.tables.specs.Tables.{decls-of, sizes-of, cell-count}
 use Rattle.table_index.specs.Sizing.{Counted}
@@ -82,6 +82,6 @@ module _ (ls : List Line) (p : Passed ls) where
       rw (e, k .lines-are, k .names-are, k .args-are, k .types-are, k .decls-are, k .ctors-are, k .fields-are)
 
   -- ---- the limits
-  pub cells-few : cell-count (sizes-of ls) < 65536
+  pub cells-few : cell-count (sizes-of ls) < 262144
   unfolding sizes-of counts-of
-  cells-few = omega (arith, passed-kept ls p .decls, p .few, header-le ls, count-of-le param-line ls, count-of-le ctor-line ls, count-of-le field-line ls)
+  cells-few = omega (arith, decls-few ls p, lines-few ls p, header-le ls, count-of-le param-line ls, count-of-le ctor-line ls, count-of-le field-line ls)

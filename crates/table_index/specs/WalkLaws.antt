@@ -193,7 +193,7 @@ module _ (z : Sizes) (t : List ℕ) (D : Ready z t) where
   unfolding sizes-of
   decls-are = ap (λ (s : Sizes). s .decls) (D .sizes)
 
-  pub sizes-fit : (cell-count z < 65536) × (z .names + z .args + z .types ≤ z .lines)
+  pub sizes-fit : (cell-count z < 262144) × (z .names + z .args + z .types ≤ z .lines)
   sizes-fit =
       (omega (arith, ap cell-count (D .sizes), cells-few (lines-behind z t) (D .passed)), omega (arith, lines-are, names-are, args-are, types-are, header-le (lines-behind z t)))
 

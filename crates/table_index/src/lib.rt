@@ -62,14 +62,14 @@ pub fn sizes(
 
 // How many cells the table has.
 pub fn cells(z: Sizes) -> usize
-    requires { ⌜ tables.cell-count z < 65536 ⌝ }
+    requires { ⌜ tables.cell-count z < 262144 ⌝ }
     ensures { λ r. ⌜ r ≡ tables.cell-count z ⌝ }
 {
     HEADER + 6 * z.lines + (z.decls + 1) * 4 + z.params + z.ctors + z.fields + z.names
 }
 
 fn put_header(z: Sizes, t: &mut [u32])
-    requires { ⌜ (tables.cell-count z < 65536) × (z .names + z .args + z .types ≤ z .lines) ⌝ }
+    requires { ⌜ (tables.cell-count z < 262144) × (z .names + z .args + z .types ≤ z .lines) ⌝ }
     requires { ⌜ length (now t) ≡ tables.cell-count z ⌝ }
     ensures { λ _. ⌜ now (t .exit) ≡ tables.header z ++ drop 11 (now (t .entry)) ⌝ }
 {

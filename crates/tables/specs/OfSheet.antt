@@ -18,18 +18,19 @@ use Rattle.meaning.specs.Rows.{line-at, count-of, row3, row4, row5, row7}
 use Rattle.meaning.specs.Laws.Output.{number-fits}
 use Rattle.header.specs.OrderLaws.{Ordered}
 use Rattle.limits.specs.Limits.{start}
-use Rattle.declared.specs.Passed.{Passed}
+use Rattle.declared.specs.Passed.{Bounded, Passed}
 use Rattle.declared.specs.BareLaws.{decls-bare, start-bare, first-of-bare, head-is}
-use Rattle.declared.specs.PassedLaws.{ordered}
-use Rattle.tables.specs.Tables.{head-line, decls-of, first-of, lines-in, Tabled}
+use Rattle.declared.specs.PassedLaws.{ordered, bounded-largest}
+use Rattle.tables.specs.Tables.{head-line, decls-of, first-of, lines-in, Tabled, TabledIn}
 use Rattle.bares.specs.PlaceLaws as place
 
--- The bytes passed rows 1 and 2, and the table's lines are theirs without texts.
+-- The bytes passed rows 1 and 2, and the table's lines are theirs without texts, within the limits of the format.
 pub record OfSheet (b t : List ℕ) : Type 0 where
   pub tabled : Tabled t
   pub short : row1 base b ≡ false
   pub no-bad : row2 6 b ≡ count 6 b
   pub lines-are : lines-in t ≡ map bare (lines 6 b)
+  pub bounded : Bounded base (lines-in t)
 
 -- numbers of six columns, also past the end, where they are 0
 numbers-small : (ls : List Line) → AllFit 6 ls → (i k : ℕ) → number (line-at ls i) k < 1000000
@@ -59,7 +60,21 @@ module _ (b t : List ℕ) (of : OfSheet b t) where
   pub sheet-ordered : Ordered 0 (map letter (lines 6 b))
   sheet-ordered = let e : map letter (lines-in t) ≡ map letter (lines 6 b) = ap (map letter) (of .lines-are) ∙ map-bare letter (λ l. refl) (lines 6 b) in rw e at (ordered (lines-in t) (of .tabled .passed))
 
+  pub tabled-in : TabledIn base t
+  tabled-in = record { tabled = of .tabled; bounded = of .bounded }
+
   -- the lines with their texts passed as well
+  sheet-bounded : Bounded base (lines 6 b)
+  sheet-bounded =
+      let ls : List Line = lines 6 b in
+      let p : Bounded base (map bare ls) = rw (of .lines-are) at (of .bounded) in
+      let n : length (map bare ls) ≡ length ls = length-map ls bare in
+      record {
+        few = omega (arith, p .few);
+        small = numbers-small ls (fit-lines 6 b (line-good 6 b (of .no-bad)));
+        in-limits = first-congr (row4 base ls) (row4 base (map bare ls)) (length ls) (λ i h. sym (row4-bare base ls i)) ∙ (rw n at (p .in-limits));
+      }
+
   pub sheet-passed : Passed (lines 6 b)
   sheet-passed =
       let ls : List Line = lines 6 b in
@@ -67,10 +82,8 @@ module _ (b t : List ℕ) (of : OfSheet b t) where
       let n : length (map bare ls) ≡ length ls = length-map ls bare in
       let m : length ls ≡ count 6 b = length-lines 6 b in
       record {
-        few = omega (arith, p .few);
-        small = numbers-small ls (fit-lines 6 b (line-good 6 b (of .no-bad)));
+        bounded = bounded-largest ls sheet-bounded;
         in-order = first-congr (row3 ls) (row3 (map bare ls)) (suc (length ls)) (λ i h. sym (row3-bare ls i)) ∙ (rw n at (p .in-order));
-        in-limits = first-congr (row4 base ls) (row4 base (map bare ls)) (length ls) (λ i h. sym (row4-bare base ls i)) ∙ (rw n at (p .in-limits));
         in-range = first-congr (row5 ls) (row5 (map bare ls)) (length ls) (λ i h. sym (row5-bare ls i)) ∙ (rw n at (p .in-range));
         distinct = λ i j h l. sym (repeats-bare ls i j) ∙ p .distinct i j (omega arith) l;
         in-verdict = first-congr (row7 ls) (row7 (map bare ls)) (length ls) (λ i h. sym (row7-bare ls i)) ∙ (rw n at (p .in-verdict));

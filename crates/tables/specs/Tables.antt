@@ -9,7 +9,8 @@ use Rattle.model.specs.Decl.{table, position}
 use Rattle.meaning.specs.Program.{name-line, arg-line, type-line, param-line, ctor-line, field-line, program}
 use Rattle.meaning.specs.Rows.{count-of}
 use Rattle.limits.specs.Limits.{start}
-use Rattle.declared.specs.Passed.{Passed}
+use Rattle.sheet.specs.Format.{Format}
+use Rattle.declared.specs.Passed.{Bounded, Passed}
 use Rattle.tables.specs.declared.Sizes.{Sizes}
 use Rattle.cells.specs.Cells.{cells, lines-of}
 pub use Rattle.declared.specs.Lines.{nth, place-of, no-group, group, head-line, decls-of, first-of}
@@ -126,3 +127,8 @@ lines-in t = lines-of (take (6 * getD t 3 0) (drop 11 t))
 
 abbrev pub Tabled : List ℕ → Type 0
 Tabled t = TableOf (lines-in t) t
+
+-- and whose lines are within the limits of a format, for the owner of arrays of its sizes
+pub record TabledIn (f : Format) (t : List ℕ) : Type 0 where
+  pub tabled : Tabled t
+  pub bounded : Bounded f (lines-in t)

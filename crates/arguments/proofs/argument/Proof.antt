@@ -4,9 +4,10 @@ use Prim.Native.Nat.{_+_, _-_, _≤_}
 use native.Mathlib.Omega.{arith}
 use Rattle.meaning.specs.Program.{param-line}
 use Rattle.limits.specs.Limits.{start}
+use Rattle.declared.specs.PassedLaws.{decls-few, params-few}
 use Rattle.outcomes.specs.Scratch.{part}
 use Rattle.arguments.specs.Params.{params-from}
-use Rattle.arguments.specs.ParamsLaws.{sought, sought-first, sought-end, sought-out, sought-hit, sought-miss, count-before-le, params-few, decls-few, found-of}
+use Rattle.arguments.specs.ParamsLaws.{sought, sought-first, sought-end, sought-out, sought-hit, sought-miss, count-before-le, found-of}
 use Rattle.arguments.proofs.argument.Statement.{statement}
 use Rattle.tables.specs.Tables.{lines-in}
 use Rattle.outcomes.specs.Outcome as outcome

@@ -3,37 +3,39 @@ use mathlib.Core.Path.{ap, _∙_}
 use Prim.Native.Nat.{ℕ, _*_, _≤_}
 use native.Mathlib.Omega.{arith}
 use borrow.Author.Needs.{needs}
+use Rattle.sheet.specs.Format.{base}
+use Rattle.declared.specs.PassedLaws.{decls-within, fields-within}
 use Rattle.tables.specs.Tables.{lines-in}
-use Rattle.build.specs.BuildLaws.{decls-few, fields-few, part-length}
+use Rattle.build.specs.BuildLaws.{part-length}
 use Rattle.build.proofs.tabled.Statement.{statement}
 use Rattle.build.proofs.tabled.Tie as tie
 
 mul-decided : tie.Need-mul-decided
 mul-decided c =
     let a = c .before .before .before .before .before .before in
-    let h : c .before .decls .result ≤ 96 = rw (c .before .decls .ensures) (decls-few (lines-in (a .args .t .now)) (a .pre .0 .of .tabled .passed)) in
+    let h : c .before .decls .result ≤ 96 = rw (c .before .decls .ensures) (decls-within base (lines-in (a .args .t .now)) (a .pre .0 .of .bounded)) in
     search needs
 
 part-u-end : tie.Need-part-u-end
 part-u-end c =
     let a = c .before .before .before .before .before .before in
-    let h : c .before .decls .result ≤ 96 = rw (c .before .decls .ensures) (decls-few (lines-in (a .args .t .now)) (a .pre .0 .of .tabled .passed)) in
+    let h : c .before .decls .result ≤ 96 = rw (c .before .decls .ensures) (decls-within base (lines-in (a .args .t .now)) (a .pre .0 .of .bounded)) in
     let k : 2 * c .before .decls .result ≤ 192 = omega arith in
     search needs
 
 part-rank-end : tie.Need-part-rank-end
 part-rank-end c =
     let a = c .before .before .before .before .before .before .before in
-    let h : c .before .before .decls .result ≤ 96 = rw (c .before .before .decls .ensures) (decls-few (lines-in (a .args .t .now)) (a .pre .0 .of .tabled .passed)) in
+    let h : c .before .before .decls .result ≤ 96 = rw (c .before .before .decls .ensures) (decls-within base (lines-in (a .args .t .now)) (a .pre .0 .of .bounded)) in
     search needs
 
 decided-requires : tie.Need-decided-requires
 decided-requires c κs =
     let a = c .before .before .before .before .before .before .before .before .before .before in
-    let p = a .pre .0 .of .tabled .passed in
+    let p = a .pre .0 .of .bounded in
     let e = c .before .before .before .before .before .decls .ensures in
-    let h : c .before .before .before .before .before .decls .result ≤ 96 = rw e (decls-few (lines-in (a .args .t .now)) p) in
-    ((a .pre .0, fields-few (lines-in (a .args .t .now)) p), ((part-length 192 (2 * c .before .before .before .before .before .decls .result) (omega arith) ∙ ap (λ (n : ℕ). 2 * n) e, part-length 96 (c .before .before .before .before .before .decls .result) h ∙ e), a .pre .1))
+    let h : c .before .before .before .before .before .decls .result ≤ 96 = rw e (decls-within base (lines-in (a .args .t .now)) p) in
+    ((a .pre .0, fields-within base (lines-in (a .args .t .now)) p), ((part-length 192 (2 * c .before .before .before .before .before .decls .result) (omega arith) ∙ ap (λ (n : ℕ). 2 * n) e, part-length 96 (c .before .before .before .before .before .decls .result) h ∙ e), a .pre .1))
 
 pub tabled-spec : {M : Type 1} → statement M
 tabled-spec =

@@ -1,9 +1,9 @@
 -- `calls::params` meets its contract. Assumes nothing.
 use Prim.Native.Nat.{_-_}
 use native.Mathlib.Omega.{arith}
-use Rattle.arguments.specs.ParamsLaws.{decls-few}
 use Rattle.calls.specs.CallsLaws.{counted-of}
 use borrow.Author.Needs.{needs}
+use Rattle.declared.specs.PassedLaws.{decls-few}
 use Rattle.calls.proofs.params.Statement.{statement}
 use Rattle.tables.specs.Tables.{lines-in}
 use Rattle.calls.proofs.params.Tie as tie

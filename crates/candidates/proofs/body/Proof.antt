@@ -1,7 +1,7 @@
 -- `candidates::body` meets its contract. Assumes nothing.
 use native.Mathlib.Omega.{arith}
 use borrow.Author.Needs.{needs}
-use Rattle.bodies.specs.BodiesLaws.{types-few}
+use Rattle.declared.specs.PassedLaws.{types-few}
 use Rattle.candidates.proofs.body.Statement.{statement}
 use Rattle.tables.specs.Tables.{lines-in}
 use Rattle.candidates.proofs.body.Tie as tie

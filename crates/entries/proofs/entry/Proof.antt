@@ -4,7 +4,7 @@ use Prim.Native.Nat.{_≤_}
 use native.Mathlib.Omega.{arith}
 use lib.Dec.{eqb}
 use borrow.Author.Tests.{not-true, not-false}
-use Rattle.arguments.specs.ParamsLaws.{decls-few}
+use Rattle.declared.specs.PassedLaws.{decls-few}
 use Rattle.resolving.specs.ResolverLaws.{unfolded-at, entered-nine, entered-spent, entered-enough, entered-ten, entered-var, entered-open, capped-least}
 use Rattle.entries.proofs.entry.Statement.{statement}
 use Rattle.tables.specs.Tables.{lines-in}

@@ -2,54 +2,56 @@
 use Prim.Native.Nat.{_≤_}
 use native.Mathlib.Omega.{arith}
 use borrow.Author.Needs.{needs}
-use Rattle.erasure.specs.FixpointLaws.{types-few, decls-few, fresh-of, fixpoint-of}
+use Rattle.sheet.specs.Format.{base}
+use Rattle.declared.specs.PassedLaws.{decls-within, types-within}
+use Rattle.erasure.specs.FixpointLaws.{fresh-of, fixpoint-of}
 use Rattle.fixpoints.proofs.erasure_fixpoint.Statement.{statement}
 use Rattle.tables.specs.Tables.{lines-in}
 use Rattle.fixpoints.proofs.erasure_fixpoint.Tie as tie
 
 cast-none : tie.Need-cast-none
-cast-none c = let a = c .before .before .before in omega (arith, c .types .ensures, types-few (lines-in (a .args .t .now)) (a .pre .passed))
+cast-none c = let a = c .before .before .before in omega (arith, c .types .ensures, types-within base (lines-in (a .args .t .now)) (a .pre .bounded))
 
 part-used-end : tie.Need-part-used-end
 part-used-end c =
     let a = c .before .before .before in
     let e = c .before .decls in
-    let h : e .result ≤ 96 = omega (arith, e .ensures, decls-few (lines-in (a .args .t .now)) (a .pre .passed)) in
+    let h : e .result ≤ 96 = omega (arith, e .ensures, decls-within base (lines-in (a .args .t .now)) (a .pre .bounded)) in
     search needs
 
 part-decl-end : tie.Need-part-decl-end
 part-decl-end c =
     let a = c .before .before .before .before in
     let e = c .before .before .decls in
-    let h : e .result ≤ 96 = omega (arith, e .ensures, decls-few (lines-in (a .args .t .now)) (a .pre .passed)) in
+    let h : e .result ≤ 96 = omega (arith, e .ensures, decls-within base (lines-in (a .args .t .now)) (a .pre .bounded)) in
     search needs
 
 part-node-end : tie.Need-part-node-end
 part-node-end c =
     let a = c .before .before .before .before .before in
     let e = c .before .before .types in
-    let h : e .result ≤ 1024 = omega (arith, e .ensures, types-few (lines-in (a .args .t .now)) (a .pre .passed)) in
+    let h : e .result ≤ 1024 = omega (arith, e .ensures, types-within base (lines-in (a .args .t .now)) (a .pre .bounded)) in
     search needs
 
 part-member-end : tie.Need-part-member-end
 part-member-end c =
     let a = c .before .before .before .before .before .before in
     let e = c .before .before .before .types in
-    let h : e .result ≤ 1024 = omega (arith, e .ensures, types-few (lines-in (a .args .t .now)) (a .pre .passed)) in
+    let h : e .result ≤ 1024 = omega (arith, e .ensures, types-within base (lines-in (a .args .t .now)) (a .pre .bounded)) in
     search needs
 
 part-field-end : tie.Need-part-field-end
 part-field-end c =
     let a = c .before .before .before .before .before .before .before in
     let e = c .before .before .before .before .before .decls in
-    let h : e .result ≤ 96 = omega (arith, e .ensures, decls-few (lines-in (a .args .t .now)) (a .pre .passed)) in
+    let h : e .result ≤ 96 = omega (arith, e .ensures, decls-within base (lines-in (a .args .t .now)) (a .pre .bounded)) in
     search needs
 
 part-wait-end : tie.Need-part-wait-end
 part-wait-end c =
     let a = c .before .before .before .before .before .before .before .before in
     let e = c .before .before .before .before .before .before .decls in
-    let h : e .result ≤ 96 = omega (arith, e .ensures, decls-few (lines-in (a .args .t .now)) (a .pre .passed)) in
+    let h : e .result ≤ 96 = omega (arith, e .ensures, decls-within base (lines-in (a .args .t .now)) (a .pre .bounded)) in
     search needs
 
 fixpoint-requires : tie.Need-fixpoint-requires
@@ -57,7 +59,7 @@ fixpoint-requires c κs =
     let a = c .before .before .before .before .before .before .before .before .before in
     let n = c .before .before .before .before .before .before .before .decls in
     let y = c .before .before .before .before .before .before .types in
-    (a .pre, fresh-of (lines-in (a .args .t .now)) (n .result) (y .result) (n .ensures) (y .ensures) (decls-few (lines-in (a .args .t .now)) (a .pre .passed)) (types-few (lines-in (a .args .t .now)) (a .pre .passed)))
+    (a .pre .tabled, fresh-of (lines-in (a .args .t .now)) (n .result) (y .result) (n .ensures) (y .ensures) (decls-within base (lines-in (a .args .t .now)) (a .pre .bounded)) (types-within base (lines-in (a .args .t .now)) (a .pre .bounded)))
 
 returns : tie.Need-returns
 returns c =
@@ -65,7 +67,7 @@ returns c =
     let n = c .before .before .before .before .before .before .before .before .before .before .before .before .before .before .decls in
     let y = c .before .before .before .before .before .before .before .before .before .before .before .before .before .types in
     let f = c .before .before .before .before .before .before .fixpoint in
-    fixpoint-of (lines-in (a .args .t .now)) (n .result) (y .result) (n .ensures) (y .ensures) (decls-few (lines-in (a .args .t .now)) (a .pre .passed)) (types-few (lines-in (a .args .t .now)) (a .pre .passed)) (f .last .1 .1 .0) (f .last .1 .1 .1 .0) _ _ (f .result) (f .kept .1 .1 .0) (f .kept .1 .1 .1 .0) (f .ensures)
+    fixpoint-of (lines-in (a .args .t .now)) (n .result) (y .result) (n .ensures) (y .ensures) (decls-within base (lines-in (a .args .t .now)) (a .pre .bounded)) (types-within base (lines-in (a .args .t .now)) (a .pre .bounded)) (f .last .1 .1 .0) (f .last .1 .1 .1 .0) _ _ (f .result) (f .kept .1 .1 .0) (f .kept .1 .1 .1 .0) (f .ensures)
 
 pub erasure-fixpoint-spec : {M : Type 1} → statement M
 erasure-fixpoint-spec =

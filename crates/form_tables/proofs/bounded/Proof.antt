@@ -1,8 +1,8 @@
 -- `form_tables::bounded` meets its contract. Assumes nothing.
 use native.Mathlib.Omega.{arith}
-use Rattle.arguments.specs.ParamsLaws.{decls-few}
 use Rattle.form_tables.specs.Bounds.{starts-own, ends-own}
 use borrow.Author.Needs.{needs}
+use Rattle.declared.specs.PassedLaws.{decls-few}
 use Rattle.form_tables.proofs.bounded.Statement.{statement}
 use Rattle.form_tables.proofs.bounded.Tie as tie
 

@@ -7,9 +7,9 @@ use Rattle.tables.specs.Tables.{lines-in}
 use Rattle.normal_forms.specs.Tables.{Table}
 use Rattle.normal_forms.specs.Ranks.{Done}
 use Rattle.normal_forms.specs.RanksLaws.{first-table, next-rank, formed-stop, formed-done}
-use Rattle.arguments.specs.ParamsLaws.{decls-few}
 use Rattle.form_tables.specs.Bounded.{within}
 use borrow.Author.Needs.{needs}
+use Rattle.declared.specs.PassedLaws.{decls-few}
 use Rattle.form_tables.proofs.ranked.Statement.{statement}
 use Rattle.form_tables.proofs.ranked.Tie as tie
 

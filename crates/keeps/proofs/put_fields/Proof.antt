@@ -8,10 +8,11 @@ use lib.ListN.{length, length-set}
 use borrow.Author.Needs.{needs}
 use Rattle.model.specs.Decl.{bit}
 use Rattle.meaning.specs.Program.{field-line, import-line, is}
+use Rattle.declared.specs.PassedLaws.{decls-few}
 use Rattle.tables.specs.Tables.{head-line, first-of, lines-in}
 use Rattle.bodies.specs.BodiesLaws.{first-rises, first-le}
 use Rattle.keeps.specs.Keeps.{field-kept}
-use Rattle.keeps.specs.KeepsLaws.{Partly, partly-none, partly-next, partly-all, decls-few}
+use Rattle.keeps.specs.KeepsLaws.{Partly, partly-none, partly-next, partly-all}
 use Rattle.keeps.proofs.put_fields.Statement.{statement}
 use Rattle.keeps.proofs.put_fields.Tie as tie
 

@@ -5,8 +5,9 @@ use native.Mathlib.Omega.{arith}
 use native.Mathlib.Numerals.{add-one}
 use borrow.Author.Needs.{needs}
 use Rattle.meaning.specs.Program.{field-line}
+use Rattle.declared.specs.PassedLaws.{types-few, fields-few}
 use Rattle.tables.specs.Tables.{first-of, lines-in}
-use Rattle.bodies.specs.BodiesLaws.{first-rises, below-of, field-types, first-le, fields-few, types-few, fields-kept, fields-gone}
+use Rattle.bodies.specs.BodiesLaws.{first-rises, below-of, field-types, first-le, fields-kept, fields-gone}
 use Rattle.kept_fields.proofs.fields_erased.Statement.{statement}
 use Rattle.kept_fields.proofs.fields_erased.Tie as tie
 

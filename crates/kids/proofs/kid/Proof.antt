@@ -4,8 +4,9 @@ use native.Mathlib.Omega.{arith}
 use Prim.Native.Nat.{_+_}
 use borrow.Author.Needs.{needs}
 use borrow.Author.Tests.{ne-eqb}
+use Rattle.declared.specs.PassedLaws.{args-few}
 use Rattle.kids.specs.Nodes.{arg-of}
-use Rattle.kids.specs.NodesLaws.{list8-within, list9-within, args-few, kid-7, kid-8, kid-9, kid-11, kid-one}
+use Rattle.kids.specs.NodesLaws.{list8-within, list9-within, kid-7, kid-8, kid-9, kid-11, kid-one}
 use Rattle.kids.proofs.kid.Statement.{statement}
 use Rattle.tables.specs.Tables.{lines-in}
 use Rattle.kids.proofs.kid.Tie as tie

@@ -3,10 +3,10 @@ use mathlib.Core.Path.{refl, sym, _∙_}
 use Prim.Native.Nat.{_+_, _*_}
 use native.Mathlib.Omega.{arith}
 use lib.ListN.{length}
-use Rattle.arguments.specs.ParamsLaws.{decls-few}
 use Rattle.left_types.specs.SumsLaws.{added-lines}
-use Rattle.left_count.specs.CountsLaws.{head-small, told-newtype, told-abbrev, kind-three, count-newtype, count-none, count-abbrev, count-record, count-variant}
+use Rattle.left_count.specs.CountsLaws.{variant-few, told-newtype, told-abbrev, kind-three, count-newtype, count-none, count-abbrev, count-record, count-variant}
 use borrow.Author.Needs.{needs}
+use Rattle.declared.specs.PassedLaws.{decls-few}
 use Rattle.left_count.proofs.count_body.Statement.{statement}
 use Rattle.tables.specs.Tables.{lines-in}
 use Rattle.left_count.proofs.count_body.Tie as tie
@@ -66,7 +66,9 @@ add-lines-requires : tie.Need-add-lines-requires
 add-lines-requires c κs =
     let a = c .before .before .before .before .before .before .before .before .before .before .before .before .before .args in
     let p = c .before .before .before .before .before .before .before .before .before .before .before .before .before .pre in
-    (p .1 .1, omega (arith, p .1 .4), omega (arith, c .before .before .before .decl-number2 .ensures, head-small (lines-in (a .t .now)) (p .0 .0 .tabled .passed) (a .d) 4 (p .0 .1)))
+    let k = c .before .before .before .before .before .decl-number in
+    let e = kind-three (lines-in (a .t .now)) (a .t .now) (a .u .now) (a .f .now) (a .keep .now) (p .0 .0) (a .d) (p .0 .1) (k .result) (k .ensures) (c .before .before .before .before .if2 .left) (c .before .before .if3 .left) (c .before .if4 .left) in
+    (p .1 .1, omega (arith, p .1 .4), omega (arith, c .before .before .before .decl-number2 .ensures, variant-few (lines-in (a .t .now)) (p .0 .0 .tabled .passed) (a .d) (p .0 .1) e))
 
 count-fields-requires-2 : tie.Need-count-fields-requires-2
 count-fields-requires-2 c κs =
@@ -75,7 +77,7 @@ count-fields-requires-2 c κs =
     let k = c .before .before .before .before .before .before .decl-number in
     let e = kind-three (lines-in (a .t .now)) (a .t .now) (a .u .now) (a .f .now) (a .keep .now) (p .0 .0) (a .d) (p .0 .1) (k .result) (k .ensures) (c .before .before .before .before .before .if2 .left) (c .before .before .before .if3 .left) (c .before .before .if4 .left) in
     let l = c .add-lines .ensures in
-    ((p .0 .0, p .0 .1, p .0 .2), ((p .1 .0, (λ e. c .before .before .before .before .before .before .before .if1 .left (c .before .before .before .before .before .before .before .before .state .ensures ∙ e)), omega (arith, e)), (l .0, omega (arith, l .1, p .1 .2), omega (arith, l .2, p .1 .3), omega (arith, l .3, p .1 .4, c .before .before .before .before .decl-number2 .ensures, head-small (lines-in (a .t .now)) (p .0 .0 .tabled .passed) (a .d) 4 (p .0 .1)))))
+    ((p .0 .0, p .0 .1, p .0 .2), ((p .1 .0, (λ e. c .before .before .before .before .before .before .before .if1 .left (c .before .before .before .before .before .before .before .before .state .ensures ∙ e)), omega (arith, e)), (l .0, omega (arith, l .1, p .1 .2), omega (arith, l .2, p .1 .3), omega (arith, l .3, p .1 .4, c .before .before .before .before .decl-number2 .ensures, variant-few (lines-in (a .t .now)) (p .0 .0 .tabled .passed) (a .d) (p .0 .1) e))))
 
 returns-5 : tie.Need-returns-5
 returns-5 c =

@@ -1,9 +1,9 @@
 -- `left_ctors::put_ctor` meets its contract: the kept fields are counted, and then written behind the C line. Assumes nothing.
-use Rattle.bodies.specs.BodiesLaws.{fields-few}
 use Rattle.left_fields.specs.FieldsLaws.{kept-few}
 use Rattle.left_ctors.specs.CtorsLaws.{ctor-line-room, ctor-fields-room, ctor-writes}
 use native.Mathlib.Omega.{arith}
 use borrow.Author.Needs.{needs}
+use Rattle.declared.specs.PassedLaws.{fields-few}
 use Rattle.left_ctors.proofs.put_ctor.Statement.{statement}
 use Rattle.tables.specs.Tables.{lines-in}
 use Rattle.left_ctors.proofs.put_ctor.Tie as tie

@@ -1,6 +1,6 @@
 -- `left_decls::put_record` meets its contract: the D and P lines with the count of kept fields, these, and the V line. Assumes nothing.
 use Rattle.meaning.specs.Output.{field-lines}
-use Rattle.bodies.specs.BodiesLaws.{fields-few}
+use Rattle.declared.specs.PassedLaws.{fields-few}
 use Rattle.left_fields.specs.Fields.{left-fields}
 use Rattle.left_fields.specs.FieldsLaws.{growing-fields, kept-few}
 use Rattle.left_heads.specs.HeadsLaws.{frame-head, frame-body, frame-end, frame-writes}

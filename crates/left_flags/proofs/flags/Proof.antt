@@ -6,8 +6,8 @@ use lib.ListN.{length, getD, length-set}
 use Rattle.model.specs.Decl.{bit}
 use Rattle.model.specs.Run.{left-at}
 use Rattle.meaning.specs.Program.{program}
+use Rattle.declared.specs.PassedLaws.{decls-few}
 use Rattle.tables.specs.Tables.{decls-of, lines-in}
-use Rattle.arguments.specs.ParamsLaws.{decls-few}
 use Rattle.lefts.specs.Lefts.{is-left}
 use Rattle.left_flags.specs.FlagsLaws.{ready-forms, leaves-is, flag-more}
 use borrow.Author.Needs.{needs}

@@ -5,8 +5,9 @@ use Prim.Native.Nat.{ℕ, _+_, _-_}
 use native.Mathlib.Omega.{arith}
 use Rattle.meaning.specs.Program.{param-line}
 use Rattle.limits.specs.Limits.{start}
+use Rattle.declared.specs.PassedLaws.{decls-few, params-few}
 use Rattle.arguments.specs.Params.{params-from, params-of}
-use Rattle.arguments.specs.ParamsLaws.{count-before-le, params-few, decls-few}
+use Rattle.arguments.specs.ParamsLaws.{count-before-le}
 use Rattle.nodes.specs.Words.{node-of}
 use Rattle.form_words.specs.Emit.{form-words}
 use Rattle.left_flags.specs.Flags.{has-all}

@@ -1,9 +1,9 @@
 -- `left_flags::is_left` meets its contract, by the declaration's state. Assumes nothing.
 use mathlib.Core.Path.{sym, _∙_}
 use native.Mathlib.Omega.{arith}
-use Rattle.arguments.specs.ParamsLaws.{decls-few}
 use Rattle.left_flags.specs.FlagsLaws.{leaves-none, leaves-some, leaves-newtype}
 use borrow.Author.Needs.{needs}
+use Rattle.declared.specs.PassedLaws.{decls-few}
 use Rattle.left_flags.proofs.is_left.Statement.{statement}
 use Rattle.tables.specs.Tables.{lines-in}
 use Rattle.left_flags.proofs.is_left.Tie as tie

@@ -1,8 +1,8 @@
 -- `left_heads::put_head` meets its contract: the D line, and then the P lines. Assumes nothing.
-use Rattle.arguments.specs.ParamsLaws.{params-few}
 use Rattle.left_heads.specs.HeadsLaws.{params-inside, d-room, p-room, head-writes}
 use native.Mathlib.Omega.{arith}
 use borrow.Author.Needs.{needs}
+use Rattle.declared.specs.PassedLaws.{params-few}
 use Rattle.left_heads.proofs.put_head.Statement.{statement}
 use Rattle.tables.specs.Tables.{lines-in}
 use Rattle.left_heads.proofs.put_head.Tie as tie

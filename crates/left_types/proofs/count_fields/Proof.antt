@@ -6,9 +6,9 @@ use native.Mathlib.Omega.{arith}
 use lib.ListN.{length}
 use Rattle.meaning.specs.Program.{field-line}
 use Rattle.limits.specs.Limits.{start}
+use Rattle.declared.specs.PassedLaws.{decls-few, fields-few}
 use Rattle.tables.specs.Tables.{first-of, lines-in}
-use Rattle.arguments.specs.ParamsLaws.{count-before-le, decls-few}
-use Rattle.bodies.specs.BodiesLaws.{fields-few}
+use Rattle.arguments.specs.ParamsLaws.{count-before-le}
 use Rattle.lefts.specs.declared.Count.{Count}
 use Rattle.left_types.specs.SumsLaws.{One, Rest, tells, rest-step, rest-stop, rest-end, one-few}
 use borrow.Author.Tests.{not-true, not-false}
@@ -18,7 +18,7 @@ use Rattle.left_types.proofs.count_fields.Tie as tie
 abbrev Inv-loop : tie.InvT-loop
 Inv-loop t u f keep scratch₀ d end i₀ r₀ scratch i r =
     (i₀ ≤ i) × (i ≤ 2048) × (length scratch ≡ length scratch₀) × (r .room ≡ true)
-    × (r .args ≤ 500000000 + 1024 * i) × (r .types ≤ 500000000 + 1024 * i) × (r .lines ≤ 800000000 + i)
+    × (r .args ≤ 1200000000 + 1024 * i) × (r .types ≤ 1200000000 + 1024 * i) × (r .lines ≤ 800000000 + i)
     × ((x : Count) → Rest (lines-in t) keep d i end (length scratch₀) r x → Rest (lines-in t) keep d i₀ end (length scratch₀) r₀ x)
 
 abbrev μ-loop : tie.MeasureT-loop

@@ -2,8 +2,9 @@
 use Prim.Native.Nat.{_-_, _≤_}
 use native.Mathlib.Omega.{arith}
 use borrow.Author.Needs.{needs}
+use Rattle.declared.specs.PassedLaws.{args-few}
 use Rattle.marks.specs.Marks.{Before}
-use Rattle.marks.specs.MarksLaws.{args-few, before-next}
+use Rattle.marks.specs.MarksLaws.{before-next}
 use Rattle.marks.proofs.first_kept.Statement.{statement}
 use Rattle.tables.specs.Tables.{lines-in}
 use Rattle.marks.proofs.first_kept.Tie as tie

@@ -5,8 +5,8 @@ use native.Mathlib.Numerals.{add-one}
 use native.Mathlib.Omega.{arith}
 use lib.ListN.{length}
 use borrow.Author.Needs.{needs}
+use Rattle.declared.specs.PassedLaws.{args-few}
 use Rattle.namesets.specs.Mentions.{word-of}
-use Rattle.namesets.specs.AddsLaws.{args-few}
 use Rattle.namesets.proofs.list_word.Statement.{statement}
 use Rattle.tables.specs.Tables.{lines-in}
 use Rattle.namesets.proofs.list_word.Tie as tie

@@ -5,9 +5,9 @@ use native.Mathlib.Omega.{arith}
 use native.Mathlib.Numerals.{add-one}
 use borrow.Author.Needs.{needs}
 use Rattle.meaning.specs.Program.{field-line}
+use Rattle.declared.specs.PassedLaws.{decls-few}
 use Rattle.tables.specs.Tables.{first-of, lines-in}
 use Rattle.bodies.specs.BodiesLaws.{first-rises, first-le}
-use Rattle.keeps.specs.KeepsLaws.{decls-few}
 use Rattle.newtypes.specs.NewtypesLaws.{told-none, told-one}
 use Rattle.newtypes.proofs.only_kept.Statement.{statement}
 use Rattle.newtypes.proofs.only_kept.Tie as tie

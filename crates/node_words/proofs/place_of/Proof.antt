@@ -4,8 +4,9 @@ use Prim.Native.Nat.{_+_, _-_, _≤_}
 use native.Mathlib.Omega.{arith}
 use Rattle.meaning.specs.Program.{param-line}
 use Rattle.limits.specs.Limits.{start}
+use Rattle.declared.specs.PassedLaws.{decls-few, params-few}
 use Rattle.arguments.specs.Params.{params-from}
-use Rattle.arguments.specs.ParamsLaws.{count-before-le, params-few, decls-few}
+use Rattle.arguments.specs.ParamsLaws.{count-before-le}
 use Rattle.normal.specs.Forms.{place}
 use Rattle.node_words.specs.OwnLaws.{sought, sought-first, sought-end, sought-hit, sought-miss, place-of-params}
 use borrow.Author.Needs.{needs}

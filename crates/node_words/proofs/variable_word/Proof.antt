@@ -4,9 +4,10 @@ use Prim.Native.Nat.{ℕ, _+_, _-_}
 use native.Mathlib.Omega.{arith}
 use Rattle.meaning.specs.Program.{param-line}
 use Rattle.limits.specs.Limits.{start}
+use Rattle.declared.specs.PassedLaws.{params-few}
 use Rattle.tables.specs.Tables.{first-of, lines-in}
 use Rattle.arguments.specs.Params.{params-of}
-use Rattle.arguments.specs.ParamsLaws.{count-before-le, params-few}
+use Rattle.arguments.specs.ParamsLaws.{count-before-le}
 use Rattle.calls.specs.CallsLaws.{params-length}
 use Rattle.normal.specs.Nodes.{node}
 use Rattle.normal.specs.Forms.{place}

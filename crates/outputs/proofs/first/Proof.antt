@@ -1,5 +1,5 @@
 -- `outputs::first` meets its contract, whichever arrays it takes. Assumes nothing.
-use mathlib.Core.Logic.{inl}
+use mathlib.Core.Logic.{inr}
 use native.Mathlib.Omega.{arith}
 use borrow.Author.Needs.{needs}
 use Rattle.sheets.specs.SheetsLaws.{tries-less}
@@ -7,7 +7,7 @@ use Rattle.outputs.proofs.first.Statement.{statement}
 use Rattle.outputs.proofs.first.Tie as tie
 
 returns : tie.Need-returns
-returns c = tries-less _ _ (λ x. inl (omega arith)) _ _ _ _ _ _ (c .before .before .before .before .small .ensures)
+returns c = tries-less _ _ (λ x. inr (omega arith)) _ _ _ _ _ _ (c .before .before .before .before .small .ensures)
 
 pub first-spec : {M : Type 1} → statement M
 first-spec =

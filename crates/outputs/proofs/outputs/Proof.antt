@@ -1,5 +1,7 @@
 -- `outputs::outputs` meets its contract: an attempt without room leaves the outputs as they were, and the last one has room. Assumes nothing.
 use mathlib.Core.Path.{_≡_, _∙_}
+use Rattle.sheet.specs.Format.{base}
+use Rattle.declared.specs.PassedLaws.{decls-within}
 use borrow.Author.Needs.{needs}
 use Rattle.outputs.specs.OutputsLaws.{lent-kept, tries-again, tries-last}
 use Rattle.outputs.proofs.outputs.Statement.{statement}
@@ -24,7 +26,7 @@ large-requires c κs =
 returns-3 : tie.Need-returns-3
 returns-3 c =
     tries-again _ _ _ _ _ _ _ _ _ _ (c .before .before .before .before .before .before .before .before .before .before .before .before .before .before .before .before .before .before .before .before .before .first .ensures) (c .before .before .before .before .before .before .before .before .before .before .before .before .before .before .before .before .if1 .left)
-    (tries-again _ _ _ _ _ _ _ _ _ _ (c .before .before .before .before .before .before .before .before .before .before .before .before .before .middle .ensures) (c .before .before .before .before .before .before .before .before .if2 .left) (tries-last _ _ _ _ _ _ (c .before .before .before .before .before .large .ensures)))
+    (tries-again _ _ _ _ _ _ _ _ _ _ (c .before .before .before .before .before .before .before .before .before .before .before .before .before .middle .ensures) (c .before .before .before .before .before .before .before .before .if2 .left) (tries-last _ (decls-within base _ (c .before .before .before .before .before .before .before .before .before .before .before .before .before .before .before .before .before .before .before .before .before .before .before .before .before .before .before .before .before .before .before .pre .0 .of .bounded)) _ _ _ _ _ _ (c .before .before .before .before .before .large .ensures)))
 
 pub outputs-spec : {M : Type 1} → statement M
 outputs-spec =

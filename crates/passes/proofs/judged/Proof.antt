@@ -15,7 +15,7 @@ returning-requires : tie.Need-returning-requires
 returning-requires c κs =
     let p = c .before .before .before .before .before .before .before .before .before .before .before .before .before .before .before .before .before .before .before .before .before .before .before .before .before .before .before .before .before .before .before .before .before .before .before .before .before .before .before .pre in
     let v = c .before .before .before .before .before .before .before .before .before .before .before .before .before .before .before .before .before .before .before .before .verdicts in
-    (p .0 .0, (c .before .before .before .before .before .before .states .ensures, (p .1 .0, returned-of _ _ _ _ _ _ _ (p .1 .1 .returned) (v .kept .1 .1 .1 .1 .1 .1 .0) (v .kept .1 .1 .1 .1 .1 .1 .1 .0))))
+    (p .0 .0 .tabled, (c .before .before .before .before .before .before .states .ensures, (p .1 .0, returned-of _ _ _ _ _ _ _ (p .1 .1 .returned) (v .kept .1 .1 .1 .1 .1 .1 .0) (v .kept .1 .1 .1 .1 .1 .1 .1 .0))))
 
 returns : tie.Need-returns
 returns c = record { settled = c .before .before .before .before .before .before .before .before .before .before .before .before .before .states .ensures; first-of = c .before .before .before .before .before .before .returning .ensures }

@@ -2,27 +2,28 @@
 use Prim.Native.Nat.{_≤_}
 use native.Mathlib.Omega.{arith}
 use borrow.Author.Needs.{needs}
-use Rattle.erasure.specs.FixpointLaws.{decls-few}
+use Rattle.sheet.specs.Format.{base}
+use Rattle.declared.specs.PassedLaws.{decls-within}
 use Rattle.passes.specs.PassesLaws.{room-of}
 use Rattle.passes.proofs.mentioned.Statement.{statement}
 use Rattle.tables.specs.Tables.{lines-in}
 use Rattle.passes.proofs.mentioned.Tie as tie
 
 mentions-requires : tie.Need-mentions-requires
-mentions-requires c κs = let p = c .before .before .before .before .before .before .before .pre in (p .0 .0, (p .1 .wide, p .1 .long))
+mentions-requires c κs = let p = c .before .before .before .before .before .before .before .pre in (p .0 .0 .tabled, (p .1 .wide, p .1 .long))
 
 part-fields-end : tie.Need-part-fields-end
 part-fields-end c =
     let a = c .before .before .before .before .before .before .before .before .before .before .before .before .before .before in
     let n = c .before .before .before .decls in
-    let h : n .result ≤ 96 = omega (arith, n .ensures, decls-few (lines-in (a .args .t .now)) (a .pre .0 .0 .passed)) in
+    let h : n .result ≤ 96 = omega (arith, n .ensures, decls-within base (lines-in (a .args .t .now)) (a .pre .0 .0 .bounded)) in
     search needs
 
 part-bodies-end : tie.Need-part-bodies-end
 part-bodies-end c =
     let a = c .before .before .before .before .before .before .before .before .before .before .before .before .before .before .before in
     let n = c .before .before .before .before .decls in
-    let h : n .result ≤ 96 = omega (arith, n .ensures, decls-few (lines-in (a .args .t .now)) (a .pre .0 .0 .passed)) in
+    let h : n .result ≤ 96 = omega (arith, n .ensures, decls-within base (lines-in (a .args .t .now)) (a .pre .0 .0 .bounded)) in
     search needs
 
 judged-requires : tie.Need-judged-requires
@@ -30,7 +31,7 @@ judged-requires c κs =
     let a = c .before .before .before .before .before .before .before .before .before .before .before .before .before .before .before .before .before .before .before .before in
     let n = c .before .before .before .before .before .before .before .before .before .decls in
     let l = a .pre .1 in
-    (a .pre .0, (c .before .before .before .before .before .before .before .before .before .before .before .before .mentions .ensures, room-of (lines-in (a .args .t .now)) (a .pre .0 .0 .passed) (n .result) (a .args .words) (a .args .u .now) (a .args .rank .now) (n .ensures) (l .few) (l .cells) (l .ranks)))
+    (a .pre .0, (c .before .before .before .before .before .before .before .before .before .before .before .before .mentions .ensures, room-of (lines-in (a .args .t .now)) (a .pre .0 .0 .bounded) (n .result) (a .args .words) (a .args .u .now) (a .args .rank .now) (n .ensures) (l .few) (l .cells) (l .ranks)))
 
 returns : tie.Need-returns
 returns c = c .before .before .before .before .before .before .before .before .before .before .judged .ensures
@@ -40,7 +41,7 @@ mentioned-spec =
     tie.close
     (tie.spec
     mentions-requires
-    (λ c κs. c .before .before .before .before .before .before .before .before .before .before .pre .0 .0)
+    (λ c κs. c .before .before .before .before .before .before .before .before .before .before .pre .0 .0 .tabled)
     (λ c. search needs)
     (λ c. search needs)
     part-fields-end

@@ -2,19 +2,20 @@
 use Prim.Native.Nat.{_*_, _≤_}
 use native.Mathlib.Omega.{arith}
 use borrow.Author.Needs.{needs}
-use Rattle.erasure.specs.FixpointLaws.{decls-few, types-few}
+use Rattle.sheet.specs.Format.{base}
+use Rattle.declared.specs.PassedLaws.{decls-within, types-within}
 use Rattle.passes.specs.PassesLaws.{two-words, lent-of}
 use Rattle.passes.proofs.named.Statement.{statement}
 use Rattle.tables.specs.Tables.{lines-in}
 use Rattle.passes.proofs.named.Tie as tie
 
 words-for-requires : tie.Need-words-for-requires
-words-for-requires c κs = let a = c .before .before .before .before .before .before in omega (arith, c .decls .ensures, decls-few (lines-in (a .args .t .now)) (a .pre .0 .0 .passed))
+words-for-requires c κs = let a = c .before .before .before .before .before .before in omega (arith, c .decls .ensures, decls-within base (lines-in (a .args .t .now)) (a .pre .0 .0 .bounded))
 
 mul-if1 : tie.Need-mul-if1
 mul-if1 c =
     let a = c .before .before .before .before .before .before .before .before in
-    let h : c .types .result * c .before .words-for .result ≤ 2048 = two-words (c .types .result) (c .before .words-for .result) 1024 (omega (arith, c .types .ensures, types-few (lines-in (a .args .t .now)) (a .pre .0 .0 .passed))) (c .before .words-for .ensures .1) in
+    let h : c .types .result * c .before .words-for .result ≤ 2048 = two-words (c .types .result) (c .before .words-for .result) 1024 (omega (arith, c .types .ensures, types-within base (lines-in (a .args .t .now)) (a .pre .0 .0 .bounded))) (c .before .words-for .ensures .1) in
     search needs
 
 mentioned-requires : tie.Need-mentioned-requires
@@ -31,15 +32,15 @@ mentioned-requires-2 c κs =
     let n = c .before .before .before .before .before .before .decls in
     let y = c .before .before .before .before .types in
     let w = c .before .before .before .before .before .words-for in
-    (a .pre .0, lent-of (lines-in (a .args .t .now)) (n .result) (y .result) (w .result) 2048 (a .args .u .now) (a .args .rank .now) (n .ensures) (y .ensures) (w .ensures .0) (w .ensures .1) (two-words (y .result) (w .result) 1024 (omega (arith, y .ensures, types-few (lines-in (a .args .t .now)) (a .pre .0 .0 .passed))) (w .ensures .1)) (a .pre .1 .0) (a .pre .1 .1))
+    (a .pre .0, lent-of (lines-in (a .args .t .now)) (n .result) (y .result) (w .result) 2048 (a .args .u .now) (a .args .rank .now) (n .ensures) (y .ensures) (w .ensures .0) (w .ensures .1) (two-words (y .result) (w .result) 1024 (omega (arith, y .ensures, types-within base (lines-in (a .args .t .now)) (a .pre .0 .0 .bounded))) (w .ensures .1)) (a .pre .1 .0) (a .pre .1 .1))
 
 pub named-spec : {M : Type 1} → statement M
 named-spec =
     tie.close
     (tie.spec
-    (λ c κs. c .before .before .before .before .before .pre .0 .0)
+    (λ c κs. c .before .before .before .before .before .pre .0 .0 .tabled)
     words-for-requires
-    (λ c κs. c .before .before .before .before .before .before .before .pre .0 .0)
+    (λ c κs. c .before .before .before .before .before .before .before .pre .0 .0 .tabled)
     mul-if1
     (λ c. search needs)
     mentioned-requires

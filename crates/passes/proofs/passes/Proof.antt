@@ -4,7 +4,8 @@ use Prim.Native.Nat.{_≤_}
 use native.Mathlib.Omega.{arith}
 use lib.ListN.{length}
 use borrow.Author.Needs.{needs}
-use Rattle.erasure.specs.FixpointLaws.{decls-few}
+use Rattle.sheet.specs.Format.{base}
+use Rattle.declared.specs.PassedLaws.{decls-within}
 use Rattle.passes.specs.PassesLaws.{erased-of, ruled-of}
 use Rattle.passes.proofs.passes.Statement.{statement}
 use Rattle.tables.specs.Tables.{lines-in}
@@ -15,7 +16,7 @@ keep-fields-requires c κs =
     let a = c .before .before .before .before .before .before .before .before .before in
     let r = c .before .before .before .before .erasure-fixpoint in
     let l : length (r .result .node) ≡ 1024 = search needs in
-    (a .pre .0 .0, (erased-of (lines-in (a .args .t .now)) (a .pre .0 .0 .passed) (r .result) (r .ensures) l, a .pre .0 .1))
+    (a .pre .0 .0 .tabled, (erased-of (lines-in (a .args .t .now)) (a .pre .0 .0 .bounded) (r .result) (r .ensures) l, a .pre .0 .1))
 
 part-named-end : tie.Need-part-named-end
 part-named-end c =
@@ -23,7 +24,7 @@ part-named-end c =
     let n = c .before .decls in
     let r = c .before .before .before .before .before .before .before .before .before .erasure-fixpoint in
     let l : length (r .result .decl) ≡ 96 = search needs in
-    let h : n .result ≤ length (r .result .decl) = omega (arith, n .ensures, decls-few (lines-in (a .args .t .now)) (a .pre .0 .0 .passed)) in
+    let h : n .result ≤ length (r .result .decl) = omega (arith, n .ensures, decls-within base (lines-in (a .args .t .now)) (a .pre .0 .0 .bounded)) in
     h
 
 named-requires : tie.Need-named-requires
@@ -33,7 +34,7 @@ named-requires c κs =
     let k = c .before .before .before .before .before .before .before .before .keep-fields in
     let r = c .before .before .before .before .before .before .before .before .before .before .before .before .before .erasure-fixpoint in
     let l : length (r .result .decl) ≡ 96 = search needs in
-    ((a .pre .0 .0, ruled-of (lines-in (a .args .t .now)) (a .pre .0 .0 .passed) (r .result) (r .ensures) l (n .result) (n .ensures) _ (k .ensures) (omega (arith, a .pre .0 .1, k .kept .1 .1 .0))), a .pre .1)
+    ((a .pre .0 .0, ruled-of (lines-in (a .args .t .now)) (a .pre .0 .0 .bounded) (r .result) (r .ensures) l (n .result) (n .ensures) _ (k .ensures) (omega (arith, a .pre .0 .1, k .kept .1 .1 .0))), a .pre .1)
 
 returns : tie.Need-returns
 returns c =
@@ -48,7 +49,7 @@ passes-spec =
     (λ c κs. c .before .before .before .before .pre .0 .0)
     (λ c. search needs)
     keep-fields-requires
-    (λ c κs. c .before .before .before .before .before .before .before .before .before .before .before .before .pre .0 .0)
+    (λ c κs. c .before .before .before .before .before .before .before .before .before .before .before .before .pre .0 .0 .tabled)
     (λ c. search needs)
     (λ c. search needs)
     part-named-end

@@ -4,12 +4,12 @@ use Prim.Native.Nat.{ℕ, _+_, _-_, _≤_}
 use native.Mathlib.Omega.{arith}
 use lib.ListN.{length}
 use Rattle.tables.specs.Tables.{lines-in}
-use Rattle.arguments.specs.ParamsLaws.{decls-few}
 use Rattle.normal_forms.specs.Tables.{Table}
 use Rattle.normal_forms.specs.Ranks.{Done}
 use Rattle.normal_forms.specs.RanksLaws.{reached-stop, reached-done}
 use Rattle.rank_forms.specs.Next.{skip-table, before, behind, nowhere}
 use borrow.Author.Needs.{needs}
+use Rattle.declared.specs.PassedLaws.{decls-few}
 use Rattle.rank_forms.proofs.forms_of_rank.Statement.{statement}
 use Rattle.rank_forms.proofs.forms_of_rank.Tie as tie
 

@@ -1,7 +1,8 @@
 -- `recalls::answered` meets its contract, by the name's cells and what is remembered. Assumes nothing.
 use native.Mathlib.Omega.{arith}
 use borrow.Author.Needs.{needs}
-use Rattle.resolving.specs.ResolverLaws.{answered-gone, answered-stays, answered-known, decl-least, names-few}
+use Rattle.declared.specs.PassedLaws.{names-few}
+use Rattle.resolving.specs.ResolverLaws.{answered-gone, answered-stays, answered-known, decl-least}
 use Rattle.recalls.proofs.answered.Statement.{statement}
 use Rattle.tables.specs.Tables.{lines-in}
 use Rattle.recalls.proofs.answered.Tie as tie

@@ -4,7 +4,7 @@ use Prim.Native.Nat.{ℕ, _≤_, _<_, _-_}
 use native.Mathlib.Omega.{arith}
 use lib.ListN.{length, getD, length-set}
 use borrow.Author.Needs.{needs}
-use Rattle.kids.specs.NodesLaws.{types-few}
+use Rattle.declared.specs.PassedLaws.{types-few}
 use Rattle.returning.specs.Returning.{through}
 use Rattle.returning.specs.ReturningLaws.{through-more, through-all}
 use Rattle.returning.proofs.put_bodies.Statement.{statement}

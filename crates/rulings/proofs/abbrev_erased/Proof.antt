@@ -1,7 +1,8 @@
 -- `rulings::abbrev_erased` meets its contract, by the mark of the type. Assumes nothing.
 use native.Mathlib.Omega.{arith}
 use borrow.Author.Needs.{needs}
-use Rattle.bodies.specs.BodiesLaws.{types-few, type-kept, type-gone}
+use Rattle.declared.specs.PassedLaws.{types-few}
+use Rattle.bodies.specs.BodiesLaws.{type-kept, type-gone}
 use Rattle.rulings.proofs.abbrev_erased.Statement.{statement}
 use Rattle.tables.specs.Tables.{lines-in}
 use Rattle.rulings.proofs.abbrev_erased.Tie as tie

@@ -4,10 +4,10 @@ use Rattle.screening.proofs.verdicts.Statement.{statement}
 use Rattle.screening.proofs.verdicts.Tie as tie
 
 candidates-requires : tie.Need-candidates-requires
-candidates-requires c κs = let p = c .before .before .before .before .before .before .before .before .before .before .before .before .pre in let r = p .1 .1 .1 in (p .0, (p .1 .0, (r .fields-long, r .bodies-long)))
+candidates-requires c κs = let p = c .before .before .before .before .before .before .before .before .before .before .before .before .pre in let r = p .1 .1 .1 in (p .0 .tabled, (p .1 .0, (r .fields-long, r .bodies-long)))
 
 dropped-requires : tie.Need-dropped-requires
-dropped-requires c κs = let p = c .before .before .before .before .before .before .before .before .before .before .before .before .before .before .before .before .before .before .before .before .before .before .pre in (p .0, (p .1 .1 .0, (c .before .before .before .before .before .before .before .before .before .candidates .ensures .by-type, p .1 .1 .1 .lent)))
+dropped-requires c κs = let p = c .before .before .before .before .before .before .before .before .before .before .before .before .before .before .before .before .before .before .before .before .before .before .pre in (p .0 .tabled, (p .1 .1 .0, (c .before .before .before .before .before .before .before .before .before .candidates .ensures .by-type, p .1 .1 .1 .lent)))
 
 compute-layouts-requires : tie.Need-compute-layouts-requires
 compute-layouts-requires c κs =

@@ -5,10 +5,11 @@ use native.Mathlib.Omega.{arith}
 use Rattle.model.specs.Erasure.{rule, settle, round}
 use Rattle.meaning.specs.Program.{program}
 use Rattle.model_laws.specs.Lists.{trues}
+use Rattle.declared.specs.PassedLaws.{decls-few}
 use Rattle.tables.specs.Tables.{decls-of, lines-in}
 use Rattle.marks.specs.Marks.{marks-of}
 use Rattle.rounds.specs.Rounds.{Running, ends-in}
-use Rattle.rounds.specs.RoundsLaws.{decls-few, settle-last, settle-more, marks-few}
+use Rattle.rounds.specs.RoundsLaws.{settle-last, settle-more, marks-few}
 use Rattle.settling.proofs.settle.Statement.{statement}
 use Rattle.settling.proofs.settle.Tie as tie
 

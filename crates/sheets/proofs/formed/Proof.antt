@@ -1,11 +1,12 @@
 -- `sheets::formed` meets its contract. Assumes nothing.
 use borrow.Author.Needs.{needs}
-use Rattle.keeps.specs.KeepsLaws.{decls-few}
+use Rattle.sheet.specs.Format.{base}
+use Rattle.declared.specs.PassedLaws.{decls-within}
 use Rattle.sheets.proofs.formed.Statement.{statement}
 use Rattle.sheets.proofs.formed.Tie as tie
 
 flags-requires : tie.Need-flags-requires
-flags-requires c κs = let p = c .before .before .before .before .before .before .before .before .before .before .pre .0 in (p .ready, decls-few _ (p .ready .tabled .passed))
+flags-requires c κs = let p = c .before .before .before .before .before .before .before .before .before .before .pre .0 in (p .ready, decls-within base _ (p .of .bounded))
 
 pub formed-spec : {M : Type 1} → statement M
 formed-spec =

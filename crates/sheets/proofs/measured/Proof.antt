@@ -5,9 +5,10 @@ use mathlib.Core.Path.{refl, _∙_, ap}
 use native.Mathlib.Omega.{arith}
 use borrow.Author.Needs.{needs}
 use borrow.Author.Tests.{not-true, not-false}
-use Rattle.sheets.specs.SheetsLaws.{names-few, needed-of, owed-of, tries-none, tries-twelve, tries-gives, gives-written, known-long, owed-long}
+use Rattle.sheets.specs.SheetsLaws.{needed-of, owed-of, tries-none, tries-twelve, tries-gives, gives-written, known-long, owed-long}
 use Rattle.sheets.proofs.measured.Statement.{statement}
 use Rattle.model.specs.Run.{run}
+use Rattle.declared.specs.PassedLaws.{names-few}
 use Rattle.tables.specs.OfSheet.{program-same}
 use Rattle.tables.specs.Tables.{lines-in}
 use Rattle.sheets.proofs.measured.Tie as tie

@@ -1,13 +1,14 @@
 -- `sheets::write` meets its contract: each sheet by its own writer. Assumes nothing.
 use borrow.Author.Needs.{needs}
-use Rattle.keeps.specs.KeepsLaws.{decls-few}
+use Rattle.sheet.specs.Format.{base}
+use Rattle.declared.specs.PassedLaws.{decls-within}
 use Rattle.sheets.proofs.write.Statement.{statement}
 use Rattle.sheets.proofs.write.Tie as tie
 
 records-requires : tie.Need-records-requires
 records-requires c κs =
     let p = c .before .before .before .before .before .before .before .before .before .before .before .pre in
-    ((p .0 .ready, p .1 .0), (p .0 .keeps, decls-few _ (p .0 .ready .tabled .passed)))
+    ((p .0 .ready, p .1 .0), (p .0 .keeps, decls-within base _ (p .0 .of .bounded)))
 
 put-left-requires : tie.Need-put-left-requires
 put-left-requires c κs =

@@ -12,7 +12,7 @@ use Rattle.table_index.proofs.put_header.Tie as tie
 
 cast-t : tie.Need-cast-t
 unfolding header
-cast-t c = let a = c .before .before .before .before .before .before in fits-under w32 _ 65536 (header-small (a .args .z) (a .pre .0) 0 (omega arith)) tt
+cast-t c = let a = c .before .before .before .before .before .before in fits-under w32 _ 262144 (header-small (a .args .z) (a .pre .0) 0 (omega arith)) tt
 
 slice-write-t : tie.Need-slice-write-t
 unfolding header
@@ -20,7 +20,7 @@ slice-write-t c = let a = c .before .before .before .before .before .before in l
 
 cast-t-2 : tie.Need-cast-t-2
 unfolding header
-cast-t-2 c = let a = c .before .before .before .before .before .before .before in fits-under w32 _ 65536 (header-small (a .args .z) (a .pre .0) 1 (omega arith)) tt
+cast-t-2 c = let a = c .before .before .before .before .before .before .before in fits-under w32 _ 262144 (header-small (a .args .z) (a .pre .0) 1 (omega arith)) tt
 
 slice-write-t-2 : tie.Need-slice-write-t-2
 unfolding header
@@ -28,7 +28,7 @@ slice-write-t-2 c = let a = c .before .before .before .before .before .before .b
 
 cast-t-3 : tie.Need-cast-t-3
 unfolding header
-cast-t-3 c = let a = c .before .before .before .before .before .before .before .before in fits-under w32 _ 65536 (header-small (a .args .z) (a .pre .0) 2 (omega arith)) tt
+cast-t-3 c = let a = c .before .before .before .before .before .before .before .before in fits-under w32 _ 262144 (header-small (a .args .z) (a .pre .0) 2 (omega arith)) tt
 
 slice-write-t-3 : tie.Need-slice-write-t-3
 unfolding header
@@ -36,40 +36,40 @@ slice-write-t-3 c = let a = c .before .before .before .before .before .before .b
 
 cast-t-4 : tie.Need-cast-t-4
 unfolding header
-cast-t-4 c = let a = c .before .before .before .before .before .before .before .before .before in fits-under w32 _ 65536 (header-small (a .args .z) (a .pre .0) 3 (omega arith)) tt
+cast-t-4 c = let a = c .before .before .before .before .before .before .before .before .before in fits-under w32 _ 262144 (header-small (a .args .z) (a .pre .0) 3 (omega arith)) tt
 
 slice-write-t-4 : tie.Need-slice-write-t-4
 unfolding header
 slice-write-t-4 c = let a = c .before .before .before .before .before .before .before .before .before in lt-length-sets (a .args .t .now) 0 (take 3 (header (a .args .z))) (omega (arith, a .pre .1))
 
 mul-t : tie.Need-mul-t
-mul-t c = let a = c .before .before .before .before .before .before .before .before .before .before in fits-under w64 _ 65536 (places-small (a .args .z) (a .pre .0) (a .args .z .names) (omega (arith, a .pre .0 .1)) .1) tt
+mul-t c = let a = c .before .before .before .before .before .before .before .before .before .before in fits-under w64 _ 262144 (places-small (a .args .z) (a .pre .0) (a .args .z .names) (omega (arith, a .pre .0 .1)) .1) tt
 
 add-t-2 : tie.Need-add-t-2
 unfolding header
-add-t-2 c = let a = c .before .before .before .before .before .before .before .before .before .before in fits-under w64 _ 65536 (header-small (a .args .z) (a .pre .0) 4 (omega arith)) tt
+add-t-2 c = let a = c .before .before .before .before .before .before .before .before .before .before in fits-under w64 _ 262144 (header-small (a .args .z) (a .pre .0) 4 (omega arith)) tt
 
 cast-t-5 : tie.Need-cast-t-5
 unfolding header
-cast-t-5 c = let a = c .before .before .before .before .before .before .before .before .before .before in fits-under w32 _ 65536 (header-small (a .args .z) (a .pre .0) 4 (omega arith)) tt
+cast-t-5 c = let a = c .before .before .before .before .before .before .before .before .before .before in fits-under w32 _ 262144 (header-small (a .args .z) (a .pre .0) 4 (omega arith)) tt
 
 slice-write-t-5 : tie.Need-slice-write-t-5
 unfolding header
 slice-write-t-5 c = let a = c .before .before .before .before .before .before .before .before .before .before in lt-length-sets (a .args .t .now) 0 (take 4 (header (a .args .z))) (omega (arith, a .pre .1))
 
 add-t-4 : tie.Need-add-t-4
-add-t-4 c = let a = c .before .before .before .before .before .before .before .before .before .before .before in fits-under w64 _ 65536 (places-small (a .args .z) (a .pre .0) (a .args .z .names + a .args .z .args) (omega (arith, a .pre .0 .1)) .0) tt
+add-t-4 c = let a = c .before .before .before .before .before .before .before .before .before .before .before in fits-under w64 _ 262144 (places-small (a .args .z) (a .pre .0) (a .args .z .names + a .args .z .args) (omega (arith, a .pre .0 .1)) .0) tt
 
 mul-t-2 : tie.Need-mul-t-2
-mul-t-2 c = let a = c .before .before .before .before .before .before .before .before .before .before .before in fits-under w64 _ 65536 (places-small (a .args .z) (a .pre .0) (a .args .z .names + a .args .z .args) (omega (arith, a .pre .0 .1)) .1) tt
+mul-t-2 c = let a = c .before .before .before .before .before .before .before .before .before .before .before in fits-under w64 _ 262144 (places-small (a .args .z) (a .pre .0) (a .args .z .names + a .args .z .args) (omega (arith, a .pre .0 .1)) .1) tt
 
 add-t-5 : tie.Need-add-t-5
 unfolding header
-add-t-5 c = let a = c .before .before .before .before .before .before .before .before .before .before .before in fits-under w64 _ 65536 (header-small (a .args .z) (a .pre .0) 5 (omega arith)) tt
+add-t-5 c = let a = c .before .before .before .before .before .before .before .before .before .before .before in fits-under w64 _ 262144 (header-small (a .args .z) (a .pre .0) 5 (omega arith)) tt
 
 cast-t-6 : tie.Need-cast-t-6
 unfolding header
-cast-t-6 c = let a = c .before .before .before .before .before .before .before .before .before .before .before in fits-under w32 _ 65536 (header-small (a .args .z) (a .pre .0) 5 (omega arith)) tt
+cast-t-6 c = let a = c .before .before .before .before .before .before .before .before .before .before .before in fits-under w32 _ 262144 (header-small (a .args .z) (a .pre .0) 5 (omega arith)) tt
 
 slice-write-t-6 : tie.Need-slice-write-t-6
 unfolding header
@@ -77,7 +77,7 @@ slice-write-t-6 c = let a = c .before .before .before .before .before .before .b
 
 cast-t-7 : tie.Need-cast-t-7
 unfolding header
-cast-t-7 c = let a = c .before .before .before .before .before .before .before .before .before .before .before in fits-under w32 _ 65536 (header-small (a .args .z) (a .pre .0) 6 (omega arith)) tt
+cast-t-7 c = let a = c .before .before .before .before .before .before .before .before .before .before .before in fits-under w32 _ 262144 (header-small (a .args .z) (a .pre .0) 6 (omega arith)) tt
 
 slice-write-t-7 : tie.Need-slice-write-t-7
 unfolding header
@@ -85,7 +85,7 @@ slice-write-t-7 c = let a = c .before .before .before .before .before .before .b
 
 cast-t-8 : tie.Need-cast-t-8
 unfolding header
-cast-t-8 c = let a = c .before .before .before .before .before .before .before .before .before .before .before in fits-under w32 _ 65536 (header-small (a .args .z) (a .pre .0) 7 (omega arith)) tt
+cast-t-8 c = let a = c .before .before .before .before .before .before .before .before .before .before .before in fits-under w32 _ 262144 (header-small (a .args .z) (a .pre .0) 7 (omega arith)) tt
 
 slice-write-t-8 : tie.Need-slice-write-t-8
 unfolding header
@@ -93,7 +93,7 @@ slice-write-t-8 c = let a = c .before .before .before .before .before .before .b
 
 cast-t-9 : tie.Need-cast-t-9
 unfolding header
-cast-t-9 c = let a = c .before .before .before .before .before .before .before .before .before .before .before in fits-under w32 _ 65536 (header-small (a .args .z) (a .pre .0) 8 (omega arith)) tt
+cast-t-9 c = let a = c .before .before .before .before .before .before .before .before .before .before .before in fits-under w32 _ 262144 (header-small (a .args .z) (a .pre .0) 8 (omega arith)) tt
 
 slice-write-t-9 : tie.Need-slice-write-t-9
 unfolding header
@@ -101,7 +101,7 @@ slice-write-t-9 c = let a = c .before .before .before .before .before .before .b
 
 cast-t-10 : tie.Need-cast-t-10
 unfolding header
-cast-t-10 c = let a = c .before .before .before .before .before .before .before .before .before .before .before in fits-under w32 _ 65536 (header-small (a .args .z) (a .pre .0) 9 (omega arith)) tt
+cast-t-10 c = let a = c .before .before .before .before .before .before .before .before .before .before .before in fits-under w32 _ 262144 (header-small (a .args .z) (a .pre .0) 9 (omega arith)) tt
 
 slice-write-t-10 : tie.Need-slice-write-t-10
 unfolding header
@@ -109,7 +109,7 @@ slice-write-t-10 c = let a = c .before .before .before .before .before .before .
 
 cast-t-11 : tie.Need-cast-t-11
 unfolding header
-cast-t-11 c = let a = c .before .before .before .before .before .before .before .before .before .before .before in fits-under w32 _ 65536 (header-small (a .args .z) (a .pre .0) 10 (omega arith)) tt
+cast-t-11 c = let a = c .before .before .before .before .before .before .before .before .before .before .before in fits-under w32 _ 262144 (header-small (a .args .z) (a .pre .0) 10 (omega arith)) tt
 
 slice-write-t-11 : tie.Need-slice-write-t-11
 unfolding header

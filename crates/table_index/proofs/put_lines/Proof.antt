@@ -32,7 +32,7 @@ put-line-requires c κs =
     (reached-here (a .args .t .now) (l .t) (l .i) (l .c) (l .inv .1), rw e (omega (arith, l .inv .2, c .before .loop-test .taken)))
 
 add-i : tie.Need-add-i Inv-loop μ-loop
-add-i c = let l = c .before .before .before .before .before .loop in omega (arith, l .inv .2, l .inv .1 .passed .few, c .before .before .before .before .loop-test .taken)
+add-i c = let l = c .before .before .before .before .before .loop in omega (arith, l .inv .2, l .inv .1 .passed .bounded .few, c .before .before .before .before .loop-test .taken)
 
 loop-again : tie.Need-loop-again Inv-loop μ-loop
 loop-again c =

@@ -6,25 +6,25 @@ use Rattle.table_index.proofs.sizes.Statement.{statement}
 use Rattle.table_index.proofs.sizes.Tie as tie
 
 add-params : tie.Need-add-params
-add-params c = let k = c .pre in omega (arith, count-all (behind (c .args .lines) (c .args .t .now)) (k .passed), k .passed .few, k .lines-are, k .names-are, k .args-are, k .types-are, k .decls-are, k .ctors-are, k .fields-are)
+add-params c = let k = c .pre in omega (arith, count-all (behind (c .args .lines) (c .args .t .now)) (k .passed), k .passed .bounded .few, k .lines-are, k .names-are, k .args-are, k .types-are, k .decls-are, k .ctors-are, k .fields-are)
 
 add-params-2 : tie.Need-add-params-2
-add-params-2 c = let k = c .pre in omega (arith, count-all (behind (c .args .lines) (c .args .t .now)) (k .passed), k .passed .few, k .lines-are, k .names-are, k .args-are, k .types-are, k .decls-are, k .ctors-are, k .fields-are)
+add-params-2 c = let k = c .pre in omega (arith, count-all (behind (c .args .lines) (c .args .t .now)) (k .passed), k .passed .bounded .few, k .lines-are, k .names-are, k .args-are, k .types-are, k .decls-are, k .ctors-are, k .fields-are)
 
 mul-params : tie.Need-mul-params
-mul-params c = let k = c .pre in omega (arith, count-all (behind (c .args .lines) (c .args .t .now)) (k .passed), k .passed .few, k .lines-are, k .names-are, k .args-are, k .types-are, k .decls-are, k .ctors-are, k .fields-are)
+mul-params c = let k = c .pre in omega (arith, count-all (behind (c .args .lines) (c .args .t .now)) (k .passed), k .passed .bounded .few, k .lines-are, k .names-are, k .args-are, k .types-are, k .decls-are, k .ctors-are, k .fields-are)
 
 add-params-3 : tie.Need-add-params-3
-add-params-3 c = let k = c .pre in omega (arith, count-all (behind (c .args .lines) (c .args .t .now)) (k .passed), k .passed .few, k .lines-are, k .names-are, k .args-are, k .types-are, k .decls-are, k .ctors-are, k .fields-are)
+add-params-3 c = let k = c .pre in omega (arith, count-all (behind (c .args .lines) (c .args .t .now)) (k .passed), k .passed .bounded .few, k .lines-are, k .names-are, k .args-are, k .types-are, k .decls-are, k .ctors-are, k .fields-are)
 
 add-params-4 : tie.Need-add-params-4
-add-params-4 c = let k = c .pre in omega (arith, count-all (behind (c .args .lines) (c .args .t .now)) (k .passed), k .passed .few, k .lines-are, k .names-are, k .args-are, k .types-are, k .decls-are, k .ctors-are, k .fields-are)
+add-params-4 c = let k = c .pre in omega (arith, count-all (behind (c .args .lines) (c .args .t .now)) (k .passed), k .passed .bounded .few, k .lines-are, k .names-are, k .args-are, k .types-are, k .decls-are, k .ctors-are, k .fields-are)
 
 add-params-5 : tie.Need-add-params-5
-add-params-5 c = let k = c .pre in omega (arith, count-all (behind (c .args .lines) (c .args .t .now)) (k .passed), k .passed .few, k .lines-are, k .names-are, k .args-are, k .types-are, k .decls-are, k .ctors-are, k .fields-are)
+add-params-5 c = let k = c .pre in omega (arith, count-all (behind (c .args .lines) (c .args .t .now)) (k .passed), k .passed .bounded .few, k .lines-are, k .names-are, k .args-are, k .types-are, k .decls-are, k .ctors-are, k .fields-are)
 
 sub-params : tie.Need-sub-params
-sub-params c = let k = c .pre in omega (arith, count-all (behind (c .args .lines) (c .args .t .now)) (k .passed), k .passed .few, k .lines-are, k .names-are, k .args-are, k .types-are, k .decls-are, k .ctors-are, k .fields-are)
+sub-params c = let k = c .pre in omega (arith, count-all (behind (c .args .lines) (c .args .t .now)) (k .passed), k .passed .bounded .few, k .lines-are, k .names-are, k .args-are, k .types-are, k .decls-are, k .ctors-are, k .fields-are)
 
 returns : tie.Need-returns
 returns c =

@@ -2,7 +2,8 @@
 use mathlib.Core.Path.{sym, _∙_}
 use native.Mathlib.Omega.{arith}
 use borrow.Author.Needs.{needs}
-use Rattle.rounds.specs.RoundsLaws.{decls-few, stays, running-with, updated-still, updated-erased, mark-unset}
+use Rattle.declared.specs.PassedLaws.{decls-few}
+use Rattle.rounds.specs.RoundsLaws.{stays, running-with, updated-still, updated-erased, mark-unset}
 use Rattle.updates.proofs.update.Statement.{statement}
 use Rattle.tables.specs.Tables.{lines-in}
 use Rattle.updates.proofs.update.Tie as tie

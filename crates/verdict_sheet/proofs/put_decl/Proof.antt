@@ -10,8 +10,8 @@ use Rattle.sheet.specs.Sheet.{lines}
 use Rattle.meaning.specs.Program.{field-line, import-line, is}
 use Rattle.meaning.specs.Rows.{count-before}
 use Rattle.limits.specs.Limits.{start}
+use Rattle.declared.specs.PassedLaws.{decls-few}
 use Rattle.tables.specs.Tables.{head-line, lines-in}
-use Rattle.keeps.specs.KeepsLaws.{decls-few}
 use Rattle.verdict_sheet.specs.Upto.{upto}
 use Rattle.verdict_sheet.specs.LineLaws.{start-le}
 use Rattle.verdict_sheet.specs.StepLaws.{starts-rise, import-whole, local-next, upto-self, sheet-of}

@@ -6,7 +6,8 @@ use lib.ListN.{length}
 use borrow.Author.Needs.{needs}
 use Rattle.meaning.specs.Program.{type-line}
 use Rattle.meaning.specs.Rows.{count-of}
-use Rattle.erasure.specs.FixpointLaws.{types-few, UsedFrom, used-none, used-next, used-all}
+use Rattle.declared.specs.PassedLaws.{types-few}
+use Rattle.erasure.specs.FixpointLaws.{UsedFrom, used-none, used-next, used-all}
 use Rattle.fixpoints.proofs.first_marks.first_uses.Statement.{statement}
 use Rattle.tables.specs.Tables.{lines-in}
 use Rattle.fixpoints.proofs.first_marks.first_uses.Tie as tie

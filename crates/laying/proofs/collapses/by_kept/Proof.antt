@@ -1,7 +1,7 @@
 -- `collapses::by_kept` meets its contract, by the only kept field. Assumes nothing.
 use native.Mathlib.Omega.{arith}
 use borrow.Author.Needs.{needs}
-use Rattle.candidates.specs.CandidatesLaws.{fields-few}
+use Rattle.declared.specs.PassedLaws.{fields-few}
 use Rattle.laying.specs.ChosenLaws.{kept-none, kept-some}
 use Rattle.laying.proofs.collapses.by_kept.Statement.{statement}
 use Rattle.tables.specs.Tables.{lines-in}

@@ -7,12 +7,11 @@ use lib.ListN.{length}
 use borrow.Author.Needs.{needs}
 use Rattle.outcomes.specs.Scratch.{part, Nodes}
 use Rattle.outcomes.specs.Laws.Scratch.{part-same}
-use Rattle.kids.specs.NodesLaws.{types-few}
-use Rattle.arguments.specs.ParamsLaws.{decls-few}
 use Rattle.resolving.specs.Resolver.{evals-of, call-of, Again, Done}
-use Rattle.resolving.specs.ResolverLaws.{node-var, node-again, node-stop, node-built, node-full, joined-args, node-apply, args-none, again-none, again-kept, args-more, args-again, args-stop, args-full, args-done, unfolded-here, body-here, apply-enter, kid-below, name-within, names-few, apply-kept}
+use Rattle.resolving.specs.ResolverLaws.{node-var, node-again, node-stop, node-built, node-full, joined-args, node-apply, args-none, again-none, again-kept, args-more, args-again, args-stop, args-full, args-done, unfolded-here, body-here, apply-enter, kid-below, name-within, apply-kept}
 use borrow.Fn.Kinds.{In}
 use borrow.Fn.PlainCycle.{Measures, is, falls, and}
+use Rattle.declared.specs.PassedLaws.{decls-few, types-few, names-few}
 use Rattle.resolver.proofs.resolution.+apply+args+enter+node+once.{statement}
 use Rattle.resolver.proofs.resolution.+apply+args+enter+node+once.Tie.{close}
 use Rattle.tables.specs.Tables.{lines-in}
@@ -45,19 +44,19 @@ use Rattle.tables.proofs.decl_of.Reads as decl-of-reads
 use Rattle.tables.proofs.type_number.Reads as type-number-reads
 
 abbrev μ-apply : Measures 4 apply-kinds.ps ℕ
-μ-apply κs a = 4100 * a .1 .1 .1 .1 .0 + 1
+μ-apply κs a = 16400 * a .1 .1 .1 .1 .0 + 1
 
 abbrev μ-args : Measures 4 args-kinds.ps ℕ
-μ-args κs a = 4100 * a .1 .1 .1 .1 .0 + 4 * a .1 .1 .1 .1 .1 .0 + 1
+μ-args κs a = 16400 * a .1 .1 .1 .1 .0 + 4 * a .1 .1 .1 .1 .1 .0 + 1
 
 abbrev μ-enter : Measures 4 enter-kinds.ps ℕ
-μ-enter κs a = 4100 * a .1 .1 .1 .1 .0
+μ-enter κs a = 16400 * a .1 .1 .1 .1 .0
 
 abbrev μ-node : Measures 4 node-kinds.ps ℕ
-μ-node κs a = 4100 * a .1 .1 .1 .1 .0 + 4 * a .1 .1 .1 .1 .1 .0 + 2
+μ-node κs a = 16400 * a .1 .1 .1 .1 .0 + 4 * a .1 .1 .1 .1 .1 .0 + 2
 
 abbrev μ-once : Measures 4 once-kinds.ps ℕ
-μ-once κs a = 4100 * a .1 .1 .1 .1 .0 + 4 * a .1 .1 .1 .1 .1 .0 + 3
+μ-once κs a = 16400 * a .1 .1 .1 .1 .0 + 4 * a .1 .1 .1 .1 .1 .0 + 3
 
 abbrev apply-at : ℕ → In 4 apply-kinds.ps
 apply-at t = and 4 apply-kinds.ps (is 4 apply-kinds.ps μ-apply t) apply.Pre

@@ -9,10 +9,11 @@ use Rattle.model.specs.Erasure.{rule, sweep, round}
 use Rattle.meaning.specs.Program.{program}
 use Rattle.model_laws.specs.Lists.{trues}
 use Rattle.model_laws.specs.Rounds.{trues-le}
+use Rattle.declared.specs.PassedLaws.{decls-few}
 use Rattle.tables.specs.Tables.{decls-of, lines-in}
 use Rattle.marks.specs.Marks.{marks-of}
 use Rattle.rounds.specs.Rounds.{Running}
-use Rattle.rounds.specs.RoundsLaws.{decls-few, sweep-next, sweep-end, sweep-begin}
+use Rattle.rounds.specs.RoundsLaws.{sweep-next, sweep-end, sweep-begin}
 use Rattle.settling.proofs.sweeps.sweep.Statement.{statement}
 use Rattle.settling.proofs.sweeps.sweep.Tie as tie
 
