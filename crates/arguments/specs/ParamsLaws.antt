@@ -12,9 +12,7 @@ use Rattle.sheet.specs.Line.{Line, number}
 use Rattle.meaning.specs.Program.{param-line, is, select}
 use Rattle.meaning.specs.Rows.{count-of, count-before}
 use Rattle.meaning.specs.Laws.Program.{select-append}
-use Rattle.limits.specs.Limits.{counts-of}
-use Rattle.declared.specs.Passed.{Passed}
-use Rattle.tables.specs.Tables.{nth, decls-of, first-of}
+use Rattle.tables.specs.Tables.{nth, first-of}
 use Rattle.outcomes.specs.Outcome.{one, argument}
 use Rattle.outcomes.specs.Scratch.{part}
 use Rattle.outcomes.specs.Laws.Scratch.{part-none}

@@ -18,8 +18,7 @@ use Rattle.meaning.specs.Program.{name-line, type-line, import-line, param-line
 use Rattle.meaning.specs.Rows.{line-at, count-of, zeros-from, good-head, good-numbers}
 use Rattle.meaning.specs.Laws.Program.{select-append, head-cases}
 use Rattle.model_laws.specs.Rounds.{cases-eq}
-use Rattle.limits.specs.Limits.{start, counts-of}
-use Rattle.header.specs.OrderLaws.{count-of-le}
+use Rattle.limits.specs.Limits.{start}
 use Rattle.declared.specs.Passed.{Passed}
 use Rattle.tables.specs.Tables.{nth, group, head-line, decls-of, first-of}
 use Rattle.declared.specs.LineLaws.{stands, good-line}

@@ -4,7 +4,7 @@ use mathlib.Core.List.{List, _++_}
 use Prim.Native.Nat.{ℕ, _+_, _-_, _*_, _≤_, _<_}
 use native.Mathlib.Omega.{arith}
 use lib.ListN.{length, take, drop, replicate, length-replicate}
-use lib.Seq.{take-at, drop-at, take-length, take-take, take-add, length-take-le}
+use lib.Seq.{take-at, drop-at, take-take, take-add, length-take-le}
 use borrow.Rule.Slice.PartMut.{putMid}
 use Rattle.sheet.specs.Format.{base}
 use Rattle.sheet.specs.Line.{Line}
@@ -12,7 +12,7 @@ use mathlib.Core.Bool.{false}
 use Rattle.sheet.specs.Sheet.{count, lines, row1}
 use Rattle.cells.specs.Cells.{lines-of}
 use Rattle.bares.specs.PlaceLaws.{count-bare}
-use Rattle.meaning.specs.Program.{name-line, field-line}
+use Rattle.meaning.specs.Program.{name-line}
 use Rattle.meaning.specs.Rows.{count-of}
 use Rattle.answer.specs.declared.Refusal.{Refusal}
 use Rattle.answer.specs.declared.Refusal.the-variants.{Accepted, Refused}
@@ -20,13 +20,12 @@ use Rattle.answer.specs.Answer.{sheet-rows, refusal}
 use Rattle.answer.specs.Cut.{Call}
 use Rattle.limits.specs.declared.Counts.{Counts}
 use Rattle.limits.specs.Limits.{counts-of}
-use Rattle.limits.specs.LimitsLaws.{fields-kept}
 use Rattle.declared.specs.Passed.{Passed}
 use Rattle.refusals.specs.declared.Checked as rows
 use Rattle.refusals.specs.Rows.{with-counts, checked-of, Checks}
 use Rattle.refusals.specs.RowsLaws.{checked-accepted}
 use Rattle.tables.specs.declared.Sizes.{Sizes}
-use Rattle.tables.specs.Tables.{decls-of, sizes-of, cell-count, lines-in, Tabled}
+use Rattle.tables.specs.Tables.{sizes-of, cell-count, lines-in, Tabled}
 use Rattle.table_index.specs.Index.{behind, lines-behind}
 use Rattle.table_index.specs.Sizing.{Counted}
 use Rattle.table_index.specs.SizingLaws.{count-all, cells-few}

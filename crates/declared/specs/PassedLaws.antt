@@ -8,12 +8,16 @@ use native.Mathlib.Omega.{arith}
 use lib.ListN.{length}
 use borrow.Author.Tests.{eq-eqb, lt-ltb, le-ltb}
 use Rattle.sheet.specs.Format.{Format, base, largest, Wider}
+use Rattle.sheet.specs.FormatLaws.{base-wider}
 use Rattle.sheet.specs.Line.{Line, letter, number}
 use Rattle.sheet.specs.FirstLaws.{first-place, place-unique}
 use Rattle.sheet.specs.ListLaws.{contrary}
+use Rattle.model.specs.Decl.{position}
 use Rattle.model.specs.Names.{Distinct}
+use Rattle.model_laws.specs.Names.{position-le}
 use Rattle.meaning.specs.Program.{name-line, arg-line, type-line, param-line, ctor-line, field-line, is, program}
 use Rattle.meaning.specs.Rows.{line-at, count-of, count-before}
+use Rattle.meaning.specs.Laws.Program.{length-program}
 use Rattle.answer.specs.Laws.Pass.{distinct-heads}
 use Rattle.bares.specs.RowLaws.{renumbers, repeats-number}
 use Rattle.header.specs.OrderLaws.{Ordered, ordered-of, arg-at, type-before, count-of-le}
@@ -83,19 +87,7 @@ pub bounded-wider : (f g : Format) → Wider f g → (ls : List Line) → Bounde
 bounded-wider f g v ls w = record { few = omega (arith, w .few, v .lines); small = λ i k. omega (arith, w .small i k, v .columns); in-limits = row4-wider f g v ls (w .in-limits) }
 
 pub bounded-largest : (ls : List Line) → Bounded base ls → Bounded largest ls
-bounded-largest =
-    bounded-wider base largest
-    (record {
-      columns = omega arith;
-      lines = omega arith;
-      names = omega arith;
-      args = omega arith;
-      types = omega arith;
-      decls = omega arith;
-      ctors = omega arith;
-      fields = omega arith;
-      params = omega arith;
-    })
+bounded-largest = bounded-wider base largest base-wider
 
 -- ---- what a sheet that passed says
 module _ (ls : List Line) (p : Passed ls) where
@@ -129,6 +121,10 @@ module _ (ls : List Line) (p : Passed ls) where
 
   pub decls-few : decls-of ls ≤ 512
   decls-few = decls-within largest ls (p .bounded)
+
+  -- a name's declaration, or their number
+  pub position-few : (n : ℕ) → position (program ls) n ≤ 512
+  position-few n = omega (arith, position-le (program ls) n, length-program ls, decls-few)
 
   pub ctors-few : count-of ctor-line ls ≤ 1024
   ctors-few = ctors-within largest ls (p .bounded)

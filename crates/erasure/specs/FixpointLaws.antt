@@ -15,7 +15,6 @@ use Rattle.meaning.specs.Rows.{count-of}
 use Rattle.model_laws.specs.Rounds.{cases-eq}
 use Rattle.model_laws.specs.Erasure.{length-start, start-at, start-sound}
 use Rattle.meaning.specs.Laws.Program.{length-program}
-use Rattle.limits.specs.Limits.{counts-of}
 use Rattle.type_lines.specs.TypeLists.{types-of}
 use Rattle.declared.specs.Passed.{Passed}
 use Rattle.tables.specs.Tables.{nth, head-line, decls-of}
@@ -121,30 +120,31 @@ module _ (m n x : ℕ) (h : n ≤ m) where
   part-at : (i : ℕ) → i < n → getD (take (n - 0) (replicate m x)) i 0 ≡ x
   part-at i l = let e : n - 0 ≡ n = omega arith in rw e (getD-take n (replicate m x) i 0 l ∙ getD-replicate m i x 0 (omega arith))
 
-module _ (ls : List Line) (n y : ℕ) (a : n ≡ decls-of ls) (k : y ≡ count-of type-line ls) (d : decls-of ls ≤ 96) (c : count-of type-line ls ≤ 1024) where
-  pub fresh-of : Fresh ls (take (n - 0) (replicate 96 0)) (take (n - 0) (replicate 96 0)) (take (y - 0) (replicate 1024 0)) (take (y - 0) (replicate 1024 0)) (take (n - 0) (replicate 96 0)) (take (n - 0) (replicate 96 y))
+-- of lengths ds and ts, that hold the declarations and the types
+module _ (ls : List Line) (n y ds ts : ℕ) (a : n ≡ decls-of ls) (k : y ≡ count-of type-line ls) (d : decls-of ls ≤ ds) (c : count-of type-line ls ≤ ts) where
+  pub fresh-of : Fresh ls (take (n - 0) (replicate ds 0)) (take (n - 0) (replicate ds 0)) (take (y - 0) (replicate ts 0)) (take (y - 0) (replicate ts 0)) (take (n - 0) (replicate ds 0)) (take (n - 0) (replicate ds y))
   fresh-of =
-      let h : n ≤ 96 = omega arith in
-      let i : y ≤ 1024 = omega arith in
+      let h : n ≤ ds = omega arith in
+      let i : y ≤ ts = omega arith in
       record {
-        used-size = part-length 96 n 0 h ∙ a;
-        decl-size = part-length 96 n 0 h ∙ a;
-        node-size = part-length 1024 y 0 i ∙ k;
-        member-size = part-length 1024 y 0 i ∙ k;
-        field-size = part-length 96 n 0 h ∙ a;
-        wait-size = part-length 96 n y h ∙ a;
-        members = λ z l. part-at 1024 y 0 i z (omega arith);
-        fields = λ z l. part-at 96 n 0 h z (omega arith);
-        waits = λ z l. rw (part-at 96 n y h z (omega arith)) (omega arith);
+        used-size = part-length ds n 0 h ∙ a;
+        decl-size = part-length ds n 0 h ∙ a;
+        node-size = part-length ts y 0 i ∙ k;
+        member-size = part-length ts y 0 i ∙ k;
+        field-size = part-length ds n 0 h ∙ a;
+        wait-size = part-length ds n y h ∙ a;
+        members = λ z l. part-at ts y 0 i z (omega arith);
+        fields = λ z l. part-at ds n 0 h z (omega arith);
+        waits = λ z l. rw (part-at ds n y h z (omega arith)) (omega arith);
       }
 
-  pub fixpoint-of : (decl node x z : List ℕ) (r : ℕ) → length decl ≡ length {A = ℕ} (take (n - 0) (replicate 96 0)) → length node ≡ length {A = ℕ} (take (y - 0) (replicate 1024 0)) → Fixed ls decl node r
+  pub fixpoint-of : (decl node x z : List ℕ) (r : ℕ) → length decl ≡ length {A = ℕ} (take (n - 0) (replicate ds 0)) → length node ≡ length {A = ℕ} (take (y - 0) (replicate ts 0)) → Fixed ls decl node r
       → Fixpoint ls (record { node = node ++ x; decl = decl ++ z; rounds = r })
   fixpoint-of decl node x z r e g f =
-      let h : n ≤ 96 = omega arith in
-      let i : y ≤ 1024 = omega arith in
-      let u : length decl ≡ decls-of ls = e ∙ part-length 96 n 0 h ∙ a in
-      let v : length node ≡ count-of type-line ls = g ∙ part-length 1024 y 0 i ∙ k in
+      let h : n ≤ ds = omega arith in
+      let i : y ≤ ts = omega arith in
+      let u : length decl ≡ decls-of ls = e ∙ part-length ds n 0 h ∙ a in
+      let v : length node ≡ count-of type-line ls = g ∙ part-length ts y 0 i ∙ k in
       record {
         marks = ap marks-of (take-at decl z (decls-of ls) u) ∙ f .marks;
         counted = f .counted;

@@ -15,7 +15,6 @@ use Rattle.sheet.specs.ListLaws.{Every, getD-within}
 use Rattle.model.specs.Resolve.{Result}
 use Rattle.meaning.specs.Program.{field-line}
 use Rattle.meaning.specs.Rows.{count-of}
-use Rattle.declared.specs.PassedLaws.{decls-few}
 use Rattle.tables.specs.Tables.{decls-of, first-of}
 use Rattle.kept.specs.Kept.{body-kind, body-last, field-type}
 use Rattle.bodies.specs.BodiesLaws.{field-types, last-types, first-le}
@@ -201,6 +200,3 @@ module _ (ls : List Line) (t u keep : List ℕ) (kept : Kept ls t u keep) (d : �
 
   pub fields-inside : (end : ℕ) → end ≡ first-of field-line ls (d + 1) → end ≤ count-of field-line ls
   fields-inside end e = omega (arith, first-le field-line ls (d + 1))
-
-pub kept-decls : (ls : List Line) (t u keep : List ℕ) → Kept ls t u keep → decls-of ls ≤ 512
-kept-decls ls t u keep kept = decls-few ls (kept .setup .tabled .passed)

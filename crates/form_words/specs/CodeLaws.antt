@@ -27,9 +27,7 @@ use Rattle.copies.specs.Stands.{stands-put}
 use Rattle.states.specs.States.{unfold-at, lay-of}
 use Rattle.form_words.specs.Emit.{run, step, filled, grown, form-words, words, kid-words, Asked}
 use Rattle.form_words.specs.Filling.{leaf, leaf-var, leaf-own}
-use Rattle.model_laws.specs.Names.{position-le}
-use Rattle.meaning.specs.Laws.Program.{length-program}
-use Rattle.declared.specs.PassedLaws.{decls-few, args-few}
+use Rattle.declared.specs.PassedLaws.{args-few}
 use Rattle.kids.specs.NodesLaws.{node-at, kids-8}
 use Rattle.form_words.specs.EmitLaws.{words-var, words-plain, words-gone, words-stays, placed-words, words-exact, words-placed}
 
@@ -369,10 +367,6 @@ state-below u m x d e h l = go (ltb (2 * m) (length u)) refl
     go : (c : Bool) → ltb (2 * m) (length u) ≡ c → m < d
     go true q = omega (arith, ltb-true (2 * m) (length u) q)
     go false q = absurd (omega (arith, e, List·getD-eq-default u 3 {n = 2 * m} (ltb-false (2 * m) (length u) q)))
-
--- a name's declaration, or their number
-pub place-few : (ls : List Line) → Passed ls → (n : ℕ) → position (program ls) n ≤ 512
-place-few ls passed n = omega (arith, position-le (program ls) n, length-program ls, decls-few ls passed)
 
 pub count-few : (w : ℕ) → node-of w .count < 1024
 unfolding node-of

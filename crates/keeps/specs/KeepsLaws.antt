@@ -21,7 +21,6 @@ use Rattle.meaning.specs.Rows.{count-of}
 use Rattle.model_laws.specs.Lists.{getD-map}
 use Rattle.meaning.specs.Laws.Program.{Whole}
 use Rattle.model_laws.specs.Rounds.{cases-eq}
-use Rattle.limits.specs.Limits.{counts-of}
 use Rattle.declared.specs.Passed.{Passed}
 use Rattle.tables.specs.Tables.{nth, group, head-line, decls-of, first-of}
 use Rattle.declared.specs.DeclLaws.{first-next, nth-in, dtype-is, origin-local, origin-import, whole-at}

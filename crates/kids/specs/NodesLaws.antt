@@ -18,7 +18,6 @@ use Rattle.meaning.specs.Program.{name-line, arg-line, type-line, is, select, l
 use Rattle.meaning.specs.Rows.{count-of, count-before, line-at, some-below, zeros-from, is-list, good-type, good-numbers, row5}
 use Rattle.model_laws.specs.Lists.{getD-map}
 use Rattle.meaning.specs.Laws.Written.{trees-after-later}
-use Rattle.limits.specs.Limits.{counts-of}
 use Rattle.declared.specs.Passed.{Passed}
 use Rattle.tables.specs.Tables.{nth}
 use Rattle.outcomes.specs.Answer.{parts, plain, listed}

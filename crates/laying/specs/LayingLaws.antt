@@ -20,7 +20,6 @@ use Rattle.model_laws.specs.Rounds.{cases-eq}
 use Rattle.model_laws.specs.Run.{import-layout}
 use Rattle.meaning.specs.Program.{import-line, verdict-line, is, trees, body-of, dtype-of, abbreviated, layout-by, info-of, program}
 use Rattle.meaning.specs.Laws.Program.{length-program}
-use Rattle.limits.specs.Limits.{counts-of}
 use Rattle.declared.specs.Passed.{Passed}
 use Rattle.tables.specs.Tables.{nth, group, head-line, decls-of}
 use Rattle.declared.specs.DeclLaws.{dtype-is, origin-local, origin-import, verdict-is}

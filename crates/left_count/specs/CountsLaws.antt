@@ -152,8 +152,8 @@ module _ (ls : List Line) (t u f keep : List ℕ) (ready : Ready ls t u f keep) 
       go false false false true = omega arith
       go false false false false = few
 
-  pub lines-few : (state u d ≡ 0 → ⊥) → body-lines (left-body ls u keep d) ≤ 3072
-  lines-few n0 = go (eqb (state u d) 1) refl (ltb (body-kind ls d) 2) refl (eqb (body-kind ls d) 2) refl
+  pub body-few : (state u d ≡ 0 → ⊥) → body-lines (left-body ls u keep d) ≤ 3072
+  body-few n0 = go (eqb (state u d) 1) refl (ltb (body-kind ls d) 2) refl (eqb (body-kind ls d) 2) refl
     where
       p : Passed ls
       p = ready .tabled .passed
@@ -270,9 +270,9 @@ unfolding upto table somes program-lines
 upto-none ls u keep n c a t l = record { args = a; types = t; lines-are = l; fit = λ e y h. absurd (omega arith); few-args = omega arith; few-types = omega arith; few-lines = omega arith }
 
 module _ (ls : List Line) (t u f keep left : List ℕ) (ready : Ready ls t u f keep) (flagged : Flagged ls left) (n d : ℕ) (below : d < decls-of ls) (c r : Count) where
-  types-few : length (decl-types ls u keep left d) ≤ 2048
+  decl-types-few : length (decl-types ls u keep left d) ≤ 2048
   unfolding decl-types
-  types-few = go (eqb (getD left d 0) 0) (resolves-few ls t u f keep ready d below)
+  decl-types-few = go (eqb (getD left d 0) 0) (resolves-few ls t u f keep ready d below)
     where
       go : (x : Bool) → length (resolves-of ls u keep d) ≤ 2048 → length (pick x [] (resolves-of ls u keep d)) ≤ 2048
       go true h = omega arith
@@ -284,7 +284,7 @@ module _ (ls : List Line) (t u f keep left : List ℕ) (ready : Ready ls t u f k
     where
       go : (x : Bool) → eqb (getD left d 0) 0 ≡ x → pick x 0 (length (params-of ls d) + 2 + body-lines (left-body ls u keep d)) ≤ 20000
       go true e = omega arith
-      go false e = omega (arith, params-few-of ls (ready .tabled .passed) d, lines-few ls t u f keep ready d below (left-open ls t u f keep ready d below left flagged (eqb-false (getD left d 0) 0 e)))
+      go false e = omega (arith, params-few-of ls (ready .tabled .passed) d, body-few ls t u f keep ready d below (left-open ls t u f keep ready d below left flagged (eqb-false (getD left d 0) 0 e)))
 
   types-left : is-left (left-at 100 (program ls) d) ≡ true → decl-types ls u keep left d ≡ resolves-of ls u keep d
   unfolding decl-types
@@ -301,8 +301,8 @@ module _ (ls : List Line) (t u f keep left : List ℕ) (ready : Ready ls t u f k
         lines-are =
             omega (arith, q .lines-are, x .lines-are, g .lines-are, ap length (ap (λ (i : ℕ). upto ls i .lines) k ∙ upto-lines ls d), length-append (upto ls d .lines) (program-lines (somes (left-at 100 (program ls) d ∷ [])) (upto ls d .written) .lines));
         fit = λ e v h i m. go e v h i m (eqb e d) refl (q .small);
-        few-args = omega (arith, x .few-args, q .few-args, types-few);
-        few-types = omega (arith, x .few-types, q .few-types, types-few);
+        few-args = omega (arith, x .few-args, q .few-args, decl-types-few);
+        few-types = omega (arith, x .few-types, q .few-types, decl-types-few);
         few-lines = omega (arith, x .few-lines, q .lines-are, count-few);
       }
     where

@@ -44,7 +44,7 @@ module _ (ls : List Line) (passed : Passed ls) (resolvable : Resolvable base ls)
       (resolvable .resolved i h))
 
   -- and so fewer than a cell can count
-  pub types-few : length (left-written ls .written .types) < 4294967296
-  types-few =
+  pub left-types-few : length (left-written ls .written .types) < 4294967296
+  left-types-few =
       let t = total-bound 1024 (types-of ds) (run-types (λ c. size c ≤ 1024) 100 (program ls) left-small) in
       omega (arith, t, mul-le-mul-left 1024 types-count, program-adds ds nothing .types-count)

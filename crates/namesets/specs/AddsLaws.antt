@@ -16,10 +16,9 @@ use Rattle.columns.specs.Column.{pick}
 use Rattle.sheet.specs.Line.{Line}
 use Rattle.model.specs.Decl.{member, position}
 use Rattle.model.specs.Layout.{positions}
-use Rattle.meaning.specs.Program.{arg-line, type-line, program}
+use Rattle.meaning.specs.Program.{type-line, program}
 use Rattle.meaning.specs.Rows.{count-of}
 use Rattle.meaning.specs.Laws.Program.{length-program}
-use Rattle.limits.specs.Limits.{counts-of}
 use Rattle.declared.specs.Passed.{Passed}
 use Rattle.tables.specs.Tables.{decls-of}
 use Rattle.bits.specs.Bits.{digit, has, inserted, cleared, united}

@@ -16,9 +16,9 @@ use Rattle.sheet.specs.ListLaws.{false-true}
 use Rattle.model.specs.Decl.{Ctor, CtorLayout, bit}
 use Rattle.model.specs.Layout.{first-kept, newtype-of-ctor, newtype-of}
 use Rattle.meaning.specs.Output.{all-slots}
-use Rattle.meaning.specs.Program.{name-line, ctor-line, field-line, Group, program}
+use Rattle.meaning.specs.Program.{ctor-line, field-line, Group, program}
 use Rattle.meaning.specs.Rows.{line-at, count-of}
-use Rattle.limits.specs.Limits.{start, counts-of}
+use Rattle.limits.specs.Limits.{start}
 use Rattle.distinct.specs.Ways.{Declared, Constructors, takes}
 use Rattle.distinct.specs.WaysLaws.{named-below}
 use Rattle.declared.specs.Passed.{Passed}

@@ -16,11 +16,7 @@ use Rattle.meaning.specs.Program.{name-line, type-line, program}
 use Rattle.meaning.specs.Rows.{count-of}
 use Rattle.model.specs.Resolve.{Unfold, gone, stays, Result, ok, fault, spent, bind}
 use Rattle.model_laws.specs.Cty.{size-positive}
-use Rattle.model_laws.specs.Names.{position-le}
-use Rattle.meaning.specs.Laws.Program.{length-program}
-use Rattle.limits.specs.Limits.{counts-of}
 use Rattle.declared.specs.Passed.{Passed}
-use Rattle.declared.specs.PassedLaws.{decls-few}
 use Rattle.tables.specs.Tables.{decls-of}
 use Rattle.outcomes.specs.Outcome.{other, app, one, total, attached, built, argument, weight, instance-head, instance-shape, nodes, extra, called, eval, evals, entered, ev, fits}
 use Rattle.outcomes.specs.Answer.{listed, answer, Told}
@@ -764,10 +760,6 @@ module _ (ls : List Line) (t u : List ℕ) where
   pub body-here : (y d : ℕ) → y ≡ getD u (2 * d + 1) 0 → Place ls t u (getD u (2 * d + 1) 0) d × (unfold-at ls u d ≡ unfolded (eqb (getD u (2 * d) 3) 1) (params-of ls d) (type-of ls (getD u (2 * d + 1) 0)))
       → Place ls t u y d × (unfold-at ls u d ≡ unfolded (eqb (getD u (2 * d) 3) 1) (params-of ls d) (type-of ls y))
   body-here y d e p = subst (λ (i : ℕ). Place ls t u i d × (unfold-at ls u d ≡ unfolded (eqb (getD u (2 * d) 3) 1) (params-of ls d) (type-of ls i))) (sym e) p
-
--- a name's declaration, or their number
-pub decl-least : (ls : List Line) → Passed ls → (n : ℕ) → position (program ls) n ≤ 512
-decl-least ls passed n = omega (arith, position-le (program ls) n, length-program ls, decls-few ls passed)
 
 -- ---- for the code
 module _ (ls : List Line) (passed : Passed ls) (y : ℕ) (h : y < count-of type-line ls) where

@@ -20,7 +20,6 @@ use Rattle.model_laws.specs.Lists.{trues, true-of}
 use Rattle.model_laws.specs.Rounds.{At, Le, cases-eq, trues-le, same-eq, same-refl, Sound}
 use Rattle.model_laws.specs.Erasure.{cty-erased-mono, rule-mono, start-at}
 use Rattle.type_lines.specs.TypeLists.{types-of}
-use Rattle.limits.specs.Limits.{counts-of}
 use Rattle.declared.specs.Passed.{Passed}
 use Rattle.tables.specs.Tables.{nth, head-line, decls-of}
 use Rattle.declared.specs.TypeLaws.{good-arrow, good-tuple, good-inline, good-type-at}

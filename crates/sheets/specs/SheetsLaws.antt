@@ -22,8 +22,6 @@ use Rattle.answer.specs.Answer.{left-sheet, verdict-sheet, input-rows, input-re
 use Rattle.answer.specs.declared.Refusal.the-variants.{Accepted}
 use Rattle.answer.specs.Laws.Build.{verdict-sheet-length}
 use Rattle.answer.specs.Laws.Left.{pass-fit}
-use Rattle.limits.specs.Limits.{counts-of}
-use Rattle.declared.specs.Passed.{Passed}
 use Rattle.tables.specs.Tables.{decls-of, lines-in}
 use Rattle.tables.specs.OfSheet.{OfSheet, program-same, count-same}
 use Rattle.normal_forms.specs.Ranks.{Formed}

@@ -59,7 +59,7 @@ fixpoint-requires c κs =
     let a = c .before .before .before .before .before .before .before .before .before in
     let n = c .before .before .before .before .before .before .before .decls in
     let y = c .before .before .before .before .before .before .types in
-    (a .pre .tabled, fresh-of (lines-in (a .args .t .now)) (n .result) (y .result) (n .ensures) (y .ensures) (decls-within base (lines-in (a .args .t .now)) (a .pre .bounded)) (types-within base (lines-in (a .args .t .now)) (a .pre .bounded)))
+    (a .pre .tabled, fresh-of (lines-in (a .args .t .now)) (n .result) (y .result) 96 1024 (n .ensures) (y .ensures) (decls-within base (lines-in (a .args .t .now)) (a .pre .bounded)) (types-within base (lines-in (a .args .t .now)) (a .pre .bounded)))
 
 returns : tie.Need-returns
 returns c =
@@ -67,7 +67,7 @@ returns c =
     let n = c .before .before .before .before .before .before .before .before .before .before .before .before .before .before .decls in
     let y = c .before .before .before .before .before .before .before .before .before .before .before .before .before .types in
     let f = c .before .before .before .before .before .before .fixpoint in
-    fixpoint-of (lines-in (a .args .t .now)) (n .result) (y .result) (n .ensures) (y .ensures) (decls-within base (lines-in (a .args .t .now)) (a .pre .bounded)) (types-within base (lines-in (a .args .t .now)) (a .pre .bounded)) (f .last .1 .1 .0) (f .last .1 .1 .1 .0) _ _ (f .result) (f .kept .1 .1 .0) (f .kept .1 .1 .1 .0) (f .ensures)
+    fixpoint-of (lines-in (a .args .t .now)) (n .result) (y .result) 96 1024 (n .ensures) (y .ensures) (decls-within base (lines-in (a .args .t .now)) (a .pre .bounded)) (types-within base (lines-in (a .args .t .now)) (a .pre .bounded)) (f .last .1 .1 .0) (f .last .1 .1 .1 .0) _ _ (f .result) (f .kept .1 .1 .0) (f .kept .1 .1 .1 .0) (f .ensures)
 
 pub erasure-fixpoint-spec : {M : Type 1} → statement M
 erasure-fixpoint-spec =

@@ -12,12 +12,13 @@ use Rattle.node_words.specs.Put.{Put, put-none, put-more}
 use Rattle.kids.specs.NodesLaws.{node-at}
 use Rattle.copies.specs.Stands.{Stands, stands-put, stands-kept, stands-at, stands-by, put-stands}
 use Rattle.form_words.specs.Filling.{step-given, step-left}
-use Rattle.form_words.specs.CodeLaws.{put-same, run-none, run-more, run-stop, filled-none, filled-more, filled-all, filled-stop, put-leaf, put-plain, stop-plain, put-gone, put-stays, stop-stays, stop-form, put-form, put-surplus, surplus-none, surplus-kept, surplus-stop, surplus-put, grown-word, below, state-below, place-few, count-few, name-kids, asked-kid}
+use Rattle.form_words.specs.CodeLaws.{put-same, run-none, run-more, run-stop, filled-none, filled-more, filled-all, filled-stop, put-leaf, put-plain, stop-plain, put-gone, put-stays, stop-stays, stop-form, put-form, put-surplus, surplus-none, surplus-kept, surplus-stop, surplus-put, grown-word, below, state-below, count-few, name-kids, asked-kid}
 use Rattle.form_words.specs.Emit.{run, filled, words, kid-words}
 use borrow.Fn.Kinds.{In}
 use borrow.Fn.PlainCycle.{Measures, is, falls, and}
 use Rattle.forms.proofs.+emit_form+emit_kids+emit_name+emit_node+emit_part+emit_surplus+emit_tree.{statement}
 use Rattle.forms.proofs.+emit_form+emit_kids+emit_name+emit_node+emit_part+emit_surplus+emit_tree.Tie.{close}
+use Rattle.declared.specs.PassedLaws.{position-few}
 use Rattle.tables.specs.Tables.{lines-in}
 use Rattle.forms.proofs.emit_form.Reads as emit-form
 use Rattle.forms.proofs.emit_form.Kinds as emit-form-kinds
@@ -485,7 +486,7 @@ emit-name-state-requires : (t : ℕ) → emit-name-lts.Need-state-requires (
 emit-name-state-requires t c κs =
     let a = c .before .before .before .before .before .before .args in
     let p = c .before .before .before .before .before .before .pre in
-    omega (arith, c .decl-of .ensures, place-few (lines-in (a .t .now)) (p .1 .0 .0 .tabled .passed) (c .before .type-number .result))
+    omega (arith, c .decl-of .ensures, position-few (lines-in (a .t .now)) (p .1 .0 .0 .tabled .passed) (c .before .type-number .result))
 
 emit-name-returns : (t : ℕ) → emit-name-lts.Need-returns (
   type-number-reads.Asked,

@@ -3,7 +3,7 @@ use mathlib.Core.Path.{_∙_}
 use Prim.Native.Nat.{_<_}
 use Rattle.left_sheet.specs.SheetLaws.{lines-fit, first-room, sheet-done}
 use native.Mathlib.Omega.{arith}
-use Rattle.left_sheet.specs.FewLaws.{types-few}
+use Rattle.left_sheet.specs.FewLaws.{left-types-few}
 use borrow.Author.Needs.{needs}
 use Rattle.left_sheet.proofs.put_left.Statement.{statement}
 use Rattle.tables.specs.Tables.{lines-in}
@@ -49,7 +49,7 @@ put-decls-requires c κs =
     let a = z .args in
     let n = c .before .before .before .before .before .before .before .names .result in
     let en = c .before .before .before .before .before .before .before .names .ensures ∙ count-same (a .s .now) (a .t .now) (z .pre .0 .0) name-line in
-    let few : a .types < 4294967296 = omega (arith, z .pre .1 .1 .1 .0 .1, types-few (lines-in (a .t .now)) (z .pre .0 .1 .tabled .passed) (z .pre .0 .1 .resolvable)) in
+    let few : a .types < 4294967296 = omega (arith, z .pre .1 .1 .1 .0 .1, left-types-few (lines-in (a .t .now)) (z .pre .0 .1 .tabled .passed) (z .pre .0 .1 .resolvable)) in
     (record { ready = z .pre .0 .1; flagged = z .pre .1 .0 .0; fit = z .pre .1 .0 .1; long = z .pre .1 .1 .0 .0 }, (z .pre .1 .1 .0 .1, first-room (a .s .now) (a .t .now) (z .pre .0 .0) n (a .args) (a .types) en (z .pre .1 .1 .1 .0 .0) (z .pre .1 .1 .1 .0 .1) (a .out .now) (z .pre .1 .1 .1 .1) _ (c .before .before .before .before .before .put-names .ensures) few))
 
 returns : tie.Need-returns
@@ -58,7 +58,7 @@ returns c =
     let a = z .args in
     let n = c .before .before .before .before .before .before .before .before .before .before .before .before .before .before .names .result in
     let en = c .before .before .before .before .before .before .before .before .before .before .before .before .before .before .names .ensures ∙ count-same (a .s .now) (a .t .now) (z .pre .0 .0) name-line in
-    let few : a .types < 4294967296 = omega (arith, z .pre .1 .1 .1 .0 .1, types-few (lines-in (a .t .now)) (z .pre .0 .1 .tabled .passed) (z .pre .0 .1 .resolvable)) in
+    let few : a .types < 4294967296 = omega (arith, z .pre .1 .1 .1 .0 .1, left-types-few (lines-in (a .t .now)) (z .pre .0 .1 .tabled .passed) (z .pre .0 .1 .resolvable)) in
     sheet-done (a .s .now) (a .t .now) (z .pre .0 .0) n (a .args) (a .types) en (z .pre .1 .1 .1 .0 .0) (z .pre .1 .1 .1 .0 .1) (a .out .now) (z .pre .1 .1 .1 .1) _ (c .before .before .before .before .before .before .before .before .before .before .before .before .put-names .ensures) few (c .before .before .before .before .before .before .put-decls .result) _ (c .before .before .before .before .before .before .put-decls .ensures)
 
 pub put-left-spec : {M : Type 1} → statement M

@@ -1,5 +1,5 @@
 -- `outputs::outputs` meets its contract: an attempt without room leaves the outputs as they were, and the last one has room. Assumes nothing.
-use mathlib.Core.Path.{_≡_, _∙_}
+use mathlib.Core.Path.{_∙_}
 use Rattle.sheet.specs.Format.{base}
 use Rattle.declared.specs.PassedLaws.{decls-within}
 use borrow.Author.Needs.{needs}

@@ -1,14 +1,14 @@
 -- `recalls::answered` meets its contract, by the name's cells and what is remembered. Assumes nothing.
 use native.Mathlib.Omega.{arith}
 use borrow.Author.Needs.{needs}
-use Rattle.declared.specs.PassedLaws.{names-few}
-use Rattle.resolving.specs.ResolverLaws.{answered-gone, answered-stays, answered-known, decl-least}
+use Rattle.declared.specs.PassedLaws.{names-few, position-few}
+use Rattle.resolving.specs.ResolverLaws.{answered-gone, answered-stays, answered-known}
 use Rattle.recalls.proofs.answered.Statement.{statement}
 use Rattle.tables.specs.Tables.{lines-in}
 use Rattle.recalls.proofs.answered.Tie as tie
 
 state-requires : tie.Need-state-requires
-state-requires c κs = let e = c .before .before .before .before .before in omega (arith, c .decl-of .ensures, decl-least (lines-in (e .args .t .now)) (e .pre .0 .0 .tabled .passed) (e .args .n))
+state-requires c κs = let e = c .before .before .before .before .before in omega (arith, c .decl-of .ensures, position-few (lines-in (e .args .t .now)) (e .pre .0 .0 .tabled .passed) (e .args .n))
 
 returns : tie.Need-returns
 returns c =
