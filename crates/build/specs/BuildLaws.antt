@@ -12,8 +12,6 @@ use mathlib.Core.Bool.{false}
 use Rattle.sheet.specs.Sheet.{count, lines, row1}
 use Rattle.cells.specs.Cells.{lines-of}
 use Rattle.bares.specs.PlaceLaws.{count-bare}
-use Rattle.meaning.specs.Program.{name-line}
-use Rattle.meaning.specs.Rows.{count-of}
 use Rattle.answer.specs.declared.Refusal.{Refusal}
 use Rattle.answer.specs.declared.Refusal.the-variants.{Accepted, Refused}
 use Rattle.answer.specs.Answer.{sheet-rows, refusal}
@@ -118,10 +116,6 @@ cells-small b t k c z s = rw s (cells-few (behind (count 6 b) t) (c .passed))
 pub read-of : (b t : List ℕ) (z : Sizes) (t′ : List ℕ) → Lined b t z → Tabled t′ → lines-in t′ ≡ lines-behind z t → Read b t′
 read-of b t z t′ c m e =
     record { of = record { tabled = m; short = c .accepts .short; no-bad = c .accepts .no-bad; lines-are = e ∙ c .lines-are; bounded = rw e (c .bounded) }; sheet = c .accepts .sheet }
-
-pub names-of : (b t : List ℕ) (z : Sizes) (t′ : List ℕ) → Lined b t z → lines-in t′ ≡ lines-behind z t → z .names ≡ count-of name-line (lines-in t′)
-unfolding sizes-of
-names-of b t z t′ c e = ap (λ (y : Sizes). y .names) (c .ready .sizes) ∙ ap (count-of name-line) (sym e)
 
 -- ---- a refusal of rows 1 to 7
 refused-of : (b : List ℕ) (q : Refusal) (k : Counts) (code place : ℕ) → refusal (sheet-rows base b) ≡ q → with-counts q k .refusal ≡ Refused code place → refusal (sheet-rows base b) ≡ Refused code place

@@ -12,9 +12,6 @@ ghost use Prim.Native.Nat.{_+_, _*_, _≤_};
 ghost use lib.ListN.{length};
 ghost use Rattle.sheet.specs.Format.{base};
 ghost use Rattle.sheet.specs.Sheet.{count, row1};
-ghost use Rattle.meaning.specs.Program.{name-line};
-ghost use Rattle.meaning.specs.Rows.{count-of};
-ghost use Rattle.tables.specs.Tables.{lines-in};
 ghost use Rattle.built.specs.Built.{Gives};
 ghost use Rattle.deciding.specs.Deciding.{Read};
 ghost use Rattle.build.specs.Build.{Checked, Lined};
@@ -32,24 +29,15 @@ const LARGE: usize = 12352;
 const HALF: usize = 32768;
 
 // Memory for the passes, of as many declarations as a sheet may have.
-fn tabled(s: &[u8], t: &[u32], names: usize, v: &mut [u8], l: &mut [u8]) -> Built
-    requires { ⌜ Read (now s) (now t) × (names ≡ count-of name-line (lines-in (now t))) ⌝ }
+fn tabled(s: &[u8], t: &[u32], v: &mut [u8], l: &mut [u8]) -> Built
+    requires { ⌜ Read (now s) (now t) ⌝ }
     ensures { λ r. ⌜ Gives (now (s .entry)) (now (v .entry)) (now (l .entry)) r (now (v .exit)) (now (l .exit)) ⌝ }
 {
     let n = tables::decls(t);
     let mut keep = [0u8; 512];
     let mut u = [0u16; 192];
     let mut rank = [0u16; 96];
-    deciding::decided(
-        s,
-        t,
-        names,
-        &mut keep,
-        &mut u[0..2 * n],
-        &mut rank[0..n],
-        v,
-        l,
-    )
+    deciding::decided(s, t, &mut keep, &mut u[0..2 * n], &mut rank[0..n], v, l)
 }
 
 // Lines whose cells stand in the table, and memory for its index.
@@ -57,9 +45,8 @@ fn lined(s: &[u8], z: Sizes, t: &mut [u32], v: &mut [u8], l: &mut [u8]) -> Built
     requires { ⌜ Lined (now s) (now t) z ⌝ }
     ensures { λ r. ⌜ Gives (now (s .entry)) (now (v .entry)) (now (l .entry)) r (now (v .exit)) (now (l .exit)) ⌝ }
 {
-    let names = z.names;
     table_index::fill(z, t);
-    tabled(s, t, names, v, l)
+    tabled(s, t, v, l)
 }
 
 // A sheet that passed rows 1 to 7, whose lines are counted.

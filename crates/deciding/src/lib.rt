@@ -5,7 +5,7 @@ ghost use mathlib.Core.Path.{_≡_};
 ghost use Prim.Native.Nat.{_*_, _≤_};
 ghost use lib.ListN.{length};
 ghost use Rattle.model.specs.Run.{run};
-ghost use Rattle.meaning.specs.Program.{name-line, field-line, program};
+ghost use Rattle.meaning.specs.Program.{field-line, program};
 ghost use Rattle.meaning.specs.Rows.{count-of};
 ghost use Rattle.tables.specs.Tables.{decls-of, lines-in};
 ghost use Rattle.built.specs.Built.{Gives};
@@ -15,7 +15,6 @@ ghost use Rattle.deciding.specs.Deciding.{Read, Found, Clear};
 fn written(
     s: &[u8],
     t: &[u32],
-    names: usize,
     rounds: usize,
     u: &[u16],
     rank: &[u16],
@@ -24,20 +23,19 @@ fn written(
     l: &mut [u8],
 ) -> Built
     requires { ⌜ Clear (now s) (now t) (now u) (now rank) (now keep) ⌝ }
-    requires { ⌜ (names ≡ count-of name-line (lines-in (now t))) × (rounds ≡ run 100 (program (lines-in (now t))) .rounds) ⌝ }
+    requires { ⌜ rounds ≡ run 100 (program (lines-in (now t))) .rounds ⌝ }
     ensures { λ r. ⌜ Gives (now (s .entry)) (now (v .entry)) (now (l .entry)) r (now (v .exit)) (now (l .exit)) ⌝ }
 {
     if v.len() < s.len() {
         return built::refused(11, s.len());
     }
-    outputs::outputs(s, t, names, rounds, u, rank, keep, v, l)
+    outputs::outputs(s, t, rounds, u, rank, keep, v, l)
 }
 
 // Rows 9 and 10, where nothing returns to itself.
 fn resolved(
     s: &[u8],
     t: &[u32],
-    names: usize,
     rounds: usize,
     u: &[u16],
     rank: &[u16],
@@ -46,12 +44,12 @@ fn resolved(
     l: &mut [u8],
 ) -> Built
     requires { ⌜ Found (now s) (now t) (now u) (now rank) (now keep) ⌝ }
-    requires { ⌜ (names ≡ count-of name-line (lines-in (now t))) × (rounds ≡ run 100 (program (lines-in (now t))) .rounds) ⌝ }
+    requires { ⌜ rounds ≡ run 100 (program (lines-in (now t))) .rounds ⌝ }
     ensures { λ r. ⌜ Gives (now (s .entry)) (now (v .entry)) (now (l .entry)) r (now (v .exit)) (now (l .exit)) ⌝ }
 {
     let r = rows9::rows9_10(t, u, keep);
     match r {
-        Refusal::Accepted => written(s, t, names, rounds, u, rank, keep, v, l),
+        Refusal::Accepted => written(s, t, rounds, u, rank, keep, v, l),
         Refusal::Refused { code, place } => built::refused(code, place),
     }
 }
@@ -60,7 +58,6 @@ fn resolved(
 pub fn decided(
     s: &[u8],
     t: &[u32],
-    names: usize,
     keep: &mut [u8],
     u: &mut [u16],
     rank: &mut [u16],
@@ -69,7 +66,6 @@ pub fn decided(
 ) -> Built
     requires { ⌜ Read (now s) (now t) × (count-of field-line (lines-in (now t)) ≤ length (now keep)) ⌝ }
     requires { ⌜ (length (now u) ≡ 2 * decls-of (lines-in (now t))) × (length (now rank) ≡ decls-of (lines-in (now t))) ⌝ }
-    requires { ⌜ names ≡ count-of name-line (lines-in (now t)) ⌝ }
     ensures { λ r. ⌜ Gives (now (s .entry)) (now (v .entry)) (now (l .entry)) r (now (v .exit)) (now (l .exit)) ⌝ }
 {
     let p = passes::passes(t, keep, u, rank);
@@ -77,5 +73,5 @@ pub fn decided(
     if returning < tables::decls(t) {
         return built::refused(8, tables::line_of(t, returning));
     }
-    resolved(s, t, names, p.rounds, u, rank, keep, v, l)
+    resolved(s, t, p.rounds, u, rank, keep, v, l)
 }

@@ -31,7 +31,7 @@ fn told(answer: usize, decl: usize) -> Outcome
 }
 
 // With these arrays.
-fn tried(t: &[u32], u: &[u16], keep: &[u8], out: &mut [u16], slots: &mut [u16]) -> Outcome
+pub fn tried(t: &[u32], u: &[u16], keep: &[u8], out: &mut [u16], slots: &mut [u16]) -> Outcome
     requires { ⌜ attempts.Asked (lines-in (now t)) (now t) (now u) (now keep) ⌝ }
     requires { ⌜ Slots (resolver.call-of (lines-in (now t)) (now u)) (now slots) ⌝ }
     ensures { λ r. ⌜ attempts.Comes (lines-in (now (t .entry))) (length (now (out .entry))) r ⌝ }
@@ -49,16 +49,6 @@ fn remembering(t: &[u32], u: &[u16], keep: &[u8], out: &mut [u16]) -> Outcome
 {
     let mut slots = [0u16; 22528];
     tried(t, u, keep, out, &mut slots)
-}
-
-// 512 outcomes and 64 slots.
-pub fn small(t: &[u32], u: &[u16], keep: &[u8]) -> Outcome
-    requires { ⌜ attempts.Asked (lines-in (now t)) (now t) (now u) (now keep) ⌝ }
-    ensures { λ r. ⌜ attempts.Comes (lines-in (now (t .entry))) 512 r ⌝ }
-{
-    let mut out = [0u16; 512];
-    let mut slots = [0u16; 704];
-    tried(t, u, keep, &mut out, &mut slots)
 }
 
 // 768 outcomes and 1,024 slots: where more declarations are unfolded, few slots would be slow.

@@ -12,6 +12,9 @@ ghost use Rattle.tables.specs.Tables as tables;
 ghost use Rattle.head_rows.specs.HeadRows as head_rows;
 ghost use Rattle.rows9.specs.Attempts as attempts;
 
+// Few slots serve where so few declarations are unfolded.
+const FEW: usize = 4;
+
 // 1 for the state of an unfolded declaration.
 fn unfolds(state: u16) -> usize
     ensures { λ r. ⌜ r ≤ 1 ⌝ }
@@ -38,15 +41,11 @@ fn unfolded(u: &[u16]) -> usize {
     found
 }
 
-// The first attempt.
-fn attempt(t: &[u32], u: &[u16], keep: &[u8]) -> Outcome
+// Where more declarations are unfolded, and few slots would be slow.
+fn many(t: &[u32], u: &[u16], keep: &[u8], n: usize) -> Outcome
     requires { ⌜ attempts.Asked (tables.lines-in (now t)) (now t) (now u) (now keep) ⌝ }
-    ensures { λ r. ⌜ attempts.Comes (tables.lines-in (now (t .entry))) 512 r ⌝ }
+    ensures { λ r. ⌜ attempts.Comes (tables.lines-in (now (t .entry))) 768 r ⌝ }
 {
-    let n = unfolded(u);
-    if n <= 4 {
-        return attempts::small(t, u, keep);
-    }
     if n <= 16 {
         return attempts::middle(t, u, keep);
     }
@@ -56,13 +55,44 @@ fn attempt(t: &[u32], u: &[u16], keep: &[u8]) -> Outcome
 // Comes back with the large arrays where those of the first attempt were full.
 fn completed(t: &[u32], u: &[u16], keep: &[u8], r: Outcome) -> Outcome
     requires { ⌜ attempts.Asked (tables.lines-in (now t)) (now t) (now u) (now keep) ⌝ }
-    requires { ⌜ attempts.Comes (tables.lines-in (now t)) 512 r ⌝ }
+    requires { ⌜ attempts.Comes (tables.lines-in (now t)) 768 r ⌝ }
     ensures { λ r. ⌜ attempts.Comes (tables.lines-in (now (t .entry))) 99328 r ⌝ }
 {
     match r {
         Outcome::Clear => Outcome::Clear,
         Outcome::Fault { code, decl } => Outcome::Fault { code, decl },
         Outcome::NoRoom => attempts::large(t, u, keep),
+    }
+}
+
+// Every array but the smallest, where n declarations are unfolded.
+fn behind(t: &[u32], u: &[u16], keep: &[u8], n: usize) -> Outcome
+    requires { ⌜ attempts.Asked (tables.lines-in (now t)) (now t) (now u) (now keep) ⌝ }
+    ensures { λ r. ⌜ attempts.Comes (tables.lines-in (now (t .entry))) 99328 r ⌝ }
+{
+    if n <= FEW {
+        return attempts::large(t, u, keep);
+    }
+    let first = many(t, u, keep, n);
+    completed(t, u, keep, first)
+}
+
+// 512 outcomes and 64 slots in attempt 0, the others in attempt 1. It calls itself for those: the compiler keeps large arrays out of
+// the frame of a function that does, and so out of the frame that every sheet pays for.
+fn attempt(t: &[u32], u: &[u16], keep: &[u8], n: usize, number: usize) -> Outcome
+    requires { ⌜ attempts.Asked (tables.lines-in (now t)) (now t) (now u) (now keep) ⌝ }
+    ensures { λ r. ⌜ attempts.Comes (tables.lines-in (now (t .entry))) 99328 r ⌝ }
+{
+    if number > 0 {
+        return behind(t, u, keep, n);
+    }
+    let mut out = [0u16; 512];
+    let mut slots = [0u16; 704];
+    let first = attempts::tried(t, u, keep, &mut out, &mut slots);
+    match first {
+        Outcome::Clear => Outcome::Clear,
+        Outcome::Fault { code, decl } => Outcome::Fault { code, decl },
+        Outcome::NoRoom => attempt(t, u, keep, n, 1),
     }
 }
 
@@ -87,7 +117,7 @@ pub fn rows9_10(t: &[u32], u: &[u16], keep: &[u8]) -> Refusal
     requires { ⌜ attempts.Asked (tables.lines-in (now t)) (now t) (now u) (now keep) ⌝ }
     ensures { λ r. ⌜ r ≡ answer.refusal (head_rows.faults-row base (tables.lines-in (now (t .entry))) ∷ []) ⌝ }
 {
-    let first = attempt(t, u, keep);
-    let last = completed(t, u, keep, first);
-    refused(t, last)
+    let n = unfolded(u);
+    let number = if n <= FEW { 0 } else { 1 };
+    refused(t, attempt(t, u, keep, n, number))
 }

@@ -47,11 +47,10 @@ fn write(
     left_sheet::put_left(s, t, u, f, keep, left, scratch, stack, l, args, types);
 }
 
-// Counts the left sheet's lines, of which `names` are N lines; then row 12, and both sheets.
+// Counts the left sheet's lines; then row 12, and both sheets.
 fn measured(
     s: &[u8],
     t: &[u32],
-    names: usize,
     rounds: usize,
     u: &[u16],
     f: &[u64],
@@ -63,9 +62,10 @@ fn measured(
     l: &mut [u8],
 ) -> Tried
     requires { ⌜ Known (now s) (now t) (now u) (now f) (now keep) (now v) (length (now scratch)) (length (now stack)) ⌝ }
-    requires { ⌜ Flagged (lines-in (now t)) (now left) × (names ≡ count-of name-line (lines-in (now t))) × (rounds ≡ run 100 (program (lines-in (now t))) .rounds) ⌝ }
+    requires { ⌜ Flagged (lines-in (now t)) (now left) × (rounds ≡ run 100 (program (lines-in (now t))) .rounds) ⌝ }
     ensures { λ r. ⌜ Tries (length (now (scratch .entry)) < 1024) (now (s .entry)) (now (v .entry)) (now (l .entry)) r (now (v .exit)) (now (l .exit)) ⌝ }
 {
+    let names = tables::names(t);
     let c = left_count::count(t, u, f, keep, left, scratch);
     let args = c.args;
     let types = c.types;
@@ -92,7 +92,6 @@ fn measured(
 fn formed(
     s: &[u8],
     t: &[u32],
-    names: usize,
     rounds: usize,
     u: &[u16],
     f: &[u64],
@@ -103,12 +102,12 @@ fn formed(
     l: &mut [u8],
 ) -> Tried
     requires { ⌜ Known (now s) (now t) (now u) (now f) (now keep) (now v) (length (now scratch)) (length (now stack)) ⌝ }
-    requires { ⌜ (names ≡ count-of name-line (lines-in (now t))) × (rounds ≡ run 100 (program (lines-in (now t))) .rounds) ⌝ }
+    requires { ⌜ rounds ≡ run 100 (program (lines-in (now t))) .rounds ⌝ }
     ensures { λ r. ⌜ Tries (length (now (scratch .entry)) < 1024) (now (s .entry)) (now (v .entry)) (now (l .entry)) r (now (v .exit)) (now (l .exit)) ⌝ }
 {
     let mut left = [0u8; 96];
     left_flags::flags(t, u, f, keep, &mut left);
-    measured(s, t, names, rounds, u, f, keep, &left, scratch, stack, v, l)
+    measured(s, t, rounds, u, f, keep, &left, scratch, stack, v, l)
 }
 
 // Row 12 and both sheets, in memory that is lent: the list of normal forms, and room for one type. Where it is too short, nothing
@@ -116,7 +115,6 @@ fn formed(
 pub fn sheets(
     s: &[u8],
     t: &[u32],
-    names: usize,
     rounds: usize,
     u: &[u16],
     rank: &[u16],
@@ -128,12 +126,12 @@ pub fn sheets(
     l: &mut [u8],
 ) -> Tried
     requires { ⌜ Lent (now s) (now t) (now u) (now rank) (now keep) (now v) (length (now f)) (length (now scratch)) (length (now stack)) ⌝ }
-    requires { ⌜ (names ≡ count-of name-line (lines-in (now t))) × (rounds ≡ run 100 (program (lines-in (now t))) .rounds) ⌝ }
+    requires { ⌜ rounds ≡ run 100 (program (lines-in (now t))) .rounds ⌝ }
     ensures { λ r. ⌜ Tries ((length (now (f .entry)) < 1026 * decls-of (lines-in (now (t .entry)))) ⊎ (length (now (scratch .entry)) < 1024)) (now (s .entry)) (now (v .entry)) (now (l .entry)) r (now (v .exit)) (now (l .exit)) ⌝ }
 {
     let e = form_tables::normal_forms(t, u, rank, f, scratch);
     if e > f.len() {
         return none();
     }
-    formed(s, t, names, rounds, u, f, keep, scratch, stack, v, l)
+    formed(s, t, rounds, u, f, keep, scratch, stack, v, l)
 }

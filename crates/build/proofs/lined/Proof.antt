@@ -1,6 +1,6 @@
 -- `build::lined` meets its contract, by the table. Assumes nothing.
 use borrow.Author.Needs.{needs}
-use Rattle.build.specs.BuildLaws.{read-of, names-of}
+use Rattle.build.specs.BuildLaws.{read-of}
 use Rattle.build.proofs.lined.Statement.{statement}
 use Rattle.build.proofs.lined.Tie as tie
 
@@ -8,7 +8,7 @@ tabled-requires : tie.Need-tabled-requires
 tabled-requires c κs =
     let a = c .before .before .before .before .before .before .before .before .before .before .before in
     let f = c .before .before .before .before .before .fill .ensures in
-    (read-of (a .args .s .now) (a .args .t .now) (a .args .z) _ (a .pre) (f .0) (f .1), names-of (a .args .s .now) (a .args .t .now) (a .args .z) _ (a .pre) (f .1))
+    read-of (a .args .s .now) (a .args .t .now) (a .args .z) _ (a .pre) (f .0) (f .1)
 
 pub lined-spec : {M : Type 1} → statement M
 lined-spec =

@@ -19,7 +19,7 @@ resolved-requires c κs =
     let e = c .before .before .before .before .before .before .decls .ensures in
     let h = c .before .before .before .before .before .if1 .left in
     let ran = c .before .before .before .before .before .before .before .before .before .before .before .before .before .passes .ensures in
-    (found-of _ _ _ _ _ _ _ (p .0 .0) ran (p .1 .0 .1) (omega (arith, e, h)), (p .1 .1, rounds-of _ _ _ _ _ _ _ (p .0 .0) ran))
+    (found-of _ _ _ _ _ _ _ (p .0 .0) ran (p .1 .1) (omega (arith, e, h)), rounds-of _ _ _ _ _ _ _ (p .0 .0) ran)
 
 pub decided-spec : {M : Type 1} → statement M
 decided-spec =
