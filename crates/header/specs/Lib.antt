@@ -1,2 +1,3 @@
 pub mod Header
+pub mod LettersLaws
 pub mod OrderLaws

@@ -45,7 +45,7 @@ least (Header place) = min place 3
 least (Within p f c) = 3
 least Broken = 3
 
-broken-stays : (ls : List Line) → is-broken (due-after Broken ls) ≡ true
+pub broken-stays : (ls : List Line) → is-broken (due-after Broken ls) ≡ true
 unfolding due-after due
 broken-stays [] = refl
 broken-stays (l ∷ ls) = broken-stays ls
@@ -130,16 +130,20 @@ unfolding raws lines raw
 letters-raws w b good = letters-table w b (raw w b) 0 (count w b) (λ k l. let e : 0 + k ≡ k = omega arith in rw e (letter-good w b good k l))
 
 -- a list of lines that row 3 passed
-ordered-row3 : (ls : List Line) (n : ℕ) → length ls ≡ n → first (row3 ls) (suc n) ≡ suc n → Ordered 0 (map letter ls)
-unfolding row3 least
-ordered-row3 [] n l h = tt
-ordered-row3 (x ∷ ls) zero l h = absurd (omega arith)
-ordered-row3 (x ∷ ls) (suc n) l h =
+pub unbroken : (ls : List Line) (n : ℕ) → length ls ≡ n → first (row3 ls) (suc n) ≡ suc n → is-broken (due-after (Header 0) ls) ≡ false
+unfolding row3 due-after
+unbroken [] n l h = refl
+unbroken (x ∷ ls) zero l h = absurd (omega arith)
+unbroken (x ∷ ls) (suc n) l h =
     let e = none-first (row3 (x ∷ ls)) (suc (suc n)) h n (omega arith) in
     let a : ltb n (length (x ∷ ls)) ≡ true = lt-ltb n (length (x ∷ ls)) (omega arith) in
     let t : take (suc n) (x ∷ ls) ≡ x ∷ ls = take-all (suc n) (x ∷ ls) (omega arith) in
     let d : is-broken (due-after (Header 0) (take (suc n) (x ∷ ls))) ≡ false = rw (a, row3) at e in
-    ordered-due (Header 0) (x ∷ ls) (rw t at d)
+    rw t at d
+
+ordered-row3 : (ls : List Line) (n : ℕ) → length ls ≡ n → first (row3 ls) (suc n) ≡ suc n → Ordered 0 (map letter ls)
+unfolding least
+ordered-row3 ls n l h = ordered-due (Header 0) ls (unbroken ls n l h)
 
 pub ordered-of : (ls : List Line) → first (row3 ls) (suc (length ls)) ≡ suc (length ls) → Ordered 0 (map letter ls)
 ordered-of ls h = ordered-row3 ls (length ls) refl h
