@@ -3,10 +3,12 @@ ghost use mathlib.Core.Path.{_≡_};
 ghost use mathlib.Core.Bool.{_&&_};
 ghost use Prim.Native.Nat.{_+_, _/_, _≤_, _<_};
 ghost use lib.ListN.{length};
+ghost use Rattle.columns.specs.Column.{pick};
+ghost use Rattle.sheet.specs.Line.{letter};
 ghost use Rattle.cells.specs.Cells.{lines-of};
 ghost use Rattle.meaning.specs.Rows as rows;
 ghost use Rattle.header.specs.Header.{Counted};
-ghost use Rattle.ranges.specs.DeclLines.{good-last};
+ghost use Rattle.ranges.specs.DeclLines.{good-last, good-member};
 
 // The flags' sum is at most this.
 const FLAGS: usize = 31;
@@ -15,6 +17,12 @@ fn both(a: bool, b: bool) -> bool
     ensures { λ r. ⌜ r ≡ (a && b) ⌝ }
 {
     if a { b } else { false }
+}
+
+fn picked(b: bool, x: usize, y: usize) -> usize
+    ensures { λ r. ⌜ r ≡ pick b x y ⌝ }
+{
+    if b { x } else { y }
 }
 
 // The last number of a D or I line, by its body kind.
@@ -43,6 +51,40 @@ fn good_head(t: &[u32], i: usize, names: usize, types: usize) -> bool
     )
 }
 
+// A C or F line. What is tested is picked by the letter, and not jumped to: which of the two comes next cannot be foreseen.
+fn good_member(t: &[u32], i: usize, field: bool, names: usize, types: usize) -> bool
+    requires { ⌜ i < length (now t) / 6 ⌝ }
+    ensures { λ r. ⌜ r ≡ good-member field names types (rows.line-at (lines-of (now (t .entry))) i) ⌝ }
+{
+    let name = cells::number(t, i, 0) as usize;
+    let second = cells::number(t, i, 1) as usize;
+    let third = cells::number(t, i, 2) as usize;
+    let tested = picked(field, second, third);
+    let end = picked(field, types, 1);
+    if tested >= end {
+        return false;
+    }
+    let unused = both(cells::number(t, i, 3) == 0, cells::number(t, i, 4) == 0);
+    both(name < names, unused)
+}
+
+// A line whose letter is after F, of a declaration.
+fn good_later(t: &[u32], i: usize, names: usize, args: usize, types: usize) -> bool
+    requires { ⌜ Counted (lines-of (now t)) names args types ⌝ }
+    requires { ⌜ (names + args + types ≤ i) × (i < length (now t) / 6) × (70 < letter (rows.line-at (lines-of (now t)) i)) ⌝ }
+    ensures { λ r. ⌜ r ≡ rows.good-numbers (lines-of (now (t .entry))) i ⌝ }
+{
+    let letter = cells::letter(t, i);
+    match letter {
+        73 => good_head(t, i, names, types),
+        80 => both(
+            (cells::number(t, i, 0) as usize) < names,
+            unused::zeros_from(t, i, 1),
+        ),
+        _ => unused::zeros_from(t, i, 3),
+    }
+}
+
 // Line i, of a declaration, is as it should be, by its letter.
 pub fn good_part(t: &[u32], i: usize, names: usize, args: usize, types: usize) -> bool
     requires { ⌜ Counted (lines-of (now t)) names args types ⌝ }
@@ -50,15 +92,11 @@ pub fn good_part(t: &[u32], i: usize, names: usize, args: usize, types: usize) -
     ensures { λ r. ⌜ r ≡ rows.good-numbers (lines-of (now (t .entry))) i ⌝ }
 {
     let letter = cells::letter(t, i);
-    let a = cells::number(t, i, 0) as usize;
-    match letter {
-        68 | 73 => good_head(t, i, names, types),
-        80 => both(a < names, unused::zeros_from(t, i, 1)),
-        67 => both(a < names, unused::zeros_from(t, i, 2)),
-        70 => both(
-            both(a < names, (cells::number(t, i, 1) as usize) < types),
-            unused::zeros_from(t, i, 3),
-        ),
-        _ => unused::zeros_from(t, i, 3),
+    if letter > 70 {
+        return good_later(t, i, names, args, types);
     }
+    if letter == 68 {
+        return good_head(t, i, names, types);
+    }
+    good_member(t, i, letter == 70, names, types)
 }
