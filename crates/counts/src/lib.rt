@@ -1,15 +1,19 @@
-// Row 4, and what the lines of a sheet declare, in one walk over their cells. The counts of the runs at
-// its front are known, so that only the lines after them are looked at one by one.
+// Row 4, and what the lines of a sheet declare. The counts of the runs at its front are known, so that only the lines after
+// them are looked at one by one. A first walk only counts, and hardly jumps; where some line may be past a limit a second one finds it.
 use cells::CELLS;
 use limits::ARGS;
+use limits::CTORS;
 use limits::Counts;
+use limits::FIELDS;
 use limits::NAMES;
 use limits::TYPES;
 use limits::Tally;
 use runs::Runs;
 ghost use mathlib.Core.Path.{_≡_};
-ghost use Prim.Native.Nat.{_≤_};
+ghost use mathlib.Core.Bool.{true, _&&_};
+ghost use Prim.Native.Nat.{_+_, _≤_, _<_};
 ghost use lib.ListN.{length};
+ghost use Rattle.columns.specs.Column.{pick};
 ghost use Rattle.cells.specs.Cells.{lines-of};
 ghost use Rattle.sheet.specs.Format.{base};
 ghost use Rattle.sheet.specs.Sheet as sheet;
@@ -17,6 +21,8 @@ ghost use Rattle.runs.specs.RunsLaws.{Spans};
 ghost use Rattle.meaning.specs.Rows as rows;
 ghost use Rattle.limits.specs.Limits as limits;
 ghost use Rattle.counts.specs.Walk as walk;
+ghost use Rattle.counts.specs.WalkLaws.{Begins};
+ghost use Rattle.counts.specs.Quickly as quickly;
 
 // The first line past a limit, or the count of lines; and then what the lines declare.
 pub struct Walked {
@@ -80,14 +86,129 @@ fn declared(t: Tally) -> Counts
     }
 }
 
-// Row 4 and the counts, by the runs at the front.
-pub fn walk(t: &[u32], r: Runs) -> Walked
-    requires { ⌜ Spans (lines-of (now t)) r ⌝ }
+// The counts after some lines, of which so many count as C or F lines; and whether the others are known and within their limits.
+pub struct Quick {
+    pub known: bool,
+    pub members: usize,
+    pub tally: Tally,
+}
+
+fn one(b: bool) -> usize
+    ensures { λ r. ⌜ r ≡ pick b 1 0 ⌝ }
+{
+    if b { 1 } else { 0 }
+}
+
+fn both(a: bool, b: bool) -> bool
+    ensures { λ r. ⌜ r ≡ (a && b) ⌝ }
+{
+    if a { b } else { false }
+}
+
+// After a D, I or P line.
+fn exact(q: Quick, letter: u32) -> Quick
+    requires { ⌜ quickly.sum (q .tally) < 1152921504606846976 ⌝ }
+    ensures { λ r. ⌜ r ≡ quickly.exact q letter ⌝ }
+{
+    let before = q.tally;
+    let known = both(q.known, !limits::past(before, letter));
+    let tally = limits::counted(before, letter);
+    Quick {
+        known,
+        members: q.members,
+        tally,
+    }
+}
+
+// After a line that counts as a C or F line: both counts are made, since which of the two comes next cannot be foreseen.
+fn member(q: Quick, letter: u32) -> Quick
+    requires { ⌜ (quickly.sum (q .tally) < 1152921504606846976) × (q .members < 1152921504606846976) ⌝ }
+    ensures { λ r. ⌜ r ≡ quickly.member q letter ⌝ }
+{
+    let mut tally = q.tally;
+    tally.ctors += one(letter == 67);
+    tally.fields += one(letter == 70);
+    Quick {
+        known: q.known,
+        members: q.members + 1,
+        tally,
+    }
+}
+
+// After a line of this letter.
+fn stepped(q: Quick, letter: u32) -> Quick
+    requires { ⌜ (quickly.sum (q .tally) < 1152921504606846976) × (q .members < 1152921504606846976) ⌝ }
+    ensures { λ r. ⌜ r ≡ quickly.stepped q letter ⌝ }
+{
+    if letter > 70 {
+        if letter == 86 {
+            return q;
+        }
+        if letter == 80 {
+            return exact(q, 80);
+        }
+        if letter == 73 {
+            return exact(q, 73);
+        }
+        let tally = q.tally;
+        return Quick {
+            known: false,
+            members: q.members,
+            tally,
+        };
+    }
+    if letter == 68 {
+        return exact(q, 68);
+    }
+    member(q, letter)
+}
+
+// After the last line.
+fn quickly(t: &[u32], front: Runs) -> Quick
+    requires { ⌜ Begins base (lines-of (now t)) front ⌝ }
+    ensures { λ q. ⌜ quickly.Right (lines-of (now (t .entry))) (length (lines-of (now (t .entry)))) q ⌝ }
+{
+    let n = t.len() / CELLS;
+    let tally = headed(front);
+    let mut q = Quick {
+        known: true,
+        members: 0,
+        tally,
+    };
+    let mut i = front.types;
+    while i < n {
+        q = stepped(q, cells::letter(t, i));
+        i += 1;
+    }
+    q
+}
+
+// All lines are known, and within their limits.
+fn whole(q: Quick) -> bool
+    requires { ⌜ quickly.sum (q .tally) < 1152921504606846976 ⌝ }
+    ensures { λ r. ⌜ (r ≡ true → quickly.Whole q) ⌝ }
+{
+    let ctors = q.tally.ctors;
+    let fields = q.tally.fields;
+    if !q.known {
+        return false;
+    }
+    if q.members != ctors + fields {
+        return false;
+    }
+    if ctors > CTORS {
+        return false;
+    }
+    fields <= FIELDS
+}
+
+// The walk that finds the line.
+fn searched(t: &[u32], front: Runs) -> Walked
+    requires { ⌜ Begins base (lines-of (now t)) front ⌝ }
     ensures { λ w. ⌜ w .past ≡ sheet.first (rows.row4 base (lines-of (now (t .entry)))) (length (lines-of (now (t .entry)))) ⌝ }
     ensures { λ w. ⌜ (w .past ≡ length (lines-of (now (t .entry))) → w .counts ≡ limits.counts-of (lines-of (now (t .entry)))) ⌝ }
 {
     let n = t.len() / CELLS;
-    let front = kept(r);
     let mut tally = headed(front);
     let mut i = front.types;
     while i < n {
@@ -101,4 +222,21 @@ pub fn walk(t: &[u32], r: Runs) -> Walked
     }
     let counts = declared(tally);
     Walked { past: n, counts }
+}
+
+// Row 4 and the counts, by the runs at the front.
+pub fn walk(t: &[u32], r: Runs) -> Walked
+    requires { ⌜ Spans (lines-of (now t)) r ⌝ }
+    ensures { λ w. ⌜ w .past ≡ sheet.first (rows.row4 base (lines-of (now (t .entry)))) (length (lines-of (now (t .entry)))) ⌝ }
+    ensures { λ w. ⌜ (w .past ≡ length (lines-of (now (t .entry))) → w .counts ≡ limits.counts-of (lines-of (now (t .entry)))) ⌝ }
+{
+    let front = kept(r);
+    let q = quickly(t, front);
+    if whole(q) {
+        let tally = q.tally;
+        let past = t.len() / CELLS;
+        let counts = declared(tally);
+        return Walked { past, counts };
+    }
+    searched(t, front)
 }

@@ -12,9 +12,9 @@ pub const TYPES: usize = 1024;
 
 const DECLS: usize = 96;
 
-const CTORS: usize = 256;
+pub const CTORS: usize = 256;
 
-const FIELDS: usize = 512;
+pub const FIELDS: usize = 512;
 
 const PARAMS: usize = 8;
 

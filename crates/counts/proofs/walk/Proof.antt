@@ -1,102 +1,45 @@
--- `counts::walk` meets its contract: the counts are those of the lines passed, and none of these is past a limit. Assumes nothing.
-use mathlib.Core.Path.{_≡_, sym, _∙_}
-use Prim.Native.Nat.{_-_, _≤_}
+-- `counts::walk` meets its contract: the walk that only counts says so where it knows all, and else the other does. Assumes nothing.
+use mathlib.Core.Path.{_≡_, refl, sym, _∙_}
 use native.Mathlib.Omega.{arith}
-use native.Mathlib.Numerals.{add-one}
 use lib.ListN.{length}
-use borrow.Author.Needs.{needs}
 use Rattle.sheet.specs.Format.{base}
-use Rattle.sheet.specs.FirstLaws.{first-more, first-found}
 use Rattle.cells.specs.Cells.{lines-of}
 use Rattle.cells.specs.CellsLaws.{length-lines-of}
-use Rattle.meaning.specs.Rows.{row4}
-use Rattle.limits.specs.LimitsLaws.{tally-next, row4-next, small-next}
-use Rattle.counts.specs.WalkLaws.{Counted, Begins, begins, declared-all}
+use Rattle.counts.specs.WalkLaws.{Begins, begins, declared-all}
+use borrow.Author.Needs.{needs}
 use Rattle.counts.proofs.walk.Statement.{statement}
 use Rattle.counts.proofs.walk.Tie as tie
 
-abbrev Inv-loop : tie.InvT-loop
-Inv-loop t n tally₀ i₀ tally i = (i ≤ n) × Counted base (lines-of t) i tally
-
-abbrev μ-loop : tie.MeasureT-loop
-μ-loop t n tally₀ i₀ tally i = n - i
-
--- ---- where it begins
-kept-requires : tie.Need-kept-requires Inv-loop μ-loop
-kept-requires c κs = let p = c .before .pre in (p .to-args, p .to-types)
-
-started : (c : tie.After-kept Inv-loop μ-loop) → Begins base (lines-of (c .before .before .args .t .now)) (c .kept .result)
+-- where both begin
+started : (c : tie.After-kept) → Begins base (lines-of (c .before .before .args .t .now)) (c .kept .result)
 started c =
     let a = c .before .before in
     rw (c .kept .ensures) (begins base (lines-of (a .args .t .now)) (a .args .r) (a .pre))
 
-headed-requires : tie.Need-headed-requires Inv-loop μ-loop
-headed-requires c κs = let g = started c in (g .to-args, g .to-types)
+quickly-requires : tie.Need-quickly-requires
+quickly-requires c κs = started c
 
-loop-holds : tie.Need-loop-holds Inv-loop μ-loop
-loop-holds c =
-    let g = started (c .before) in
-    (omega (arith, g .to-end, length-lines-of (c .before .before .before .args .t .now)), rw (c .headed .ensures) (g .counts))
+whole-requires : tie.Need-whole-requires
+whole-requires c κs = omega (arith, c .quickly .ensures .total, length-lines-of (c .before .before .before .args .t .now))
 
--- ---- at line i
--- row 4 applies at line i exactly if the line is past its limit
-test : (c : tie.After-past Inv-loop μ-loop) → row4 base (lines-of (c .before .before .before .before .before .before .before .args .t .now)) (c .before .before .before .loop .i) ≡ c .past .result
-test c =
-    let l = c .before .before .before .loop in
-    let r = c .before .letter in
-    row4-next (lines-of (c .before .before .before .before .before .before .before .args .t .now)) (l .tally) (r .result) (l .i) (r .ensures) (l .inv .1 .tally) base ∙ sym (c .past .ensures)
-
-returns : tie.Need-returns Inv-loop μ-loop
+returns : tie.Need-returns
 returns c =
-    let t = c .before .before .before .before .before .before .before .before .before .args .t .now in
-    let l = c .before .before .before .before .before .loop in
-    let m = length-lines-of t in
-    (sym (first-found (row4 base (lines-of t)) (length (lines-of t)) (l .i) (omega (arith, m)) (l .inv .1 .none) (test (c .before .before) ∙ c .before .if1 .taken)), λ e. absurd (omega (arith, m)))
+    let q = c .before .before .before .before in
+    let t = q .before .before .before .args .t .now in
+    let g = q .quickly .ensures .right (c .before .before .before .whole .ensures (c .before .before .if1 .taken)) in
+    (sym (g .none ∙ length-lines-of t), λ e. c .declared .ensures ∙ declared-all (lines-of t) (length (lines-of t)) (q .quickly .result .tally) refl (g .tally))
 
-counted-requires : tie.Need-counted-requires Inv-loop μ-loop
-counted-requires c κs =
-    let t = c .before .before .before .before .before .before .before .before .args .t .now in
-    let l = c .before .before .before .before .loop in
-    let r = c .before .before .letter in
-    small-next (lines-of t) (l .tally) (r .result) (l .i) (r .ensures) (l .inv .1 .tally) (omega (arith, length-lines-of t)) (omega arith)
-
-loop-again : tie.Need-loop-again Inv-loop μ-loop
-loop-again c =
-    let t = c .before .before .before .before .before .before .before .before .before .args .t .now in
-    let l = c .before .before .before .before .before .loop in
-    let r = c .before .before .before .letter in (
-      omega arith,
-      rw add-one
-          (record {
-            tally = c .counted .ensures ∙ tally-next (lines-of t) (l .tally) (r .result) (l .i) (r .ensures) (l .inv .1 .tally) (omega (arith, length-lines-of t));
-            none = rw add-one at (first-more (row4 base (lines-of t)) (l .i) (l .inv .1 .none) (test (c .before .before) ∙ c .before .if1 .left));
-          }),
-    )
-
--- ---- after the last line
-returns-2 : tie.Need-returns-2 Inv-loop μ-loop
-returns-2 c =
-    let t = c .before .before .before .before .before .before .args .t .now in
-    let l = c .before .before .loop in
-    let e : l .i ≡ length (lines-of t) = omega (arith, length-lines-of t) in
-    (omega (arith, length-lines-of t, (rw e at (l .inv .1 .none))), λ h. c .declared2 .ensures ∙ declared-all (lines-of t) (l .i) (l .tally) e (l .inv .1 .tally))
+searched-requires : tie.Need-searched-requires
+searched-requires c κs = started (c .before .before .before)
 
 pub walk-spec : {M : Type 1} → statement M
 walk-spec =
     tie.close
     (tie.spec
-    Inv-loop
-    μ-loop
-    kept-requires
-    headed-requires
-    loop-holds
     (λ c κs. search needs)
-    (λ c κs. search needs)
+    quickly-requires
+    whole-requires
     (λ c κs. search needs)
     returns
-    counted-requires
-    (λ c. search needs)
-    (λ c. search needs)
-    loop-again
-    (λ c κs. search needs)
-    returns-2)
+    searched-requires
+    (λ c. search needs))
