@@ -1,6 +1,7 @@
 -- Row 7 for one line, by the first line of its declaration and the kept fields before it. Assumes nothing.
+use mathlib.Core.Path.{_≡_}
 use mathlib.Core.Bool.{Bool, true, _&&_, not}
-use Prim.Native.Nat.{ℕ, suc}
+use Prim.Native.Nat.{ℕ, suc, _≤_}
 use lib.Dec.{eqb, leb}
 use Rattle.columns.specs.Column.{pick, _⇒_∥_}
 use Rattle.sheet.specs.Line.{Line, number}
@@ -17,11 +18,19 @@ declared-verdict h kept v = pick (is import-line h) (good-verdict h kept v) (no-
 abbrev pub most-keep : Line → ℕ
 most-keep h = pick (is import-line h) 1 0
 
-abbrev pub good-line : Line → ℕ → Line → Bool
-good-line h kept l =
-    is field-line l ⇒ leb (number l 2) (most-keep h) ∥
+-- a line of a declaration whose largest keep number is `most`
+abbrev pub good-with : ℕ → Line → ℕ → Line → Bool
+good-with most h kept l =
+    is field-line l ⇒ leb (number l 2) most ∥
     is verdict-line l ⇒ declared-verdict h kept l ∥
     true
+
+abbrev pub good-line : Line → ℕ → Line → Bool
+good-line h kept l = good-with (most-keep h) h kept l
+
+-- the keep number of an F line is at most 1
+pub record Bit (l : Line) : Type 0 where
+  pub bit : is field-line l ≡ true → number l 2 ≤ 1
 
 -- the kept fields, one line more
 abbrev pub kept-at : ℕ → Line → ℕ
@@ -29,4 +38,4 @@ kept-at n l = pick (is-head l) 0 (pick (is field-line l && not (eqb (number l 2)
 
 -- the declaration that line i is in, one line more
 abbrev pub decl-at : Decl → ℕ → Line → Decl
-decl-at d i l = record { head = pick (is-head l) i (d .head); kept = kept-at (d .kept) l }
+decl-at d i l = record { head = pick (is-head l) i (d .head); most = pick (is-head l) (most-keep l) (d .most); kept = kept-at (d .kept) l }

@@ -5,17 +5,25 @@ use cells::CELLS;
 ghost use mathlib.Core.Path.{_≡_};
 ghost use Prim.Native.Nat.{_/_, _≤_, _<_};
 ghost use lib.ListN.{length};
+ghost use Rattle.columns.specs.Column.{pick};
 ghost use Rattle.cells.specs.Cells.{lines-of};
 ghost use Rattle.sheet.specs.Sheet as sheet;
 ghost use Rattle.meaning.specs.Rows as rows;
 ghost use Rattle.header.specs.Header.{Headed};
 ghost use Rattle.verdicts.specs.Verdicts as verdicts;
 
-// The declaration that a line is in: the line at which it begins, and how many of its fields up to
+// The declaration that a line is in: the line at which it begins, the largest keep number in it, and how many of its fields up to
 // that line are kept.
 pub struct Decl {
     pub head: usize,
+    pub most: u32,
     pub kept: usize,
+}
+
+fn picked(b: bool, x: u32, y: u32) -> u32
+    ensures { λ r. ⌜ r ≡ pick b x y ⌝ }
+{
+    if b { x } else { y }
 }
 
 // The V line i of the declaration that begins at line `head`, of whose fields so many are kept.
@@ -33,51 +41,56 @@ fn declared_verdict(t: &[u32], head: usize, kept: usize, i: usize) -> bool
     }
 }
 
-// The largest keep number in the declaration that begins at line `head`.
-fn most_keep(t: &[u32], head: usize) -> u32
-    ensures { λ r. ⌜ r ≡ verdicts.most-keep (rows.line-at (lines-of (now (t .entry))) head) ⌝ }
-{
-    if head >= t.len() / CELLS {
-        return 0;
-    }
-    let begins = cells::letter(t, head);
-    match begins {
-        73 => 1,
-        _ => 0,
-    }
-}
-
-// Line i of the declaration that begins at line `head`, of whose fields before it so many are kept.
-fn good_line(t: &[u32], head: usize, kept: usize, i: usize) -> bool
+// Line i, where the line before it is in d.
+fn good_line(t: &[u32], d: Decl, i: usize) -> bool
     requires { ⌜ i < length (now t) / 6 ⌝ }
-    ensures { λ r. ⌜ r ≡ verdicts.good-line (rows.line-at (lines-of (now (t .entry))) head) kept (rows.line-at (lines-of (now (t .entry))) i) ⌝ }
+    ensures { λ r. ⌜ r ≡ verdicts.good-with (d .most) (rows.line-at (lines-of (now (t .entry))) (d .head)) (d .kept) (rows.line-at (lines-of (now (t .entry))) i) ⌝ }
 {
     let letter = cells::letter(t, i);
-    match letter {
-        70 => cells::number(t, i, 2) <= most_keep(t, head),
-        86 => declared_verdict(t, head, kept, i),
-        _ => true,
+    if letter > 70 {
+        if letter == 86 {
+            return declared_verdict(t, d.head, d.kept, i);
+        }
+        return true;
     }
+    if letter == 68 {
+        return true;
+    }
+    if cells::number(t, i, 2) > d.most {
+        return letter != 70;
+    }
+    true
 }
 
-// The declaration that line i is in, where the line before it is in d.
+// The declaration that line i is in, where the line before it is in d, and line i is as it should be. The keep number of an F line
+// is then its count of kept fields.
 fn decl_at(t: &[u32], d: Decl, i: usize) -> Decl
-    requires { ⌜ (i < length (now t) / 6) × (d .kept ≤ i) ⌝ }
+    requires { ⌜ (i < length (now t) / 6) × (d .kept ≤ i) × verdicts.Bit (rows.line-at (lines-of (now t)) i) ⌝ }
     ensures { λ r. ⌜ r ≡ verdicts.decl-at d i (rows.line-at (lines-of (now (t .entry))) i) ⌝ }
 {
     let letter = cells::letter(t, i);
-    match letter {
-        68 | 73 => Decl { head: i, kept: 0 },
-        70 => {
-            if cells::number(t, i, 2) == 0 {
-                return d;
-            }
-            Decl {
-                head: d.head,
-                kept: d.kept + 1,
-            }
+    if letter > 70 {
+        if letter == 73 {
+            return Decl {
+                head: i,
+                most: 1,
+                kept: 0,
+            };
         }
-        _ => d,
+        return d;
+    }
+    if letter == 68 {
+        return Decl {
+            head: i,
+            most: 0,
+            kept: 0,
+        };
+    }
+    let more = picked(letter == 70, cells::number(t, i, 2), 0);
+    Decl {
+        head: d.head,
+        most: d.most,
+        kept: d.kept + more as usize,
     }
 }
 
@@ -87,13 +100,17 @@ pub fn row7(t: &[u32], from: usize) -> usize
     ensures { λ r. ⌜ r ≡ sheet.first (rows.row7 (lines-of (now (t .entry)))) (length (lines-of (now (t .entry)))) ⌝ }
 {
     let n = t.len() / CELLS;
-    let mut d = Decl { head: n, kept: 0 };
+    let mut d = Decl {
+        head: n,
+        most: 0,
+        kept: 0,
+    };
     let mut i = from;
     while i < n {
-        d = decl_at(t, d, i);
-        if !good_line(t, d.head, d.kept, i) {
+        if !good_line(t, d, i) {
             return i;
         }
+        d = decl_at(t, d, i);
         i += 1;
     }
     n

@@ -1,7 +1,7 @@
 -- `verdicts::row7` meets its contract: every line passed is as it should be, and `d` is the declaration of the last of them.
 -- Assumes nothing.
 use mathlib.Core.Path.{_≡_, refl, sym, ap, _∙_}
-use mathlib.Core.Bool.{true, false, not}
+use mathlib.Core.Bool.{Bool, true, false, not}
 use Prim.Native.Nat.{_≤_, _-_, _<_}
 use native.Mathlib.Omega.{arith}
 use lib.ListN.{length}
@@ -12,7 +12,7 @@ use Rattle.cells.specs.CellsLaws.{length-lines-of}
 use Rattle.sheet.specs.FirstLaws.{first-more, first-found}
 use Rattle.meaning.specs.Rows.{row7}
 use Rattle.header.specs.OrderLaws.{from-le}
-use Rattle.verdicts.specs.VerdictsLaws.{In, in-next, in-test, in-header, header-passes}
+use Rattle.verdicts.specs.VerdictsLaws.{In, in-next, in-test, in-bit, in-header, header-passes}
 use Rattle.verdicts.proofs.row7.Statement.{statement}
 use Rattle.verdicts.proofs.row7.Tie as tie
 
@@ -27,33 +27,41 @@ loop-holds c =
     let a = c .before in
     let s = lines-of (a .args .t .now) in
     let n = length-lines-of (a .args .t .now) in
-    (omega (arith, n, from-le s (a .args .from) (a .pre)), in-header s (a .args .from) (a .pre) _ (sym n) refl (a .args .from) (omega arith), header-passes s (a .args .from) (a .pre) (record { head = length s; kept = 0 }) refl refl)
+    (omega (arith, n, from-le s (a .args .from) (a .pre)), in-header s (a .args .from) (a .pre) _ (sym n) refl refl (a .args .from) (omega arith), header-passes s (a .args .from) (a .pre) (record { head = length s; most = 0; kept = 0 }) refl refl refl)
 
-decl-at-requires : tie.Need-decl-at-requires Inv-loop μ-loop
-decl-at-requires c κs = (omega arith, c .before .loop .inv .1 .0)
+not-not : (b : Bool) → not b ≡ false → b ≡ true
+not-not true e = refl
+not-not false e = sym e
+
+-- row 7 applies at line i exactly if the line is not as it should be
+tested : (c : tie.After-good-line Inv-loop μ-loop) → c .before .before .loop .i < length (lines-of (c .before .before .before .before .args .t .now))
+    → row7 (lines-of (c .before .before .before .before .args .t .now)) (c .before .before .loop .i) ≡ not (c .good-line .result)
+tested c w =
+    let o = c .before .before .loop in
+    in-test (lines-of (c .before .before .before .before .args .t .now)) (o .i) w (o .d) (o .inv .1) ∙ ap not (sym (c .good-line .ensures))
 
 returns : tie.Need-returns Inv-loop μ-loop
 returns c =
-    let s = lines-of (c .before .before .before .before .before .before .args .t .now) in
-    let o = c .before .before .before .before .loop in
-    let w : o .i < length s = omega (arith, length-lines-of (c .before .before .before .before .before .before .args .t .now)) in
-    let d = c .before .before .decl-at in
-    let b : row7 s (o .i) ≡ true =
-    in-test s (o .i) w (o .d) (d .result) (o .inv .1) (d .ensures) ∙ ap not (sym (c .before .good-line .ensures)) ∙ c .if1 .taken in
-    sym (first-found (row7 s) (length s) (o .i) (omega arith) (o .inv .2) b)
+    let t = c .before .before .before .before .before .args .t .now in
+    let s = lines-of t in
+    let o = c .before .before .before .loop in
+    let w : o .i < length s = omega (arith, length-lines-of t) in
+    sym (first-found (row7 s) (length s) (o .i) w (o .inv .2) (tested (c .before) w ∙ c .if1 .taken))
+
+decl-at-requires : tie.Need-decl-at-requires Inv-loop μ-loop
+decl-at-requires c κs =
+    let t = c .before .before .before .before .before .args .t .now in
+    let o = c .before .before .before .loop in
+    let w : o .i < length (lines-of t) = omega (arith, length-lines-of t) in
+    (omega arith, o .inv .1 .0, in-bit (lines-of t) (o .i) w (o .d) (o .inv .1) (sym (c .before .good-line .ensures) ∙ not-not (c .before .good-line .result) (c .if1 .left)))
 
 loop-again : tie.Need-loop-again Inv-loop μ-loop
 loop-again c =
-    let s = lines-of (c .before .before .before .before .before .before .args .t .now) in
+    let t = c .before .before .before .before .before .before .args .t .now in
+    let s = lines-of t in
     let o = c .before .before .before .before .loop in
-    let w : o .i < length s = omega (arith, length-lines-of (c .before .before .before .before .before .before .args .t .now)) in
-    let d = c .before .before .decl-at in
-    let b : row7 s (o .i) ≡ false =
-    in-test s (o .i) w (o .d) (d .result) (o .inv .1) (d .ensures) ∙ ap not (sym (c .before .good-line .ensures)) ∙ c .if1 .left in (
-      omega arith,
-      in-next s (o .i) w (o .d) (d .result) (o .inv .1) (d .ensures),
-      first-more (row7 s) (o .i) (o .inv .2) b,
-    )
+    let w : o .i < length s = omega (arith, length-lines-of t) in
+    (omega arith, in-next s (o .i) w (o .d) (o .inv .1) (c .decl-at .result) (c .decl-at .ensures), first-more (row7 s) (o .i) (o .inv .2) (tested (c .before .before) w ∙ c .before .if1 .left))
 
 returns-2 : tie.Need-returns-2 Inv-loop μ-loop
 returns-2 c =
@@ -68,9 +76,9 @@ row7-spec =
     Inv-loop
     μ-loop
     loop-holds
-    decl-at-requires
     (λ c κs. search needs)
     returns
+    decl-at-requires
     (λ c. search needs)
     (λ c. search needs)
     loop-again
