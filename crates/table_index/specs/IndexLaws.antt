@@ -18,6 +18,7 @@ use Rattle.meaning.specs.Rows.{line-at, count-of, count-before, heads-before, g
 use Rattle.model_laws.specs.Names.{position-name, position-distinct}
 use Rattle.model_laws.specs.Rounds.{cases-eq}
 use Rattle.meaning.specs.Laws.Program.{head-cases, heads-before-lt, length-program}
+use Rattle.header.specs.Header.{Lettered}
 use Rattle.order.specs.StepLaws.{count-before-step, heads-before-step, count-before-le, heads-before-le}
 use Rattle.limits.specs.Limits.{start}
 use Rattle.limits.specs.LimitsLaws.{start-at}
@@ -157,6 +158,14 @@ module _ (ls : List Line) (t : List ℕ) (i : ℕ) (c : Seen) (R : Reached ls t 
   pub no-letter : (x : ℕ) → (getD t (11 + i * 6) 0 ≡ x → ⊥) → is x (line-at ls i) ≡ false
   no-letter x e = ne-eqb (letter (line-at ls i)) x (λ q. e (letter-read .1 ∙ q))
 
+  -- a C or F line, by the cell read
+  pub member-read : Lettered (line-at ls i) → getD t (11 + i * 6) 0 ≤ 70 → (getD t (11 + i * 6) 0 ≡ 68 → ⊥) → letter (line-at ls i) ≡ pick (eqb (getD t (11 + i * 6) 0) 70) 70 67
+  member-read l a b =
+      ⊎-elim
+      (λ (q : letter (line-at ls i) ≡ 67). rw (letter-read .1, q))
+      (λ (q : letter (line-at ls i) ≡ 70). rw (letter-read .1, q))
+      (l .member (omega (arith, letter-read .1)) (λ q. b (letter-read .1 ∙ q)))
+
   pub line-fits : Fits i c
   line-fits = seen-fits ls (R .passed) i (R .inside) c (R .seen)
 
@@ -276,6 +285,16 @@ module _ (ls : List Line) (t : List ℕ) (i : ℕ) (c : Seen) (R : Reached ls t 
             (λ k. r .made)
             (names-kept field-line (at-fields (sizes-of ls)) e (field-cell ls) (omega arith) (not-head (line-at ls i) 70 e refl refl)));
       }
+
+  -- ---- C and F lines, by whether it is an F line
+  pub member-room : (b : Bool) → letter (line-at ls i) ≡ pick b 70 67 → Within t (pick b 9 8) (pick b (c .fields) (c .ctors))
+  member-room true e = field-room e
+  member-room false e = ctor-room e
+
+  pub member-next : (b : Bool) → letter (line-at ls i) ≡ pick b 70 67 → (u : List ℕ) → u ≡ set t (getD t (pick b 9 8) 0 + pick b (c .fields) (c .ctors)) (number-cell i)
+      → Reached ls u (suc i) (record { decls = c .decls; params = c .params; ctors = c .ctors + pick b 0 1; fields = c .fields + pick b 1 0 })
+  member-next true e u q = let z : c .ctors + 0 ≡ c .ctors = omega arith in rw z (field-next e u q)
+  member-next false e u q = let z : c .fields + 0 ≡ c .fields = omega arith in rw z (ctor-next e u q)
 
   -- ---- another line, as a V line
   pub other-next : is local-line (line-at ls i) ≡ false → is import-line (line-at ls i) ≡ false → is param-line (line-at ls i) ≡ false → is ctor-line (line-at ls i) ≡ false → is field-line (line-at ls i) ≡ false → Reached ls t (suc i) c

@@ -17,6 +17,8 @@ ghost use mathlib.Core.List.{_++_};
 ghost use mathlib.Core.Bool.{true};
 ghost use Prim.Native.Nat.{suc, _+_, _*_, _≤_, _<_};
 ghost use lib.ListN.{length, getD, set, drop};
+ghost use Rattle.columns.specs.Column.{pick};
+ghost use Rattle.sheet.specs.Line.{letter};
 ghost use Rattle.meaning.specs.Program as program;
 ghost use Rattle.meaning.specs.Rows as rows;
 ghost use Rattle.header.specs.Header as header;
@@ -125,34 +127,57 @@ fn put_place(h: usize, j: usize, i: usize, t: &mut [u32])
 }
 
 // Declaration c.decls, which begins at line i: where, and that the name is its.
-fn put_decl(i: usize, c: Seen, t: &mut [u32])
+fn put_decl(i: usize, c: Seen, t: &mut [u32]) -> Seen
     requires { ⌜ index.Reached (tables.lines-in (now t)) (now t) i c ⌝ }
     requires { ⌜ (i < length (tables.lines-in (now t))) × (program.is-head (rows.line-at (tables.lines-in (now t)) i) ≡ true) ⌝ }
-    ensures { λ _. ⌜ index.Filled (tables.lines-in (now (t .entry))) (now (t .exit)) (suc i) ⌝ }
+    ensures { λ r. ⌜ index.Reached (tables.lines-in (now (t .entry))) (now (t .exit)) (suc i) r ⌝ }
 {
     put_begin(i, c, t);
     let name = t[HEADER + 1 + i * 6] as usize;
     let at = t[AT_NAMES] as usize;
     t[at + name] = c.decls as u32;
+    Seen {
+        decls: c.decls + 1,
+        params: c.params,
+        ctors: c.ctors,
+        fields: c.fields,
+    }
 }
 
-// Line i of a declaration.
-fn put_line(i: usize, c: Seen, t: &mut [u32]) -> Seen
+fn picked(b: bool, x: usize, y: usize) -> usize
+    ensures { λ r. ⌜ r ≡ pick b x y ⌝ }
+{
+    if b { x } else { y }
+}
+
+// Line i, an F or a C line. Its section is picked, and not jumped to: which of the two comes next cannot be foreseen.
+fn put_member(field: bool, i: usize, c: Seen, t: &mut [u32]) -> Seen
     requires { ⌜ index.Reached (tables.lines-in (now t)) (now t) i c ⌝ }
-    requires { ⌜ i < length (tables.lines-in (now t)) ⌝ }
+    requires { ⌜ (i < length (tables.lines-in (now t))) × (letter (rows.line-at (tables.lines-in (now t)) i) ≡ pick field 70 67) ⌝ }
+    ensures { λ r. ⌜ index.Reached (tables.lines-in (now (t .entry))) (now (t .exit)) (suc i) r ⌝ }
+{
+    let section = picked(field, AT_FIELDS, AT_CTORS);
+    let place = picked(field, c.fields, c.ctors);
+    let ctors = c.ctors + picked(field, 0, 1);
+    let fields = c.fields + picked(field, 1, 0);
+    put_place(section, place, i, t);
+    Seen {
+        decls: c.decls,
+        params: c.params,
+        ctors,
+        fields,
+    }
+}
+
+// Line i, whose letter is after F.
+fn put_later(i: usize, c: Seen, t: &mut [u32]) -> Seen
+    requires { ⌜ index.Reached (tables.lines-in (now t)) (now t) i c ⌝ }
+    requires { ⌜ (i < length (tables.lines-in (now t))) × (70 < letter (rows.line-at (tables.lines-in (now t)) i)) ⌝ }
     ensures { λ r. ⌜ index.Reached (tables.lines-in (now (t .entry))) (now (t .exit)) (suc i) r ⌝ }
 {
     let letter = t[HEADER + i * 6];
     match letter {
-        68 | 73 => {
-            put_decl(i, c, t);
-            Seen {
-                decls: c.decls + 1,
-                params: c.params,
-                ctors: c.ctors,
-                fields: c.fields,
-            }
-        }
+        73 => put_decl(i, c, t),
         80 => {
             put_place(AT_PARAMS, c.params, i, t);
             Seen {
@@ -162,26 +187,24 @@ fn put_line(i: usize, c: Seen, t: &mut [u32]) -> Seen
                 fields: c.fields,
             }
         }
-        67 => {
-            put_place(AT_CTORS, c.ctors, i, t);
-            Seen {
-                decls: c.decls,
-                params: c.params,
-                ctors: c.ctors + 1,
-                fields: c.fields,
-            }
-        }
-        70 => {
-            put_place(AT_FIELDS, c.fields, i, t);
-            Seen {
-                decls: c.decls,
-                params: c.params,
-                ctors: c.ctors,
-                fields: c.fields + 1,
-            }
-        }
         _ => c,
     }
+}
+
+// Line i of a declaration.
+fn put_line(i: usize, c: Seen, t: &mut [u32]) -> Seen
+    requires { ⌜ index.Reached (tables.lines-in (now t)) (now t) i c ⌝ }
+    requires { ⌜ (i < length (tables.lines-in (now t))) × header.Lettered (rows.line-at (tables.lines-in (now t)) i) ⌝ }
+    ensures { λ r. ⌜ index.Reached (tables.lines-in (now (t .entry))) (now (t .exit)) (suc i) r ⌝ }
+{
+    let letter = t[HEADER + i * 6];
+    if letter > 70 {
+        return put_later(i, c, t);
+    }
+    if letter == 68 {
+        return put_decl(i, c, t);
+    }
+    put_member(letter == 70, i, c, t)
 }
 
 // The lines of the declarations, which begin at line `from`, up to line n.

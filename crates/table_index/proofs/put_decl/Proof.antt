@@ -3,7 +3,7 @@ use Prim.Native.Nat.{_+_, _*_}
 use native.Mathlib.Omega.{arith}
 use borrow.Author.Needs.{needs}
 use Rattle.tables.specs.Tables.{lines-in}
-use Rattle.table_index.specs.IndexLaws.{begin-room, name-read, at-read, decls-fit, store-room, decl-filled}
+use Rattle.table_index.specs.IndexLaws.{begin-room, name-read, at-read, decls-fit, store-room, decl-filled, decl-next}
 use Rattle.table_index.proofs.put_decl.Statement.{statement}
 use Rattle.table_index.proofs.put_decl.Tie as tie
 
@@ -34,8 +34,14 @@ mul-t c = let a = c .before .before .before .before .before .before .before .bef
 slice-write-t : tie.Need-slice-write-t
 slice-write-t c = let a = c .before .before .before .before .before .before .before .before in store-room (lines-in (a .args .t .now)) (a .args .t .now) (a .args .i) (a .args .c) (a .pre .0) (a .pre .1 .0) (a .pre .1 .1) (c .before .before .before .before .before .put-begin .last .1 .1 .0) (c .before .before .before .before .before .put-begin .ensures)
 
+add-t11 : tie.Need-add-t11
+add-t11 c = let a = c .before .before .before .before .before .before .before .before .before in omega (arith, decls-fit (lines-in (a .args .t .now)) (a .args .t .now) (a .args .i) (a .args .c) (a .pre .0) (a .pre .1 .0) (a .pre .1 .1))
+
 returns : tie.Need-returns
-returns c = let a = c .before .before .before .before .before .before .before .before in decl-filled (lines-in (a .args .t .now)) (a .args .t .now) (a .args .i) (a .args .c) (a .pre .0) (a .pre .1 .0) (a .pre .1 .1) (c .before .before .before .before .before .put-begin .last .1 .1 .0) (c .before .before .before .before .before .put-begin .ensures)
+returns c =
+    let a = c .before .before .before .before .before .before .before .before .before in
+    let q = c .before .before .before .before .before .before .put-begin in
+    decl-next (lines-in (a .args .t .now)) (a .args .t .now) (a .args .i) (a .args .c) (a .pre .0) (a .pre .1 .0) (a .pre .1 .1) _ (decl-filled (lines-in (a .args .t .now)) (a .args .t .now) (a .args .i) (a .args .c) (a .pre .0) (a .pre .1 .0) (a .pre .1 .1) (q .last .1 .1 .0) (q .ensures))
 
 pub put-decl-spec : {M : Type 1} → statement M
 put-decl-spec =
@@ -54,5 +60,6 @@ put-decl-spec =
     add-t
     mul-t
     slice-write-t
+    add-t11
     (λ c. search needs)
     returns)

@@ -1,10 +1,11 @@
 -- `table_index::put_lines` meets its contract, line after line. Assumes nothing.
 use mathlib.Core.Path.{_≡_, sym, _∙_}
-use Prim.Native.Nat.{_-_, _≤_}
+use Prim.Native.Nat.{_-_, _≤_, _<_}
 use native.Mathlib.Omega.{arith}
 use native.Mathlib.Numerals.{add-one}
 use lib.ListN.{length}
 use borrow.Author.Needs.{needs}
+use Rattle.header.specs.LettersLaws.{lettered}
 use Rattle.header.specs.OrderLaws.{header-le}
 use Rattle.tables.specs.Tables.{lines-in}
 use Rattle.table_index.specs.Index.{Reached}
@@ -13,7 +14,7 @@ use Rattle.table_index.proofs.put_lines.Statement.{statement}
 use Rattle.table_index.proofs.put_lines.Tie as tie
 
 abbrev Inv-loop : tie.InvT-loop
-Inv-loop from n t₀ c₀ i₀ t c i = (i ≤ n) × Reached (lines-in t₀) t i c × (n ≡ length (lines-in t₀))
+Inv-loop from n t₀ c₀ i₀ t c i = (i ≤ n) × Reached (lines-in t₀) t i c × (n ≡ length (lines-in t₀)) × (from ≤ i)
 
 abbrev μ-loop : tie.MeasureT-loop
 μ-loop from n t₀ c₀ i₀ t c i = n - i
@@ -22,14 +23,16 @@ loop-holds : tie.Need-loop-holds Inv-loop μ-loop
 loop-holds c =
     let a = c .before in
     let s = lines-in (a .args .t .now) in
-    (omega (arith, a .pre .1 .0, a .pre .1 .1, header-le s), rw (a .pre .1 .0) (reached-first s (a .pre .0 .passed) (a .args .t .now) (a .pre .0)), a .pre .1 .1)
+    (omega (arith, a .pre .1 .0, a .pre .1 .1, header-le s), rw (a .pre .1 .0) (reached-first s (a .pre .0 .passed) (a .args .t .now) (a .pre .0)), a .pre .1 .1, omega arith)
 
 put-line-requires : tie.Need-put-line-requires Inv-loop μ-loop
 put-line-requires c κs =
     let a = c .before .before .before .before in
     let l = c .before .before .loop in
     let e = lines-kept (a .args .t .now) (l .t) (l .i) (l .c) (l .inv .1) in
-    (reached-here (a .args .t .now) (l .t) (l .i) (l .c) (l .inv .1), rw e (omega (arith, l .inv .2, c .before .loop-test .taken)))
+    let s = lines-in (a .args .t .now) in
+    let h : l .i < length s = omega (arith, l .inv .2, c .before .loop-test .taken) in
+    (reached-here (a .args .t .now) (l .t) (l .i) (l .c) (l .inv .1), rw e (h, lettered s (a .pre .0 .passed .in-order) (l .i) (omega (arith, a .pre .1 .0, l .inv .3)) h))
 
 add-i : tie.Need-add-i Inv-loop μ-loop
 add-i c = let l = c .before .before .before .before .before .loop in omega (arith, l .inv .2, l .inv .1 .passed .bounded .few, c .before .before .before .before .loop-test .taken)
@@ -39,7 +42,7 @@ loop-again c =
     let a = c .before .before .before .before .before .before .before in
     let l = c .before .before .before .before .before .loop in
     let q = c .before .before .put-line in
-    (omega arith, rw add-one (reached-there (a .args .t .now) (l .t) (q .last .1 .1 .0) _ (q .result) (lines-kept (a .args .t .now) (l .t) (l .i) (l .c) (l .inv .1)) (q .ensures)), l .inv .2)
+    (omega arith, rw add-one (reached-there (a .args .t .now) (l .t) (q .last .1 .1 .0) _ (q .result) (lines-kept (a .args .t .now) (l .t) (l .i) (l .c) (l .inv .1)) (q .ensures)), l .inv .2, omega (arith, l .inv .3))
 
 -- all lines are passed
 ended : (c : tie.After-loop Inv-loop μ-loop) → Reached (lines-in (c .before .before .before .args .t .now)) (c .before .loop .t) (length (lines-in (c .before .before .before .args .t .now))) (c .before .loop .c)
