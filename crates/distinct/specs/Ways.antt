@@ -4,7 +4,7 @@ use mathlib.Core.List.{List}
 use mathlib.Core.Bool.{Bool, true, false, _&&_, _||_}
 use Prim.Native.Nat.{ℕ, zero, suc, _+_, _<_}
 use lib.Dec.{eqb}
-use lib.ListN.{getD, set, length}
+use lib.ListN.{getD, set, length, take, drop}
 use Rattle.columns.specs.Column.{pick, _⇒_∥_}
 use Rattle.sheet.specs.Line.{Line, number}
 use Rattle.meaning.specs.Program.{param-line, ctor-line, field-line, is, is-head}
@@ -97,6 +97,10 @@ After l g d p f c r d' p' f' c' =
     × (f' ≡ marked Fields l (g .fields) f)
     × (c' ≡ marked Constructors l 1 c)
 
+-- the groups, where a declaration begins
+abbrev pub begun : Groups → Groups
+begun g = record { params = g .params + 1; fields = g .fields + 1 }
+
 -- the groups, after the line
 abbrev pub groups-after : Line → Groups → Groups
 groups-after l g =
@@ -104,3 +108,19 @@ groups-after l g =
       params = pick (begins Parameters l) (g .params + 1) (g .params);
       fields = pick (begins Fields l) (g .fields + 1) (g .fields);
     }
+
+-- ---- constructors and fields in one array
+-- the marks of constructors, and behind them those of fields
+abbrev pub ctor-marks : List ℕ → List ℕ
+ctor-marks m = take 256 m
+
+abbrev pub field-marks : List ℕ → List ℕ
+field-marks m = drop 256 m
+
+abbrev pub MembersAfter : Line → Groups → List ℕ → List ℕ → List ℕ → Bool → List ℕ → List ℕ → List ℕ → Type 0
+MembersAfter l g d p m r d' p' m' = After l g d p (field-marks m) (ctor-marks m) r d' p' (field-marks m') (ctor-marks m')
+
+-- after a D or I line, whatever is marked of parameters and fields
+pub record HeadAfter (l : Line) (d m : List ℕ) (r : Bool) (d' m' : List ℕ) : Type 0 where
+  pub after : (g : Groups) (p f : List ℕ) → After l g d p f (ctor-marks m) r d' p f (ctor-marks m')
+  pub fields : field-marks m' ≡ field-marks m

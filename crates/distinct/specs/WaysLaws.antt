@@ -1,13 +1,13 @@
 -- Row 6 is one of its ways, and the groups that the names of earlier lines were last seen in decide it. Assumes nothing.
 use mathlib.Core.Path.{_≡_, refl, ap, sym, _∙_}
 use mathlib.Core.List.{List}
-use mathlib.Core.Logic.{_⊎_, inl, inr}
+use mathlib.Core.Logic.{_⊎_, inl, inr, ⊎-elim}
 use mathlib.Core.Bool.{Bool, true, false, _&&_, _||_, and-assoc, and-false}
 use Prim.Native.Nat.{ℕ, zero, suc, _+_, _≤_, _<_, min}
 use native.Mathlib.Omega.{arith}
-use lib.Dec.{eqb, eqb·zero-suc, eqb·suc-suc}
+use lib.Dec.{eqb, ltb, eqb·zero-suc, eqb·suc-suc}
 use lib.ListN.{length, getD, set, replicate, length-set, getD-replicate}
-use lib.Seq.{getD-set-same, getD-set-other}
+use lib.Seq.{getD-set-same, getD-set-other, getD-take, getD-drop, take-set-lt, take-set-le, drop-set-lt, drop-set-add}
 use borrow.Author.Tests.{eqb-true, eqb-false, eq-eqb, ne-eqb, ltb-true}
 use Rattle.columns.specs.Column.{pick}
 use Rattle.sheet.specs.Line.{Line, letter, number, text}
@@ -16,11 +16,12 @@ use Rattle.sheet.specs.FirstLaws.{first-congr}
 use Rattle.sheet.specs.ListLaws.{both}
 use Rattle.meaning.specs.Program.{name-line, param-line, ctor-line, field-line, is, is-head, select}
 use Rattle.meaning.specs.Rows.{some-below, line-at, count-of, count-before, heads-before, good-head, good-numbers, equal, is-ctor, same-decl, same-ctor, repeats, row6}
+use Rattle.header.specs.Header.{Lettered}
 use Rattle.order.specs.StepLaws.{count-before-step, heads-before-step, count-before-mono, heads-before-mono}
 use Rattle.limits.specs.LimitsLaws.{head-cases}
 use Rattle.spellings.specs.Spellings.{respelled}
 use Rattle.spellings.specs.SomeLaws.{some-zero, some-suc, some-congr, some-none, some-or, or-true, or-false, first-or}
-use Rattle.distinct.specs.Ways.{Way, Declared, Parameters, Fields, Constructors, alike, repeated, repeated-any, takes, begins, group, stamp, Named, After, groups-after}
+use Rattle.distinct.specs.Ways.{Way, Declared, Parameters, Fields, Constructors, alike, repeated, repeated-any, takes, begins, group, stamp, Named, After, groups-after, ctor-marks, field-marks, MembersAfter, HeadAfter}
 use Rattle.distinct.specs.declared.repeats.Groups.{Groups}
 
 -- ---- the ways
@@ -284,6 +285,51 @@ module _ (l : Line) (g : Groups) (d p f c : List ℕ) (x v : ℕ) (e : x ≡ let
     pub ctor-named : x ≡ 67 → v < 256
     ctor-named y = rw n (m .below Constructors (rw (← e, y)))
 
+-- ---- constructors and fields in one array
+module _ (l : Line) (d m : List ℕ) (v : ℕ) (n : v ≡ number l 0) (h : (letter l ≡ 68) ⊎ (letter l ≡ 73)) (k : ℕ) (q : k ≡ number l 2) (o : Named l) where
+  pub plain-head : (k ≡ 2 → ⊥) → (r : Bool) (d' : List ℕ) → r ≡ eqb (getD d v 0) 1 → d' ≡ set d v 1 → HeadAfter l d m r d' m
+  plain-head z r d' a b = record { after = λ g p f. after-plain l g d p f (ctor-marks m) (letter l) v refl n h k q z r d' a b; fields = refl }
+
+  pub record-head : k ≡ 2 → (a b r : Bool) (d' m' : List ℕ)
+      → a ≡ eqb (getD d v 0) 1 → d' ≡ set d v 1 → b ≡ eqb (getD m v 0) 1 → m' ≡ set m v 1 → r ≡ a || b → HeadAfter l d m r d' m'
+  record-head z a b r d' m' s t u w y =
+      let i : v < 256 = head-named l (record { params = 0; fields = 0 }) d d d d (letter l) v refl n o h in
+      record {
+        after = λ g p f. after-record l g d p f (ctor-marks m) (letter l) v refl n h k q z a b r d' (ctor-marks m') s t (u ∙ ap (λ (x : ℕ). eqb x 1) (sym (getD-take 256 m v 0 i))) (ap ctor-marks w ∙ take-set-lt 256 m v 1 i) y;
+        fields = ap field-marks w ∙ drop-set-lt 256 m v 1 i;
+      }
+
+module _ (l : Line) (g : Groups) (d p m : List ℕ) (x v : ℕ) (e : x ≡ letter l) (n : v ≡ number l 0) where
+  pub member-place : Named l → (x ≡ 67) ⊎ (x ≡ 70) → pick (eqb x 70) 256 0 + v < 512
+  member-place o (inl y) = rw y (omega (arith, ctor-named l g d p m m x v e n o y))
+  member-place o (inr y) = rw y (omega (arith, field-named l g d p m m x v e n o y))
+
+  pub after-member : Named l → (x ≡ 67) ⊎ (x ≡ 70) → (r : Bool) (m' : List ℕ)
+      → r ≡ eqb (getD m (pick (eqb x 70) 256 0 + v) 0) (pick (eqb x 70) (g .fields) 1) → m' ≡ set m (pick (eqb x 70) 256 0 + v) (pick (eqb x 70) (g .fields) 1)
+      → MembersAfter l g d p m r d p m'
+  after-member o (inl y) r m' a b =
+      let i : v < 256 = ctor-named l g d p m m x v e n o y in
+      let z : 0 + v ≡ v = omega arith in
+      let a' : r ≡ eqb (getD m v 0) 1 = rw (y, z) at a in
+      let b' : m' ≡ set m v 1 = rw (y, z) at b in
+      let f : field-marks m' ≡ field-marks m = ap field-marks b' ∙ drop-set-lt 256 m v 1 i in
+      rw f (after-ctor l g d p (field-marks m) (ctor-marks m) x v e n y r (ctor-marks m') (a' ∙ ap (λ (w : ℕ). eqb w 1) (sym (getD-take 256 m v 0 i))) (ap ctor-marks b' ∙ take-set-lt 256 m v 1 i))
+  after-member o (inr y) r m' a b =
+      let a' : r ≡ eqb (getD m (256 + v) 0) (g .fields) = rw y at a in
+      let b' : m' ≡ set m (256 + v) (g .fields) = rw y at b in
+      let f : ctor-marks m' ≡ ctor-marks m = ap ctor-marks b' ∙ take-set-le 256 m (256 + v) (g .fields) (omega arith) in
+      rw f (after-field l g d p (field-marks m) (ctor-marks m) x v e n y r (field-marks m') (a' ∙ ap (λ (w : ℕ). eqb w (g .fields)) (sym (getD-drop 256 m v 0))) (ap field-marks b' ∙ drop-set-add 256 m v (g .fields)))
+
+  pub after-head : (r : Bool) (d' m' : List ℕ) → HeadAfter l d m r d' m' → MembersAfter l g d p m r d' p m'
+  after-head r d' m' a = rw (a .fields) (a .after g p (field-marks m))
+
+  pub after-later : 70 < x → (x ≡ 73 → ⊥) → (x ≡ 80 → ⊥) → MembersAfter l g d p m false d p m
+  after-later h a b = after-other l g d p (field-marks m) (ctor-marks m) x v e n (λ y. not-head y) b (λ y. omega arith) (λ y. omega arith)
+    where
+      not-head : (x ≡ 68) ⊎ (x ≡ 73) → ⊥
+      not-head (inl y) = omega arith
+      not-head (inr y) = a y
+
 -- the groups
 module _ (l : Line) (g : Groups) (x : ℕ) (e : x ≡ letter l) where
   pub groups-head : (x ≡ 68) ⊎ (x ≡ 73) → record { params = g .params + 1; fields = g .fields + 1 } ≡ groups-after l g
@@ -295,3 +341,17 @@ module _ (l : Line) (g : Groups) (x : ℕ) (e : x ≡ letter l) where
 
   pub groups-other : ((x ≡ 68) ⊎ (x ≡ 73) → ⊥) → (x ≡ 67 → ⊥) → g ≡ groups-after l g
   groups-other a j = rw (← e, ne-eqb x 68 (λ y. a (inl y)), ne-eqb x 73 (λ y. a (inr y)), ne-eqb x 67 j)
+
+  pub groups-member : (x ≡ 67) ⊎ (x ≡ 70) → record { params = g .params; fields = g .fields + pick (ltb x 68) 1 0 } ≡ groups-after l g
+  groups-member (inl y) = rw (← e, y)
+  groups-member (inr y) = let z : g .fields + 0 ≡ g .fields = omega arith in rw (← e, y, z)
+
+  pub told : Lettered l → x ≤ 70 → (x ≡ 68 → ⊥) → (x ≡ 67) ⊎ (x ≡ 70)
+  told o a b = ⊎-elim (λ q. inl (e ∙ q)) (λ q. inr (e ∙ q)) (o .member (omega arith) (λ q. b (e ∙ q)))
+
+  pub groups-later : 70 < x → (x ≡ 73 → ⊥) → g ≡ groups-after l g
+  groups-later h b = groups-other not-head (λ y. omega arith)
+    where
+      not-head : (x ≡ 68) ⊎ (x ≡ 73) → ⊥
+      not-head (inl y) = omega arith
+      not-head (inr y) = b y

@@ -5,6 +5,7 @@ mod respellings;
 use cells::CELLS;
 use limits::NAMES;
 use repeats::Groups;
+use repeats::MEMBERS;
 ghost use mathlib.Core.Path.{_≡_};
 ghost use mathlib.Core.List.{map};
 ghost use Prim.Native.Nat.{min};
@@ -28,15 +29,14 @@ fn repeated(t: &[u32], from: usize) -> usize
     let n = t.len() / CELLS;
     let mut declared = [0u16; NAMES];
     let mut params = [0u16; NAMES];
-    let mut fields = [0u16; NAMES];
-    let mut ctors = [0u16; NAMES];
+    let mut members = [0u16; MEMBERS];
     let mut g = Groups {
         params: 1,
         fields: 1,
     };
     let mut i = from;
     while i < n {
-        if repeats::repeats(t, i, g, &mut declared, &mut params, &mut fields, &mut ctors) {
+        if repeats::repeats(t, i, g, &mut declared, &mut params, &mut members) {
             return i;
         }
         g = repeats::groups_after(t, i, g);

@@ -1,36 +1,59 @@
 -- `repeats::groups_after` meets its contract, by the letter. Assumes nothing.
-use borrow.Author.Needs.{needs}
+use mathlib.Core.Path.{_∙_}
+use mathlib.Core.Logic.{inl, inr}
+use mathlib.Core.Bool.{Bool, true, false}
+use Prim.Native.Nat.{_≤_}
+use native.Mathlib.Omega.{arith}
+use lib.Dec.{ltb}
+use Rattle.columns.specs.Column.{pick}
 use Rattle.cells.specs.Cells.{lines-of}
 use Rattle.meaning.specs.Rows.{line-at}
-use Rattle.distinct.specs.WaysLaws.{groups-head, groups-ctor, groups-other}
+use Rattle.distinct.specs.WaysLaws.{groups-head, groups-member, groups-later, told}
+use borrow.Author.Needs.{needs}
 use Rattle.distinct.proofs.repeats.groups_after.Statement.{statement}
 use Rattle.distinct.proofs.repeats.groups_after.Tie as tie
+
+bit : (b : Bool) → pick b 1 0 ≤ 1
+bit true = omega arith
+bit false = omega arith
 
 returns : tie.Need-returns
 returns c =
     let m = c .before .before .before in
-    let a = m .before .before .args in
-    groups-head (line-at (lines-of (a .t .now)) (a .i)) (a .g) (m .letter .result) (m .letter .ensures) (c .before .before .match .keys1)
+    let a = m .before .before in
+    c .begun .ensures ∙ groups-head (line-at (lines-of (a .args .t .now)) (a .args .i)) (a .args .g) (m .letter .result) (m .letter .ensures) (inr (c .before .if2 .taken))
 
 returns-2 : tie.Need-returns-2
 returns-2 c =
     let m = c .before .before in
-    let a = m .before .before .args in
-    groups-ctor (line-at (lines-of (a .t .now)) (a .i)) (a .g) (m .letter .result) (m .letter .ensures) (c .before .match .keys2)
+    let a = m .before .before in
+    groups-later (line-at (lines-of (a .args .t .now)) (a .args .i)) (a .args .g) (m .letter .result) (m .letter .ensures) (c .before .if1 .taken) (c .if2 .left)
 
 returns-3 : tie.Need-returns-3
 returns-3 c =
-    let a = c .before .before .before .args in
-    groups-other (line-at (lines-of (a .t .now)) (a .i)) (a .g) (c .before .letter .result) (c .before .letter .ensures) (c .match .rest .0 .1) (c .match .rest .1)
+    let m = c .before .before .before in
+    let a = m .before .before in
+    c .begun2 .ensures ∙ groups-head (line-at (lines-of (a .args .t .now)) (a .args .i)) (a .args .g) (m .letter .result) (m .letter .ensures) (inl (c .before .if3 .taken))
+
+add-t8 : tie.Need-add-t8
+add-t8 c = omega (arith, c .before .before .before .before .before .before .pre .1 .1, c .before .picked-group .ensures, bit (ltb (c .before .before .before .before .letter .result) 68))
+
+returns-4 : tie.Need-returns-4
+returns-4 c =
+    let m = c .before .before .before .before in
+    let a = m .before .before in
+    rw (c .before .picked-group .ensures) (groups-member (line-at (lines-of (a .args .t .now)) (a .args .i)) (a .args .g) (m .letter .result) (m .letter .ensures) (told (line-at (lines-of (a .args .t .now)) (a .args .i)) (a .args .g) (m .letter .result) (m .letter .ensures) (a .pre .0 .1) (c .before .before .before .if1 .left) (c .before .before .if3 .left)))
 
 pub groups-after-spec : {M : Type 1} → statement M
 groups-after-spec =
     tie.close
     (tie.spec
     (λ c κs. search needs)
-    (λ c. search needs)
-    (λ c. search needs)
-    (λ c. search needs)
+    (λ c κs. search needs)
     returns
     returns-2
-    returns-3)
+    (λ c κs. search needs)
+    returns-3
+    (λ c κs. search needs)
+    add-t8
+    returns-4)

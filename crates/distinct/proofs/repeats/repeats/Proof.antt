@@ -1,84 +1,46 @@
 -- `repeats::repeats` meets its contract, by the letter. Assumes nothing.
-use borrow.Author.Needs.{needs}
+use mathlib.Core.Path.{refl, sym, _∙_}
+use mathlib.Core.Logic.{inl}
+use native.Mathlib.Omega.{arith}
+use Rattle.sheet.specs.Line.{letter, number}
 use Rattle.cells.specs.Cells.{lines-of}
 use Rattle.meaning.specs.Rows.{line-at}
-use Rattle.distinct.specs.WaysLaws.{after-plain, after-record, after-param, after-field, after-ctor, after-other, head-named, param-named, field-named, ctor-named}
+use Rattle.distinct.specs.WaysLaws.{told, member-place, after-member, after-head}
+use borrow.Author.Needs.{needs}
 use Rattle.distinct.proofs.repeats.repeats.Statement.{statement}
 use Rattle.distinct.proofs.repeats.repeats.Tie as tie
 
-seen-requires : tie.Need-seen-requires
-seen-requires c κs =
-    let m = c .before .before in
-    let a = m .before .before .before .args in
-    head-named (line-at (lines-of (a .t .now)) (a .i)) (a .g) (a .declared .now) (a .params .now) (a .fields .now) (a .ctors .now) (m .before .letter .result) (m .number .result) (m .before .letter .ensures) (m .number .ensures) (m .before .before .before .pre .1) (c .before .match .keys1)
-
-seen-requires-2 : tie.Need-seen-requires-2
-seen-requires-2 c κs =
-    let m = c .before .before .before .before .before .before in
-    let a = m .before .before .before .args in
-    head-named (line-at (lines-of (a .t .now)) (a .i)) (a .g) (a .declared .now) (a .params .now) (a .fields .now) (a .ctors .now) (m .before .letter .result) (m .number .result) (m .before .letter .ensures) (m .number .ensures) (m .before .before .before .pre .1) (c .before .before .before .before .before .match .keys1)
-
-returns : tie.Need-returns
-returns c =
-    let m = c .before .before .before .before .before .before .before .before in
-    let a = m .before .before .before .args in
-    let t = c .before .before .before in
-    after-record (line-at (lines-of (a .t .now)) (a .i)) (a .g) (a .declared .now) (a .params .now) (a .fields .now) (a .ctors .now) (m .before .letter .result) (m .number .result) (m .before .letter .ensures) (m .number .ensures)
-    (t .before .before .before .before .match .keys1) (t .before .number2 .result) (t .before .number2 .ensures) (t .if1 .taken) (t .before .before .seen .result) (c .before .seen2 .result) (c .either .result) (t .before .before .seen .last .0) (c .before .seen2 .last .0) (t .before .before .seen .ensures .0) (t .before .before .seen .ensures .1) (c .before .seen2 .ensures .0) (c .before .seen2 .ensures .1) (c .either .ensures)
-
-seen-requires-3 : tie.Need-seen-requires-3
-seen-requires-3 c κs =
-    let m = c .before .before in
-    let a = m .before .before .before .args in
-    param-named (line-at (lines-of (a .t .now)) (a .i)) (a .g) (a .declared .now) (a .params .now) (a .fields .now) (a .ctors .now) (m .before .letter .result) (m .number .result) (m .before .letter .ensures) (m .number .ensures) (m .before .before .before .pre .1) (c .before .match .keys2)
-
-seen-requires-4 : tie.Need-seen-requires-4
-seen-requires-4 c κs =
-    let m = c .before .before in
-    let a = m .before .before .before .args in
-    field-named (line-at (lines-of (a .t .now)) (a .i)) (a .g) (a .declared .now) (a .params .now) (a .fields .now) (a .ctors .now) (m .before .letter .result) (m .number .result) (m .before .letter .ensures) (m .number .ensures) (m .before .before .before .pre .1) (c .before .match .keys3)
-
-seen-requires-5 : tie.Need-seen-requires-5
-seen-requires-5 c κs =
-    let m = c .before .before in
-    let a = m .before .before .before .args in
-    ctor-named (line-at (lines-of (a .t .now)) (a .i)) (a .g) (a .declared .now) (a .params .now) (a .fields .now) (a .ctors .now) (m .before .letter .result) (m .number .result) (m .before .letter .ensures) (m .number .ensures) (m .before .before .before .pre .1) (c .before .match .keys4)
+head-repeats-requires : tie.Need-head-repeats-requires
+head-repeats-requires c κs = let m = c .before .before .before .before in (m .before .before .pre .0, inl (sym (m .letter .ensures) ∙ c .before .before .if2 .taken))
 
 returns-2 : tie.Need-returns-2
 returns-2 c =
-    let m = c .before .before .before .before .before in
-    let a = m .before .before .before .args in
-    after-plain (line-at (lines-of (a .t .now)) (a .i)) (a .g) (a .declared .now) (a .params .now) (a .fields .now) (a .ctors .now) (m .before .letter .result) (m .number .result) (m .before .letter .ensures) (m .number .ensures)
-    (c .before .before .before .before .match .keys1) (c .before .number2 .result) (c .before .number2 .ensures) (c .if1 .left) (c .before .before .seen .result) (c .before .before .seen .last .0) (c .before .before .seen .ensures .0) (c .before .before .seen .ensures .1)
+    let a = c .before .before .before .before .before .before .before in
+    after-head (line-at (lines-of (a .args .t .now)) (a .args .i)) (a .args .g) (a .args .declared .now) (a .args .params .now) (a .args .members .now) (letter (line-at (lines-of (a .args .t .now)) (a .args .i))) (number (line-at (lines-of (a .args .t .now)) (a .args .i)) 0) refl refl (c .head-repeats .result) _ _ (c .head-repeats .ensures)
+
+add-place : tie.Need-add-place
+add-place c =
+    let m = c .before .before .before .before in
+    let a = m .before .before in
+    let v = c .before .number in
+    omega (arith, c .picked .ensures, member-place (line-at (lines-of (a .args .t .now)) (a .args .i)) (a .args .g) (a .args .declared .now) (a .args .params .now) (a .args .members .now) (m .letter .result) (v .result) (m .letter .ensures) (v .ensures) (a .pre .0 .1) (told (line-at (lines-of (a .args .t .now)) (a .args .i)) (a .args .g) (m .letter .result) (m .letter .ensures) (a .pre .1) (c .before .before .before .if1 .left) (c .before .before .if2 .left)))
+
+seen-member-requires : tie.Need-seen-member-requires
+seen-member-requires c κs =
+    let m = c .before .before .before .before .before .before in
+    let a = m .before .before in
+    let v = c .before .before .before .number in
+    rw (c .before .before .picked .ensures) (member-place (line-at (lines-of (a .args .t .now)) (a .args .i)) (a .args .g) (a .args .declared .now) (a .args .params .now) (a .args .members .now) (m .letter .result) (v .result) (m .letter .ensures) (v .ensures) (a .pre .0 .1) (told (line-at (lines-of (a .args .t .now)) (a .args .i)) (a .args .g) (m .letter .result) (m .letter .ensures) (a .pre .1) (c .before .before .before .before .before .if1 .left) (c .before .before .before .before .if2 .left)))
 
 returns-3 : tie.Need-returns-3
 returns-3 c =
-    let m = c .before .before .before in
-    let a = m .before .before .before .args in
-    after-param (line-at (lines-of (a .t .now)) (a .i)) (a .g) (a .declared .now) (a .params .now) (a .fields .now) (a .ctors .now) (m .before .letter .result) (m .number .result) (m .before .letter .ensures) (m .number .ensures)
-    (c .before .before .match .keys2) (c .seen3 .result) (c .seen3 .last .0) (c .seen3 .ensures .0) (c .seen3 .ensures .1)
-
-returns-4 : tie.Need-returns-4
-returns-4 c =
-    let m = c .before .before .before in
-    let a = m .before .before .before .args in
-    after-field (line-at (lines-of (a .t .now)) (a .i)) (a .g) (a .declared .now) (a .params .now) (a .fields .now) (a .ctors .now) (m .before .letter .result) (m .number .result) (m .before .letter .ensures) (m .number .ensures)
-    (c .before .before .match .keys3) (c .seen4 .result) (c .seen4 .last .0) (c .seen4 .ensures .0) (c .seen4 .ensures .1)
-
-returns-5 : tie.Need-returns-5
-returns-5 c =
-    let m = c .before .before .before in
-    let a = m .before .before .before .args in
-    after-ctor (line-at (lines-of (a .t .now)) (a .i)) (a .g) (a .declared .now) (a .params .now) (a .fields .now) (a .ctors .now) (m .before .letter .result) (m .number .result) (m .before .letter .ensures) (m .number .ensures)
-    (c .before .before .match .keys4) (c .seen5 .result) (c .seen5 .last .0) (c .seen5 .ensures .0) (c .seen5 .ensures .1)
-
-returns-6 : tie.Need-returns-6
-returns-6 c =
-    let m = c .before in
-    let a = m .before .before .before .args in
-    let r = c .match .rest in
-    after-other (line-at (lines-of (a .t .now)) (a .i)) (a .g) (a .declared .now) (a .params .now) (a .fields .now) (a .ctors .now) (m .before .letter .result) (m .number .result) (m .before .letter .ensures) (m .number .ensures)
-    (r .0 .0 .0 .1) (r .0 .0 .1) (r .0 .1) (r .1)
+    let m = c .before .before .before .before .before .before .before in
+    let a = m .before .before in
+    let v = c .before .before .before .before .number in
+    let s = c .seen-member in
+    after-member (line-at (lines-of (a .args .t .now)) (a .args .i)) (a .args .g) (a .args .declared .now) (a .args .params .now) (a .args .members .now) (m .letter .result) (v .result) (m .letter .ensures) (v .ensures) (a .pre .0 .1) (told (line-at (lines-of (a .args .t .now)) (a .args .i)) (a .args .g) (m .letter .result) (m .letter .ensures) (a .pre .1) (c .before .before .before .before .before .before .if1 .left) (c .before .before .before .before .before .if2 .left)) (s .result) (s .last .0)
+    (rw (c .before .before .before .picked .ensures, c .before .before .picked-group .ensures) at (s .ensures .0))
+    (rw (c .before .before .before .picked .ensures, c .before .before .picked-group .ensures) at (s .ensures .1))
 
 pub repeats-spec : {M : Type 1} → statement M
 repeats-spec =
@@ -87,16 +49,12 @@ repeats-spec =
     (λ c κs. search needs)
     (λ c κs. search needs)
     (λ c. search needs)
-    seen-requires
-    (λ c κs. search needs)
-    seen-requires-2
-    (λ c κs. search needs)
-    returns
-    seen-requires-3
-    seen-requires-4
-    seen-requires-5
+    head-repeats-requires
     returns-2
-    returns-3
-    returns-4
-    returns-5
-    returns-6)
+    (λ c κs. search needs)
+    (λ c. search needs)
+    (λ c κs. search needs)
+    add-place
+    (λ c κs. search needs)
+    seen-member-requires
+    returns-3)
