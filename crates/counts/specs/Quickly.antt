@@ -2,7 +2,7 @@
 use mathlib.Core.Path.{_≡_}
 use mathlib.Core.List.{List}
 use mathlib.Core.Bool.{true, false, _&&_, not}
-use Prim.Native.Nat.{ℕ, _+_, _≤_}
+use Prim.Native.Nat.{ℕ, _+_, _*_, _≤_}
 use lib.Dec.{eqb, ltb}
 use Rattle.columns.specs.Column.{pick, _⇒_∥_}
 use Rattle.sheet.specs.Format.{base}
@@ -15,29 +15,29 @@ use Rattle.counts.specs.WalkLaws.{Counted}
 -- ---- one line more
 -- a line that is counted by its letter, and tested
 abbrev pub exact : Quick → ℕ → Quick
-exact q x = record { known = q .known && not (past base (q .tally) x); members = q .members; tally = counted (q .tally) x }
+exact q x = record { known = q .known && not (past base (q .tally) x); letters = q .letters; tally = counted (q .tally) x }
 
--- a line that counts as a C or F line
+-- a line that counts as a C line below D, and else as an F line
 abbrev pub member : Quick → ℕ → Quick
 member q x =
     let t : Tally = q .tally in
     record {
       known = q .known;
-      members = q .members + 1;
+      letters = q .letters + x;
       tally = record {
         names = t .names;
         args = t .args;
         types = t .types;
         decls = t .decls;
         params = t .params;
-        ctors = t .ctors + pick (eqb x 67) 1 0;
-        fields = t .fields + pick (eqb x 70) 1 0;
+        ctors = t .ctors + pick (ltb x 68) 1 0;
+        fields = t .fields + pick (ltb 67 x) 1 0;
       };
     }
 
 -- a line that is not known
 abbrev pub unknown : Quick → Quick
-unknown q = record { known = false; members = q .members; tally = q .tally }
+unknown q = record { known = false; letters = q .letters; tally = q .tally }
 
 unfoldable pub stepped : Quick → ℕ → Quick
 stepped q x =
@@ -53,13 +53,13 @@ sum t = t .names + t .args + t .types + t .decls + t .params + t .ctors + t .fie
 -- all lines are known, and within their limits
 pub record Whole (q : Quick) : Type 0 where
   pub known : q .known ≡ true
-  pub members : q .members ≡ q .tally .ctors + q .tally .fields
+  pub letters : q .letters ≡ 67 * q .tally .ctors + 70 * q .tally .fields
   pub ctors : q .tally .ctors ≤ base .ctors
   pub fields : q .tally .fields ≤ base .fields
 
 -- Before line i: where all lines passed are known and within their limits, the counts are theirs and row 4 applies to none.
 pub record Right (ls : List Line) (i : ℕ) (q : Quick) : Type 0 where
   pub total : sum (q .tally) ≤ i
-  pub members : q .members ≤ i
-  pub parts : q .tally .ctors + q .tally .fields ≤ q .members
+  pub letters : q .letters ≤ 70 * i
+  pub most : q .letters ≤ 67 * q .tally .ctors + 70 * q .tally .fields
   pub right : Whole q → Counted base ls i (q .tally)

@@ -24,6 +24,9 @@ ghost use Rattle.counts.specs.Walk as walk;
 ghost use Rattle.counts.specs.WalkLaws.{Begins};
 ghost use Rattle.counts.specs.Quickly as quickly;
 
+// Sums of letters of no more cells than this fit.
+const LONG: usize = 4294967296;
+
 // The first line past a limit, or the count of lines; and then what the lines declare.
 pub struct Walked {
     pub past: usize,
@@ -86,10 +89,11 @@ fn declared(t: Tally) -> Counts
     }
 }
 
-// The counts after some lines, of which so many count as C or F lines; and whether the others are known and within their limits.
+// The counts after some lines; the sum of the letters of those that count as C or F lines, which tells whether they are; and whether
+// the others are known and within their limits.
 pub struct Quick {
     pub known: bool,
-    pub members: usize,
+    pub letters: usize,
     pub tally: Tally,
 }
 
@@ -115,29 +119,30 @@ fn exact(q: Quick, letter: u32) -> Quick
     let tally = limits::counted(before, letter);
     Quick {
         known,
-        members: q.members,
+        letters: q.letters,
         tally,
     }
 }
 
-// After a line that counts as a C or F line: both counts are made, since which of the two comes next cannot be foreseen.
+// After a line up to F, which counts as a C line below D and else as an F line: both counts are made, since which of the two comes next
+// cannot be foreseen. No sum of letters is as large as that of as many C and F lines.
 fn member(q: Quick, letter: u32) -> Quick
-    requires { ⌜ (quickly.sum (q .tally) < 1152921504606846976) × (q .members < 1152921504606846976) ⌝ }
+    requires { ⌜ (quickly.sum (q .tally) < 1152921504606846976) × (q .letters < 1152921504606846976) ⌝ }
     ensures { λ r. ⌜ r ≡ quickly.member q letter ⌝ }
 {
     let mut tally = q.tally;
-    tally.ctors += one(letter == 67);
-    tally.fields += one(letter == 70);
+    tally.ctors += one(letter < 68);
+    tally.fields += one(letter > 67);
     Quick {
         known: q.known,
-        members: q.members + 1,
+        letters: q.letters + letter as usize,
         tally,
     }
 }
 
 // After a line of this letter.
 fn stepped(q: Quick, letter: u32) -> Quick
-    requires { ⌜ (quickly.sum (q .tally) < 1152921504606846976) × (q .members < 1152921504606846976) ⌝ }
+    requires { ⌜ (quickly.sum (q .tally) < 1152921504606846976) × (q .letters < 1152921504606846976) ⌝ }
     ensures { λ r. ⌜ r ≡ quickly.stepped q letter ⌝ }
 {
     if letter > 70 {
@@ -153,7 +158,7 @@ fn stepped(q: Quick, letter: u32) -> Quick
         let tally = q.tally;
         return Quick {
             known: false,
-            members: q.members,
+            letters: q.letters,
             tally,
         };
     }
@@ -167,12 +172,20 @@ fn stepped(q: Quick, letter: u32) -> Quick
 fn quickly(t: &[u32], front: Runs) -> Quick
     requires { ⌜ Begins base (lines-of (now t)) front ⌝ }
     ensures { λ q. ⌜ quickly.Right (lines-of (now (t .entry))) (length (lines-of (now (t .entry)))) q ⌝ }
+    ensures { λ q. ⌜ (q .known ≡ true → length (now (t .entry)) ≤ 4294967296) ⌝ }
 {
     let n = t.len() / CELLS;
     let tally = headed(front);
+    if t.len() > LONG {
+        return Quick {
+            known: false,
+            letters: 0,
+            tally,
+        };
+    }
     let mut q = Quick {
         known: true,
-        members: 0,
+        letters: 0,
         tally,
     };
     let mut i = front.types;
@@ -185,7 +198,7 @@ fn quickly(t: &[u32], front: Runs) -> Quick
 
 // All lines are known, and within their limits.
 fn whole(q: Quick) -> bool
-    requires { ⌜ quickly.sum (q .tally) < 1152921504606846976 ⌝ }
+    requires { ⌜ (q .known ≡ true → quickly.sum (q .tally) ≤ 4294967296) ⌝ }
     ensures { λ r. ⌜ (r ≡ true → quickly.Whole q) ⌝ }
 {
     let ctors = q.tally.ctors;
@@ -193,7 +206,7 @@ fn whole(q: Quick) -> bool
     if !q.known {
         return false;
     }
-    if q.members != ctors + fields {
+    if q.letters != 67 * ctors + 70 * fields {
         return false;
     }
     if ctors > CTORS {

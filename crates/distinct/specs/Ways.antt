@@ -97,10 +97,6 @@ After l g d p f c r d' p' f' c' =
     × (f' ≡ marked Fields l (g .fields) f)
     × (c' ≡ marked Constructors l 1 c)
 
--- the groups, where a declaration begins
-abbrev pub begun : Groups → Groups
-begun g = record { params = g .params + 1; fields = g .fields + 1 }
-
 -- the groups, after the line
 abbrev pub groups-after : Line → Groups → Groups
 groups-after l g =

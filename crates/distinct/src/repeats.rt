@@ -136,18 +136,8 @@ pub fn repeats(
     seen_member(members, place, group)
 }
 
-// A declaration begins one for its parameters, and one for its fields.
-fn begun(g: Groups) -> Groups
-    requires { ⌜ (g .params < 65535) × (g .fields < 65535) ⌝ }
-    ensures { λ r. ⌜ r ≡ ways.begun g ⌝ }
-{
-    Groups {
-        params: g.params + 1,
-        fields: g.fields + 1,
-    }
-}
-
-// The groups after line i: each constructor too begins one for its fields.
+// The groups after line i: a declaration begins one for its parameters, and one for its fields, and
+// so does each constructor.
 pub fn groups_after(t: &[u32], i: usize, g: Groups) -> Groups
     requires { ⌜ (i < length (now t) / 6) × Lettered (rows.line-at (lines-of (now t)) i) ⌝ }
     requires { ⌜ (g .params < 65535) × (g .fields < 65535) ⌝ }
@@ -156,12 +146,18 @@ pub fn groups_after(t: &[u32], i: usize, g: Groups) -> Groups
     let letter = cells::letter(t, i);
     if letter > 70 {
         if letter == 73 {
-            return begun(g);
+            return Groups {
+                params: g.params + 1,
+                fields: g.fields + 1,
+            };
         }
         return g;
     }
     if letter == 68 {
-        return begun(g);
+        return Groups {
+            params: g.params + 1,
+            fields: g.fields + 1,
+        };
     }
     Groups {
         params: g.params,

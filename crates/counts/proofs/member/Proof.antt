@@ -2,7 +2,7 @@
 use native.Mathlib.Omega.{arith}
 use mathlib.Core.Bool.{Bool, true, false}
 use Prim.Native.Nat.{_≤_}
-use lib.Dec.{eqb}
+use lib.Dec.{ltb}
 use Rattle.columns.specs.Column.{pick}
 use borrow.Author.Needs.{needs}
 use Rattle.counts.proofs.member.Statement.{statement}
@@ -13,10 +13,10 @@ bit true = omega arith
 bit false = omega arith
 
 add-tally : tie.Need-add-tally
-add-tally c = omega (arith, bit (eqb (c .before .before .before .args .letter) 67), c .before .one .ensures)
+add-tally c = omega (arith, bit (ltb (c .before .before .before .args .letter) 68), c .before .one .ensures)
 
 add-tally-2 : tie.Need-add-tally-2
-add-tally-2 c = omega (arith, bit (eqb (c .before .before .before .before .before .args .letter) 70), c .before .one2 .ensures)
+add-tally-2 c = omega (arith, bit (ltb 67 (c .before .before .before .before .before .args .letter)), c .before .one2 .ensures)
 
 returns : tie.Need-returns
 returns c = rw (c .before .before .before .before .one .ensures, c .before .before .one2 .ensures)

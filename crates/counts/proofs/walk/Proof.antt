@@ -20,13 +20,13 @@ quickly-requires : tie.Need-quickly-requires
 quickly-requires c κs = started c
 
 whole-requires : tie.Need-whole-requires
-whole-requires c κs = omega (arith, c .quickly .ensures .total, length-lines-of (c .before .before .before .args .t .now))
+whole-requires c κs = λ k. omega (arith, c .quickly .ensures .0 .total, c .quickly .ensures .1 k, length-lines-of (c .before .before .before .args .t .now))
 
 returns : tie.Need-returns
 returns c =
     let q = c .before .before .before .before in
     let t = q .before .before .before .args .t .now in
-    let g = q .quickly .ensures .right (c .before .before .before .whole .ensures (c .before .before .if1 .taken)) in
+    let g = q .quickly .ensures .0 .right (c .before .before .before .whole .ensures (c .before .before .if1 .taken)) in
     (sym (g .none ∙ length-lines-of t), λ e. c .declared .ensures ∙ declared-all (lines-of t) (length (lines-of t)) (q .quickly .result .tally) refl (g .tally))
 
 searched-requires : tie.Need-searched-requires

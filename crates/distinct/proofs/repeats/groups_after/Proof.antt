@@ -1,5 +1,4 @@
 -- `repeats::groups_after` meets its contract, by the letter. Assumes nothing.
-use mathlib.Core.Path.{_∙_}
 use mathlib.Core.Logic.{inl, inr}
 use mathlib.Core.Bool.{Bool, true, false}
 use Prim.Native.Nat.{_≤_}
@@ -19,9 +18,9 @@ bit false = omega arith
 
 returns : tie.Need-returns
 returns c =
-    let m = c .before .before .before in
+    let m = c .before .before .before .before in
     let a = m .before .before in
-    c .begun .ensures ∙ groups-head (line-at (lines-of (a .args .t .now)) (a .args .i)) (a .args .g) (m .letter .result) (m .letter .ensures) (inr (c .before .if2 .taken))
+    groups-head (line-at (lines-of (a .args .t .now)) (a .args .i)) (a .args .g) (m .letter .result) (m .letter .ensures) (inr (c .before .before .if2 .taken))
 
 returns-2 : tie.Need-returns-2
 returns-2 c =
@@ -31,12 +30,12 @@ returns-2 c =
 
 returns-3 : tie.Need-returns-3
 returns-3 c =
-    let m = c .before .before .before in
+    let m = c .before .before .before .before in
     let a = m .before .before in
-    c .begun2 .ensures ∙ groups-head (line-at (lines-of (a .args .t .now)) (a .args .i)) (a .args .g) (m .letter .result) (m .letter .ensures) (inl (c .before .if3 .taken))
+    groups-head (line-at (lines-of (a .args .t .now)) (a .args .i)) (a .args .g) (m .letter .result) (m .letter .ensures) (inl (c .before .before .if3 .taken))
 
-add-t8 : tie.Need-add-t8
-add-t8 c = omega (arith, c .before .before .before .before .before .before .pre .1 .1, c .before .picked-group .ensures, bit (ltb (c .before .before .before .before .letter .result) 68))
+add-t12 : tie.Need-add-t12
+add-t12 c = omega (arith, c .before .before .before .before .before .before .pre .1 .1, c .before .picked-group .ensures, bit (ltb (c .before .before .before .before .letter .result) 68))
 
 returns-4 : tie.Need-returns-4
 returns-4 c =
@@ -49,11 +48,13 @@ groups-after-spec =
     tie.close
     (tie.spec
     (λ c κs. search needs)
-    (λ c κs. search needs)
+    (λ c. search needs)
+    (λ c. search needs)
     returns
     returns-2
-    (λ c κs. search needs)
+    (λ c. search needs)
+    (λ c. search needs)
     returns-3
     (λ c κs. search needs)
-    add-t8
+    add-t12
     returns-4)
