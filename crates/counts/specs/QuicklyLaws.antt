@@ -2,17 +2,17 @@
 use mathlib.Core.Path.{_≡_, refl, sym, _∙_}
 use mathlib.Core.List.{List}
 use mathlib.Core.Logic.{_⊎_, inl, inr}
-use mathlib.Core.Bool.{Bool, true, false, _&&_, not}
+use mathlib.Core.Bool.{Bool, true, false, not}
 use Prim.Native.Nat.{ℕ, suc, _+_, _*_, _≤_, _<_}
 use native.Mathlib.Omega.{arith}
 use native.Mathlib.Numerals.{add-one}
 use lib.Dec.{eqb, ltb}
 use lib.ListN.{length}
-use borrow.Author.Tests.{eqb-true, lt-leb, ltb-true, ltb-false}
+use borrow.Author.Tests.{eqb-true, lt-leb, ltb-true, ltb-false, not-true}
 use Rattle.columns.specs.Column.{pick, _⇒_∥_}
 use Rattle.sheet.specs.Format.{base}
 use Rattle.sheet.specs.Line.{Line, letter}
-use Rattle.sheet.specs.ListLaws.{false-true}
+use Rattle.sheet.specs.ListLaws.{both, false-true}
 use Rattle.sheet.specs.FirstLaws.{first-more}
 use Rattle.meaning.specs.Rows.{line-at, row4}
 use Rattle.limits.specs.declared.Tally.{Tally}
@@ -23,16 +23,6 @@ use Rattle.counts.specs.declared.Quick.{Quick}
 use Rattle.counts.specs.Walk.{headed}
 use Rattle.counts.specs.WalkLaws.{Counted, Begins}
 use Rattle.counts.specs.Quickly.{exact, member, unknown, stepped, Whole, Right}
-
--- both hold
-both-left : (a b : Bool) → (a && b) ≡ true → a ≡ true
-both-left true b e = refl
-both-left false b e = e
-
-both-right : (a b : Bool) → (a && not b) ≡ true → b ≡ false
-both-right true true e = sym e
-both-right true false e = refl
-both-right false b e = false-true e
 
 module _ (ls : List Line) (i : ℕ) (h : i < length ls) where
   -- a line of this letter that is not past its limit
@@ -49,8 +39,8 @@ module _ (ls : List Line) (i : ℕ) (h : i < length ls) where
       → Right ls i q → Whole (exact q x) → Counted base ls (suc i) (counted (q .tally) x)
   exact-next q x e c f r w =
       counted-next (q .tally) x e
-      (both-right (q .known) (past base (q .tally) x) (w .known))
-      (r .right (record { known = both-left (q .known) (not (past base (q .tally) x)) (w .known); letters = w .letters ∙ rw (c, f); ctors = rw c at (w .ctors); fields = rw f at (w .fields) }))
+      (not-true (past base (q .tally) x) (both (q .known) (not (past base (q .tally) x)) (w .known) .1))
+      (r .right (record { known = both (q .known) (not (past base (q .tally) x)) (w .known) .0; letters = w .letters ∙ rw (c, f); ctors = rw c at (w .ctors); fields = rw f at (w .fields) }))
 
   module _ (q : Quick) (r : Right ls i q) where
     after-exact : (x : ℕ) → letter (line-at ls i) ≡ x → (x ≡ 68) ⊎ ((x ≡ 73) ⊎ (x ≡ 80)) → Right ls (suc i) (exact q x)

@@ -1,24 +1,18 @@
 -- `counts::whole` meets its contract, test by test. Assumes nothing.
-use mathlib.Core.Path.{_≡_, refl, sym}
-use mathlib.Core.Bool.{Bool, true, false, not}
 use Prim.Native.Nat.{_≤_}
 use native.Mathlib.Omega.{arith}
-use borrow.Author.Tests.{leb-true}
+use borrow.Author.Tests.{leb-true, not-false}
 use Rattle.sheet.specs.ListLaws.{false-true}
 use Rattle.counts.specs.Quickly.{sum}
 use Rattle.counts.proofs.whole.Statement.{statement}
 use Rattle.counts.proofs.whole.Tie as tie
-
-not-not : (b : Bool) → not b ≡ false → b ≡ true
-not-not true e = refl
-not-not false e = sym e
 
 returns : tie.Need-returns
 returns c = λ z. false-true z
 
 -- the counts are small, where the lines are known
 bound : (c : tie.Else1) → sum (c .before .before .args .q .tally) ≤ 4294967296
-bound c = c .before .before .pre (not-not (c .before .before .args .q .known) (c .if1 .left))
+bound c = c .before .before .pre (not-false (c .before .before .args .q .known) (c .if1 .left))
 
 mul-if2 : tie.Need-mul-if2
 mul-if2 c = omega (arith, bound c)
@@ -39,7 +33,7 @@ returns-4 : tie.Need-returns-4
 returns-4 c = λ z.
     let a = c .before .before .before .before .before .args in
     record {
-      known = not-not (a .q .known) (c .before .before .before .if1 .left);
+      known = not-false (a .q .known) (c .before .before .before .if1 .left);
       letters = c .before .if2 .left;
       ctors = omega (arith, c .if3 .left);
       fields = leb-true (a .q .tally .fields) 512 z;

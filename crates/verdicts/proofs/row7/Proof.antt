@@ -1,11 +1,12 @@
 -- `verdicts::row7` meets its contract: every line passed is as it should be, and `d` is the declaration of the last of them.
 -- Assumes nothing.
 use mathlib.Core.Path.{_≡_, refl, sym, ap, _∙_}
-use mathlib.Core.Bool.{Bool, true, false, not}
+use mathlib.Core.Bool.{not}
 use Prim.Native.Nat.{_≤_, _-_, _<_}
 use native.Mathlib.Omega.{arith}
 use lib.ListN.{length}
 use borrow.Author.Needs.{needs}
+use borrow.Author.Tests.{not-false}
 use Rattle.sheet.specs.Sheet.{first}
 use Rattle.cells.specs.Cells.{lines-of}
 use Rattle.cells.specs.CellsLaws.{length-lines-of}
@@ -29,10 +30,6 @@ loop-holds c =
     let n = length-lines-of (a .args .t .now) in
     (omega (arith, n, from-le s (a .args .from) (a .pre)), in-header s (a .args .from) (a .pre) _ (sym n) refl refl (a .args .from) (omega arith), header-passes s (a .args .from) (a .pre) (record { head = length s; most = 0; kept = 0 }) refl refl refl)
 
-not-not : (b : Bool) → not b ≡ false → b ≡ true
-not-not true e = refl
-not-not false e = sym e
-
 -- row 7 applies at line i exactly if the line is not as it should be
 tested : (c : tie.After-good-line Inv-loop μ-loop) → c .before .before .loop .i < length (lines-of (c .before .before .before .before .args .t .now))
     → row7 (lines-of (c .before .before .before .before .args .t .now)) (c .before .before .loop .i) ≡ not (c .good-line .result)
@@ -53,7 +50,7 @@ decl-at-requires c κs =
     let t = c .before .before .before .before .before .args .t .now in
     let o = c .before .before .before .loop in
     let w : o .i < length (lines-of t) = omega (arith, length-lines-of t) in
-    (omega arith, o .inv .1 .0, in-bit (lines-of t) (o .i) w (o .d) (o .inv .1) (sym (c .before .good-line .ensures) ∙ not-not (c .before .good-line .result) (c .if1 .left)))
+    (omega arith, o .inv .1 .0, in-bit (lines-of t) (o .i) w (o .d) (o .inv .1) (sym (c .before .good-line .ensures) ∙ not-false (c .before .good-line .result) (c .if1 .left)))
 
 loop-again : tie.Need-loop-again Inv-loop μ-loop
 loop-again c =
