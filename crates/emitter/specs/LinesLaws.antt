@@ -1,21 +1,24 @@
 -- What stands in the output while the lines of nodes are written. Assumes nothing.
 use mathlib.Core.Path.{_≡_, refl, ap, sym, _∙_}
 use mathlib.Core.List.{List, [], _∷_, _++_, map, map-append}
-use mathlib.Core.Bool.{true, false}
+use mathlib.Core.Bool.{Bool, true, false}
 use Prim.Native.Nat.{ℕ, suc, _+_, _*_, _≤_, _<_}
 use native.Mathlib.Omega.{arith}
 use native.Mathlib.Numerals.{add-one}
 use native.Mathlib.Nat.{mul-le-mul-left}
+use lib.Dec.{eqb}
 use lib.ListN.{length, take, getD, length-map}
 use lib.Seq.{take-suc, length-take-le}
+use borrow.Author.Tests.{ne-eqb, eqb-true, eqb-false}
+use Rattle.columns.specs.Column.{pick}
 use Rattle.sheet.specs.Format.{lineBytes}
 use Rattle.sheet.specs.Line.{Line, row, encode}
 use Rattle.sheet.specs.LineLaws.{row-length}
 use Rattle.sheet.specs.Output.{putAt, puts}
 use Rattle.sheet.specs.OutputLaws.{Whole, length-put}
 use Rattle.meaning.specs.Program.{arg-line}
-use Rattle.normal.specs.Nodes.{Node}
-use Rattle.emitter.specs.Lines.{arg-row, has-list, listed}
+use Rattle.normal.specs.Nodes.{Node, first-of, y-first, y-second, y-third}
+use Rattle.emitter.specs.Lines.{y-row, arg-row, has-list, listed}
 
 -- ---- a run of lines
 pub puts-last : (w : ℕ) (out : List ℕ) (i : ℕ) (ls : List Line) (l : Line) → puts w out i (ls ++ (l ∷ [])) ≡ putAt w (puts w out i ls) (i + length ls) (encode w l)
@@ -55,3 +58,57 @@ pub args-more : (out ns : List ℕ) (i j : ℕ) → j < length ns → puts 6 out
 args-more out ns i j h =
     let e : length (map arg-row (take j ns)) ≡ j = length-map (take j ns) arg-row ∙ length-take-le j ns (omega arith) in
     rw (add-one, take-suc ns j 0 h, map-append arg-row (take j ns) (getD ns j 0 ∷ [])) (puts-last 6 out i (map arg-row (take j ns)) (arg-row (getD ns j 0)) ∙ rw e)
+
+-- ---- the Y line, by kinds that stand close
+module _ (x : Node) (ns : List ℕ) (a : ℕ) where
+  pub leaf-row : (x .kind ≡ 4 → ⊥) → x .kind < 7 → x .kind ∷ x .own ∷ 0 ∷ 0 ∷ 0 ∷ [] ≡ y-row x ns a
+  unfolding y-row y-first y-second y-third
+  leaf-row h k =
+      simp (
+        ne-eqb (x .kind) 4 h,
+        ne-eqb (x .kind) 7 (λ e. omega arith),
+        ne-eqb (x .kind) 8 (λ e. omega arith),
+        ne-eqb (x .kind) 9 (λ e. omega arith),
+        ne-eqb (x .kind) 10 (λ e. omega arith),
+        ne-eqb (x .kind) 11 (λ e. omega arith),
+        ne-eqb (x .kind) 12 (λ e. omega arith),
+      )
+
+  -- an arrow, a `TApp` or a tuple
+  pub inner-row : 7 ≤ x .kind → x .kind < 10
+      → x .kind
+      ∷ pick (eqb (x .kind) 9) (first-of a (x .count)) (pick (eqb (x .kind) 8) (x .own) (getD ns 0 0))
+      ∷ pick (eqb (x .kind) 8) (first-of a (x .count)) (pick (eqb (x .kind) 9) (x .count) (x .own))
+      ∷ pick (eqb (x .kind) 7) (getD ns 1 0) (pick (eqb (x .kind) 8) (x .count) 0)
+      ∷ 0
+      ∷ []
+      ≡ y-row x ns a
+  unfolding y-row y-first y-second y-third
+  inner-row h k = go (eqb (x .kind) 7) (eqb (x .kind) 8) refl refl
+    where
+      go : (p q : Bool) → eqb (x .kind) 7 ≡ p → eqb (x .kind) 8 ≡ q
+          → x .kind
+          ∷ pick (eqb (x .kind) 9) (first-of a (x .count)) (pick (eqb (x .kind) 8) (x .own) (getD ns 0 0))
+          ∷ pick (eqb (x .kind) 8) (first-of a (x .count)) (pick (eqb (x .kind) 9) (x .count) (x .own))
+          ∷ pick (eqb (x .kind) 7) (getD ns 1 0) (pick (eqb (x .kind) 8) (x .count) 0)
+          ∷ 0
+          ∷ []
+          ≡ y-row x ns a
+      go true q e f = rw (eqb-true (x .kind) 7 e)
+      go false true e f = rw (eqb-true (x .kind) 8 f)
+      go false false e f =
+          let z : x .kind ≡ 9 = omega (arith, eqb-false (x .kind) 7 e, eqb-false (x .kind) 8 f) in
+          rw z
+
+  -- one child
+  pub outer-row : 10 ≤ x .kind
+      → x .kind ∷ pick (eqb (x .kind) 10) (getD ns 0 0) (pick (eqb (x .kind) 12) (getD ns 0 0) (x .own)) ∷ pick (eqb (x .kind) 11) (getD ns 0 0) 0 ∷ 0 ∷ 0 ∷ []
+      ≡ y-row x ns a
+  unfolding y-row y-first y-second y-third
+  outer-row h =
+      simp (
+        ne-eqb (x .kind) 4 (λ e. omega arith),
+        ne-eqb (x .kind) 7 (λ e. omega arith),
+        ne-eqb (x .kind) 8 (λ e. omega arith),
+        ne-eqb (x .kind) 9 (λ e. omega arith),
+      )

@@ -3,6 +3,7 @@ ghost use mathlib.Core.Path.{_≡_};
 ghost use mathlib.Core.List.{map};
 ghost use Prim.Native.Nat.{_+_, _*_, _≤_};
 ghost use lib.ListN.{length, getD};
+ghost use Rattle.columns.specs.Column as col;
 ghost use Rattle.sheet.specs.Output.{puts};
 ghost use Rattle.normal.specs.Nodes.{taken, first-of};
 ghost use Rattle.nodes.specs.Words.{node-of};
@@ -32,7 +33,14 @@ fn first_of(a: u32, n: u32) -> u32
     a
 }
 
-// The numbers of a node's Y line; ns are its children, and a the A lines that are written before its own.
+fn pick(b: bool, x: u32, y: u32) -> u32
+    ensures { λ r. ⌜ r ≡ col.pick b x y ⌝ }
+{
+    if b { x } else { y }
+}
+
+// The numbers of a node's Y line; ns are its children, and a the A lines that are written before its own. Kinds that stand close go one
+// way, on which values are picked: which kind follows which cannot be foreseen.
 pub fn y_numbers(w: u64, ns: &[u32], a: u32) -> [u32; 5]
     ensures { λ r. ⌜ r ≡ y-row (node-of w) (now (ns .entry)) a ⌝ }
 {
@@ -44,13 +52,21 @@ pub fn y_numbers(w: u64, ns: &[u32], a: u32) -> [u32; 5]
     let f = first_of(a, n);
     match k {
         4 => [k, n, x, 0, 0],
-        7 => [k, l, x, r, 0],
-        8 => [k, x, f, n, 0],
-        9 => [k, f, n, 0, 0],
-        10 => [k, l, 0, 0, 0],
-        11 => [k, x, l, 0, 0],
-        12 => [k, l, 0, 0, 0],
-        _ => [k, x, 0, 0, 0],
+        0..=6 => [k, x, 0, 0, 0],
+        7..=9 => [
+            k,
+            pick(k == 9, f, pick(k == 8, x, l)),
+            pick(k == 8, f, pick(k == 9, n, x)),
+            pick(k == 7, r, pick(k == 8, n, 0)),
+            0,
+        ],
+        _ => [
+            k,
+            pick(k == 10, l, pick(k == 12, l, x)),
+            pick(k == 11, l, 0),
+            0,
+            0,
+        ],
     }
 }
 

@@ -1,9 +1,9 @@
--- `node_lines::y_numbers` meets its contract, kind by kind. Assumes nothing.
-use mathlib.Core.Path.{_≡_}
+-- `node_lines::y_numbers` meets its contract, by kinds that stand close. Assumes nothing.
 use borrow.Author.Needs.{needs}
-use borrow.Author.Tests.{ne-eqb}
 use Rattle.normal.specs.Nodes.{y-first, y-second, y-third}
+use Rattle.nodes.specs.Words.{node-of}
 use Rattle.emitter.specs.Lines.{y-row}
+use Rattle.emitter.specs.LinesLaws.{leaf-row, inner-row, outer-row}
 use Rattle.emitter.proofs.node_lines.y_numbers.Statement.{statement}
 use Rattle.emitter.proofs.node_lines.y_numbers.Tie as tie
 
@@ -12,34 +12,37 @@ unfolding y-row y-first y-second y-third
 returns c = rw (← (c .before .before .before .before .before .before .kind .ensures), c .match .keys1, ← (c .before .before .before .before .before .count .ensures), ← (c .before .before .before .before .own .ensures))
 
 returns-2 : tie.Need-returns-2
-unfolding y-row y-first y-second y-third
-returns-2 c = rw (← (c .before .before .before .before .before .before .kind .ensures), c .match .keys2, ← (c .before .before .before .nth .ensures), ← (c .before .before .before .before .own .ensures), ← (c .before .before .nth2 .ensures))
+returns-2 c =
+    let a = c .before .before .before .before .before .before .before .before .before .args in
+    let k = c .before .before .before .before .before .before .before .kind .ensures in
+    rw (c .before .before .before .before .before .own .ensures, k) (leaf-row (node-of (a .w)) (a .ns .now) (a .a) (rw k at (c .before .match .rest .1)) (rw k at (c .if1 .taken)))
 
 returns-3 : tie.Need-returns-3
-unfolding y-row y-first y-second y-third
-returns-3 c = rw (← (c .before .before .before .before .before .before .kind .ensures), c .match .keys3, ← (c .before .before .before .before .own .ensures), ← (c .before .before .before .before .before .count .ensures), ← (c .before .first-of .ensures))
+returns-3 c =
+    let a = c .before .before .before .before .before .before .before .before .before .before .before .before .before .before .before .before .args in
+    let k = c .before .before .before .before .before .before .before .before .before .before .before .before .before .before .kind .ensures in
+    rw (
+      c .before .before .before .before .pick2 .ensures,
+      c .before .before .before .before .before .pick .ensures,
+      c .before .before .pick4 .ensures,
+      c .before .before .before .pick3 .ensures,
+      c .pick6 .ensures,
+      c .before .pick5 .ensures,
+      c .before .before .before .before .before .before .before .before .before .first-of .ensures,
+      c .before .before .before .before .before .before .before .before .before .before .nth2 .ensures,
+      c .before .before .before .before .before .before .before .before .before .before .before .nth .ensures,
+      c .before .before .before .before .before .before .before .before .before .before .before .before .own .ensures,
+      c .before .before .before .before .before .before .before .before .before .before .before .before .before .count .ensures,
+      k,
+    )
+    (inner-row (node-of (a .w)) (a .ns .now) (a .a) (rw k at (c .before .before .before .before .before .before .before .if1 .left)) (rw k at (c .before .before .before .before .before .before .if2 .taken)))
 
 returns-4 : tie.Need-returns-4
-unfolding y-row y-first y-second y-third
-returns-4 c = rw (← (c .before .before .before .before .before .before .kind .ensures), c .match .keys4, ← (c .before .before .before .before .before .count .ensures), ← (c .before .first-of .ensures))
-
-returns-5 : tie.Need-returns-5
-unfolding y-row y-first y-second y-third
-returns-5 c = rw (← (c .before .before .before .before .before .before .kind .ensures), c .match .keys5, ← (c .before .before .before .nth .ensures))
-
-returns-6 : tie.Need-returns-6
-unfolding y-row y-first y-second y-third
-returns-6 c = rw (← (c .before .before .before .before .before .before .kind .ensures), c .match .keys6, ← (c .before .before .before .before .own .ensures), ← (c .before .before .before .nth .ensures))
-
-returns-7 : tie.Need-returns-7
-unfolding y-row y-first y-second y-third
-returns-7 c = rw (← (c .before .before .before .before .before .before .kind .ensures), c .match .keys7, ← (c .before .before .before .nth .ensures))
-
-returns-8 : tie.Need-returns-8
-unfolding y-row y-first y-second y-third
-returns-8 c =
-    let r = c .match .rest in
-    rw (← (c .before .before .before .before .before .before .kind .ensures), ne-eqb _ 4 (r .0 .0 .0 .0 .0 .0 .1), ne-eqb _ 7 (r .0 .0 .0 .0 .0 .1), ne-eqb _ 8 (r .0 .0 .0 .0 .1), ne-eqb _ 9 (r .0 .0 .0 .1), ne-eqb _ 10 (r .0 .0 .1), ne-eqb _ 11 (r .0 .1), ne-eqb _ 12 (r .1), ← (c .before .before .before .before .own .ensures))
+returns-4 c =
+    let a = c .before .before .before .before .before .before .before .before .before .before .before .before .before .args in
+    let k = c .before .before .before .before .before .before .before .before .before .before .before .kind .ensures in
+    rw (c .before .pick8 .ensures, c .before .before .pick7 .ensures, c .pick9 .ensures, c .before .before .before .before .before .before .before .before .nth .ensures, c .before .before .before .before .before .before .before .before .before .own .ensures, k)
+    (outer-row (node-of (a .w)) (a .ns .now) (a .a) (rw k at (c .before .before .before .if2 .left)))
 
 pub y-numbers-spec : {M : Type 1} → statement M
 y-numbers-spec =
@@ -51,11 +54,16 @@ y-numbers-spec =
     (λ c κs. search needs)
     (λ c κs. search needs)
     (λ c κs. search needs)
+    (λ c κs. search needs)
+    (λ c κs. search needs)
+    (λ c κs. search needs)
+    (λ c κs. search needs)
+    (λ c κs. search needs)
+    (λ c κs. search needs)
+    (λ c κs. search needs)
+    (λ c κs. search needs)
+    (λ c κs. search needs)
     returns
     returns-2
     returns-3
-    returns-4
-    returns-5
-    returns-6
-    returns-7
-    returns-8)
+    returns-4)
