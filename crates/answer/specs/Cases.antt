@@ -10,7 +10,7 @@ use Prim.Native.String.{String}
 use Prim.Native.Char.{code}
 use lib.Dec.{eqb}
 use lib.ListN.{getD}
-use Rattle.columns.specs.Column.{pick, step, scan, read, shown, write}
+use Rattle.number_columns.specs.Column.{pick, step, scan, read, shown, write}
 use Rattle.sheet.specs.Format.{Format, base}
 use Rattle.sheet.specs.Line.{row, encode, decode, decodeNamed, decodeRow, cell, spelling, spaces, proper, padded, lettered, writes}
 use Rattle.sheet.specs.Sheet.{first, lineAt, count, line, linesFrom, lines, encodes, row1}

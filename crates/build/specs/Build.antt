@@ -6,13 +6,13 @@ use Prim.Native.Nat.{ℕ, _+_, _*_, _≤_}
 use lib.ListN.{length}
 use Rattle.sheet.specs.Format.{base}
 use Rattle.sheet.specs.Sheet.{count, lines, row1, row2}
-use Rattle.cells.specs.Cells.{bare}
+use Rattle.walk_cells.specs.Cells.{bare}
 use Rattle.answer.specs.declared.Refusal.the-variants.{Accepted}
 use Rattle.answer.specs.Answer.{sheet-rows, refusal}
-use Rattle.limits.specs.declared.Counts.{Counts}
-use Rattle.limits.specs.Limits.{counts-of}
-use Rattle.declared.specs.Passed.{Bounded, Passed}
-use Rattle.tables.specs.declared.Sizes.{Sizes}
+use Rattle.row4_limits.specs.declared.Counts.{Counts}
+use Rattle.row4_limits.specs.Limits.{counts-of}
+use Rattle.table_declared.specs.Passed.{Bounded, Passed}
+use Rattle.table_access.specs.declared.Sizes.{Sizes}
 use Rattle.table_index.specs.Index.{Ready, behind, lines-behind}
 
 -- None of rows 1 to 7 applies.

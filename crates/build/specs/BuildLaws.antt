@@ -10,27 +10,27 @@ use Rattle.sheet.specs.Format.{base}
 use Rattle.sheet.specs.Line.{Line}
 use mathlib.Core.Bool.{false}
 use Rattle.sheet.specs.Sheet.{count, lines, row1}
-use Rattle.cells.specs.Cells.{lines-of}
-use Rattle.bares.specs.PlaceLaws.{count-bare}
+use Rattle.walk_cells.specs.Cells.{lines-of}
+use Rattle.meaning_bares.specs.PlaceLaws.{count-bare}
 use Rattle.answer.specs.declared.Refusal.{Refusal}
 use Rattle.answer.specs.declared.Refusal.the-variants.{Accepted, Refused}
 use Rattle.answer.specs.Answer.{sheet-rows, refusal}
 use Rattle.answer.specs.Cut.{Call}
-use Rattle.limits.specs.declared.Counts.{Counts}
-use Rattle.limits.specs.Limits.{counts-of}
-use Rattle.declared.specs.Passed.{Passed}
-use Rattle.refusals.specs.declared.Checked as rows
-use Rattle.refusals.specs.Rows.{with-counts, checked-of, Checks}
-use Rattle.refusals.specs.RowsLaws.{checked-accepted}
-use Rattle.tables.specs.declared.Sizes.{Sizes}
-use Rattle.tables.specs.Tables.{sizes-of, cell-count, lines-in, Tabled}
+use Rattle.row4_limits.specs.declared.Counts.{Counts}
+use Rattle.row4_limits.specs.Limits.{counts-of}
+use Rattle.table_declared.specs.Passed.{Passed}
+use Rattle.rows_refusals.specs.declared.Checked as rows
+use Rattle.rows_refusals.specs.Rows.{with-counts, checked-of, Checks}
+use Rattle.rows_refusals.specs.RowsLaws.{checked-accepted}
+use Rattle.table_access.specs.declared.Sizes.{Sizes}
+use Rattle.table_access.specs.Tables.{sizes-of, cell-count, lines-in, Tabled}
 use Rattle.table_index.specs.Index.{behind, lines-behind}
 use Rattle.table_index.specs.Sizing.{Counted}
 use Rattle.table_index.specs.SizingLaws.{count-all, cells-few}
-use Rattle.built.specs.declared.Built.{Built}
-use Rattle.built.specs.Built.{refused-as, Gives, given}
-use Rattle.built.specs.BuiltLaws.{rows-sheet, gives-refused}
-use Rattle.deciding.specs.Deciding.{Read}
+use Rattle.answer_built.specs.declared.Built.{Built}
+use Rattle.answer_built.specs.Built.{refused-as, Gives, given}
+use Rattle.answer_built.specs.BuiltLaws.{rows-sheet, gives-refused}
+use Rattle.build_deciding.specs.Deciding.{Read}
 use Rattle.build.specs.Build.{Checked, Lined}
 
 -- ---- the cells of lines in the table

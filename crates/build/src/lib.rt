@@ -1,19 +1,19 @@
 // The layout build: a sheet and two outputs go in; code, place and rounds come out, and on acceptance both sheets stand in the outputs.
 use answer::Refusal;
-use built::Built;
-use cells::CELLS;
-use limits::Counts;
-use parts::LINE;
-use tables::HEADER;
-use tables::Sizes;
+use answer_built::Built;
+use row4_limits::Counts;
+use sheet_parts::LINE;
+use table_access::HEADER;
+use table_access::Sizes;
+use walk_cells::CELLS;
 ghost use mathlib.Core.Path.{_≡_};
 ghost use mathlib.Core.Bool.{false};
 ghost use Prim.Native.Nat.{_+_, _*_, _≤_};
 ghost use lib.ListN.{length};
 ghost use Rattle.sheet.specs.Format.{base};
 ghost use Rattle.sheet.specs.Sheet.{count, row1};
-ghost use Rattle.built.specs.Built.{Gives};
-ghost use Rattle.deciding.specs.Deciding.{Read};
+ghost use Rattle.answer_built.specs.Built.{Gives};
+ghost use Rattle.build_deciding.specs.Deciding.{Read};
 ghost use Rattle.build.specs.Build.{Checked, Lined};
 
 // Bytes of 58, 126, 254, 386 and 1,024 lines, whose tables fit 480, 1,024, 2,048, 3,104 and 8,208 cells: eight for each line, and 16 for
@@ -33,11 +33,11 @@ fn tabled(s: &[u8], t: &[u32], v: &mut [u8], l: &mut [u8]) -> Built
     requires { ⌜ Read (now s) (now t) ⌝ }
     ensures { λ r. ⌜ Gives (now (s .entry)) (now (v .entry)) (now (l .entry)) r (now (v .exit)) (now (l .exit)) ⌝ }
 {
-    let n = tables::decls(t);
+    let n = table_access::decls(t);
     let mut keep = [0u8; 512];
     let mut u = [0u16; 192];
     let mut rank = [0u16; 96];
-    deciding::decided(s, t, &mut keep, &mut u[0..2 * n], &mut rank[0..n], v, l)
+    build_deciding::decided(s, t, &mut keep, &mut u[0..2 * n], &mut rank[0..n], v, l)
 }
 
 // Lines whose cells stand in the table, and memory for its index.
@@ -67,12 +67,12 @@ fn checked(s: &[u8], t: &mut [u32], v: &mut [u8], l: &mut [u8]) -> Built
 {
     let n = s.len() / LINE;
     let end = HEADER + n * CELLS;
-    let checked = refusals::check_rows(s, &mut t[HEADER..end]);
+    let checked = rows_refusals::check_rows(s, &mut t[HEADER..end]);
     let refusal = checked.refusal;
     let counts = checked.counts;
     match refusal {
         Refusal::Accepted => passed(s, t, counts, v, l),
-        Refusal::Refused { code, place } => built::refused(code, place),
+        Refusal::Refused { code, place } => answer_built::refused(code, place),
     }
 }
 
@@ -80,8 +80,8 @@ fn checked(s: &[u8], t: &mut [u32], v: &mut [u8], l: &mut [u8]) -> Built
 pub fn build(s: &[u8], v: &mut [u8], l: &mut [u8]) -> Built
     ensures { λ r. ⌜ Gives (now (s .entry)) (now (v .entry)) (now (l .entry)) r (now (v .exit)) (now (l .exit)) ⌝ }
 {
-    if format::row1(s) {
-        return built::refused(1, 0);
+    if walk_decode::format::row1(s) {
+        return answer_built::refused(1, 0);
     }
     if s.len() <= TINY {
         let mut t = [0u32; 480];

@@ -47,9 +47,9 @@ use Rattle.model_laws.specs.Erasure.{erasure-solves, erasure-least, erasure-mad
 use Rattle.model_laws.specs.Layout as layouts
 use Rattle.model_laws.specs.Cty.{every-mem}
 use Rattle.model_laws.specs.Run.{getD-infos, local-info, import-info, import-layout}
-use Rattle.locality.specs.Laws.Locality.{marks-local, layouts-local, info-local, left-local, fault-local, returns-local}
-use Rattle.locality.specs.Laws.Fuel.{fuel-same}
-use Rattle.locality.specs.Laws.Rename.{Injective, rename-decls, SameRenamed, locality-renamed}
+use Rattle.model_locality.specs.Laws.Locality.{marks-local, layouts-local, info-local, left-local, fault-local, returns-local}
+use Rattle.model_locality.specs.Laws.Fuel.{fuel-same}
+use Rattle.model_locality.specs.Laws.Rename.{Injective, rename-decls, SameRenamed, locality-renamed}
 use Rattle.answer.specs.Laws.Answer.{sheets, build-passes, accepted-passes, passes-accepted, Nothing, refused-nothing, after-length, after-past}
 use Rattle.answer.specs.Laws.Left.{pass-no-return, pass-resolved, few-decls, left-sheet-names}
 use Rattle.answer.specs.Laws.Build.{Split, split-steps, split-nothing, prefix-verdict, prefix-left-table, pass-whole, verdict-sheet-length, verdict-sheet-lines, passes-whole}
@@ -294,7 +294,7 @@ cut = cut-builds
 -- one call with the whole sheet. All calls have outputs of v and l bytes, and whatever these held: every call
 -- shows code 0 exactly where the whole's does, and then the last call's outputs and the whole's begin with
 -- the same two sheets, past which each output holds what it held.
--- How this is about the code: the contract of `build::build` is `Gives` (`built`), whose equation is the one that a
+-- How this is about the code: the contract of `build::build` is `Gives` (`answer_built`), whose equation is the one that a
 -- `Call` holds: what the call gave, `given r v′ l′`, is `called base b v l`. So a call of `build` is a `Call base`
 -- (`call-of` in `build`), with nothing to be shown beside it, and calls made in turn are the list that is spoken of here.
 pub cut-calls : (f : Format) (v l : ℕ) (b header u : List ℕ) (us : List (List ℕ)) → 0 < f .columns → Cut (f .columns) b header (u ∷ us)

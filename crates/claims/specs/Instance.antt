@@ -5,7 +5,7 @@ use mathlib.Core.Bool.{Bool, true}
 use Prim.Native.Nat.{ℕ}
 use Prim.Native.String.{String}
 use native.Mathlib.Omega.{arith}
-use Rattle.columns.specs.Column.{step, scan, read}
+use Rattle.number_columns.specs.Column.{step, scan, read}
 use Rattle.sheet.specs.Format.{base}
 use Rattle.sheet.specs.Line.{decode, decodeNamed, decodeRow, cell, spelling, spaces, proper, lettered}
 use Rattle.sheet.specs.Sheet.{first, lineAt, line, linesFrom, lines}

@@ -5,7 +5,7 @@ use Prim.Native.Nat.{ℕ, zero, suc, _<_}
 use native.Mathlib.Omega.{arith}
 use lib.ListN.{length, getD, replicate}
 use Rattle.form_tables.specs.Bounds.{Starts, Ends}
-use Rattle.rank_forms.specs.Next.{Within}
+use Rattle.form_ranks.specs.Next.{Within}
 
 pub within : (rank : List ℕ) (n r : ℕ) (start end : List ℕ) → Starts rank (length start) start → Ends rank (length end) end → length rank ≡ n → r < length start → r < length end
     → Within rank n r (getD start r 0) (getD end r 0)

@@ -5,9 +5,9 @@ ghost use mathlib.Core.Path.{_≡_};
 ghost use Prim.Native.Nat.{ℕ, _*_, _≤_, _<_};
 ghost use lib.ListN.{length, getD};
 ghost use Rattle.sheet.specs.Format.{base};
-ghost use Rattle.declared.specs.Passed.{Bounded};
-ghost use Rattle.tables.specs.Tables.{decls-of, lines-in};
-ghost use Rattle.normal_forms.specs.Ranks.{Ranked, Formed};
+ghost use Rattle.table_declared.specs.Passed.{Bounded};
+ghost use Rattle.table_access.specs.Tables.{decls-of, lines-in};
+ghost use Rattle.form_normal.specs.Ranks.{Ranked, Formed};
 ghost use Rattle.form_tables.specs.Bounds.{Starts, Ends};
 
 // Zeros in the first k cells.
@@ -35,13 +35,13 @@ fn ranked(
     requires { ⌜ (decls-of (lines-in (now t)) ≤ length (now start)) × (decls-of (lines-in (now t)) ≤ length (now end)) ⌝ }
     ensures { λ e. ⌜ Formed (lines-in (now (t .entry))) (now (u .entry)) (now (rank .entry)) (length (now (scratch .entry))) (now (f .entry)) (now (f .exit)) e ⌝ }
 {
-    let n = tables::decls(t);
+    let n = table_access::decls(t);
     clear(f, 2 * n);
     let mut p = 2 * n;
     for r in 0..n {
         let from = start[r] as usize;
         let to = end[r] as usize;
-        p = rank_forms::forms_of_rank(t, u, rank, f, scratch, r, from, to, p);
+        p = form_ranks::forms_of_rank(t, u, rank, f, scratch, r, from, to, p);
         if p > f.len() {
             return p;
         }

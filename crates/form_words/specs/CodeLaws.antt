@@ -16,19 +16,19 @@ use Rattle.model.specs.Decl.{position}
 use Rattle.meaning.specs.Program.{type-line, program}
 use Rattle.meaning.specs.Rows.{count-of}
 use Rattle.model.specs.Resolve.{gone, newtype, abbreviation, stays}
-use Rattle.declared.specs.Passed.{Passed}
-use Rattle.kids.specs.Nodes.{y-line, kind-of, type-of, kids-of, kid-of}
-use Rattle.arguments.specs.Params.{params-of}
-use Rattle.normal.specs.Nodes.{node}
-use Rattle.nodes.specs.Words.{word, node-of}
-use Rattle.node_words.specs.Own.{y-node}
-use Rattle.node_words.specs.Put.{Put, put-none, put-more, put-stop}
-use Rattle.copies.specs.Stands.{stands-put}
-use Rattle.states.specs.States.{unfold-at, lay-of}
+use Rattle.table_declared.specs.Passed.{Passed}
+use Rattle.resolve_kids.specs.Nodes.{y-line, kind-of, type-of, kids-of, kid-of}
+use Rattle.resolve_kids.specs.Params.{params-of}
+use Rattle.form_laws.specs.Nodes.{node}
+use Rattle.form_nodes.specs.Words.{word, node-of}
+use Rattle.form_node_words.specs.Own.{y-node}
+use Rattle.form_node_words.specs.Put.{Put, put-none, put-more, put-stop}
+use Rattle.form_node_words.specs.Stands.{stands-put}
+use Rattle.state_cells.specs.States.{unfold-at, lay-of}
 use Rattle.form_words.specs.Emit.{run, step, filled, grown, form-words, words, kid-words, Asked}
 use Rattle.form_words.specs.Filling.{leaf, leaf-var, leaf-own}
-use Rattle.declared.specs.PassedLaws.{args-few}
-use Rattle.kids.specs.NodesLaws.{node-at, kids-8}
+use Rattle.table_declared.specs.PassedLaws.{args-few}
+use Rattle.resolve_kids.specs.NodesLaws.{node-at, kids-8}
 use Rattle.form_words.specs.EmitLaws.{words-var, words-plain, words-gone, words-stays, placed-words, words-exact, words-placed}
 
 -- other words that are the same

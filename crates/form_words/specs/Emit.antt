@@ -10,14 +10,14 @@ use Rattle.sheet.specs.Line.{Line}
 use Rattle.model.specs.Decl.{position}
 use Rattle.meaning.specs.Program.{program, type-line}
 use Rattle.meaning.specs.Rows.{count-of}
-use Rattle.tables.specs.Tables.{decls-of, TableOf}
-use Rattle.kids.specs.Nodes.{type-of, kid-of}
-use Rattle.arguments.specs.Params.{params-of}
-use Rattle.normal.specs.Nodes.{Node, node}
-use Rattle.normal.specs.Forms.{nodes}
-use Rattle.node_words.specs.Own.{label}
-use Rattle.nodes.specs.Words.{word, node-of}
-use Rattle.states.specs.States.{lay-of}
+use Rattle.table_access.specs.Tables.{decls-of, TableOf}
+use Rattle.resolve_kids.specs.Nodes.{type-of, kid-of}
+use Rattle.resolve_kids.specs.Params.{params-of}
+use Rattle.form_laws.specs.Nodes.{Node, node}
+use Rattle.form_laws.specs.Forms.{nodes}
+use Rattle.form_node_words.specs.Own.{label}
+use Rattle.form_nodes.specs.Words.{word, node-of}
+use Rattle.state_cells.specs.States.{lay-of}
 
 -- ---- words one after the other
 -- what g gives for n numbers from a on

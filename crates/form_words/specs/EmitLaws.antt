@@ -9,7 +9,7 @@ use lib.Dec.{eqb, ltb}
 use lib.ListN.{length, drop, length-append, length-drop, drop-of-length-le, List·getD-append, List·getD-eq-default}
 use lib.Seq.{drop-append-le, getD-append-seam}
 use borrow.Author.Tests.{eqb-true, eqb-false, ltb-true, ltb-false}
-use Rattle.columns.specs.Column.{_⇒_∥_}
+use Rattle.number_columns.specs.Column.{_⇒_∥_}
 use Rattle.sheet.specs.Line.{Line, number}
 use Rattle.sheet.specs.ListLaws.{Every, every-append}
 use Rattle.model.specs.Cty.{Cty, Ctys, TUnit, TAny, TExn, TVar, TInt, TFloat, TConst, TArrow, TApp, TTuple, TBuf, TRef, TInline, nil, cons, append, lengths}
@@ -17,19 +17,19 @@ use Rattle.model.specs.Decl.{member, position}
 use Rattle.meaning.specs.Program.{type-line, program, tree, trees, list-of}
 use Rattle.meaning.specs.Rows.{count-of}
 use Rattle.model.specs.Resolve.{Unfold, gone, newtype, abbreviation, stays}
-use Rattle.declared.specs.Passed.{Passed}
-use Rattle.outcomes.specs.Answer.{parts, plain, listed}
-use Rattle.kids.specs.Nodes.{y-line, kind-of, type-of, kids-of, kid-of}
-use Rattle.kids.specs.NodesLaws.{node-at, var-type, app-type, plain-type, parts-of}
-use Rattle.type_lines.specs.TypeLists.{types-of}
-use Rattle.declared.specs.TypeLaws.{type-tree}
-use Rattle.node_words.specs.Own.{y-count, y-own, y-node, label}
-use Rattle.arguments.specs.Params.{params-of}
-use Rattle.normal.specs.Nodes.{Node, node, spread, attached}
-use Rattle.normal.specs.Forms.{joined, argument, placed, named, variable, nodes, nodes-each}
-use Rattle.nodes.specs.Words.{word, node-of}
-use Rattle.nodes.specs.WordsLaws.{node-cut, word-grown, node-small}
-use Rattle.states.specs.States.{lay-of}
+use Rattle.table_declared.specs.Passed.{Passed}
+use Rattle.resolve_outcomes.specs.Answer.{parts, plain, listed}
+use Rattle.resolve_kids.specs.Nodes.{y-line, kind-of, type-of, kids-of, kid-of}
+use Rattle.resolve_kids.specs.NodesLaws.{node-at, var-type, app-type, plain-type, parts-of}
+use Rattle.row5_types.specs.TypeLists.{types-of}
+use Rattle.table_declared.specs.TypeLaws.{type-tree}
+use Rattle.form_node_words.specs.Own.{y-count, y-own, y-node, label}
+use Rattle.resolve_kids.specs.Params.{params-of}
+use Rattle.form_laws.specs.Nodes.{Node, node, spread, attached}
+use Rattle.form_laws.specs.Forms.{joined, argument, placed, named, variable, nodes, nodes-each}
+use Rattle.form_nodes.specs.Words.{word, node-of}
+use Rattle.form_nodes.specs.WordsLaws.{node-cut, word-grown, node-small}
+use Rattle.state_cells.specs.States.{lay-of}
 use Rattle.form_words.specs.Emit.{run, step, filled, grown, form-words, form-of, words, kid-words}
 
 -- ---- lists of lists

@@ -8,12 +8,12 @@ use lib.Dec.{eqb, ltb}
 use borrow.Author.Tests.{eqb-true, eq-eqb, ne-eqb, lt-ltb, le-ltb}
 use Rattle.sheet.specs.Line.{Line, number}
 use Rattle.model.specs.Decl.{member}
-use Rattle.kids.specs.Nodes.{y-line, kind-of, kids-of, kid-of}
-use Rattle.arguments.specs.Params.{params-of}
-use Rattle.normal.specs.Nodes.{node}
-use Rattle.normal.specs.Forms.{variable}
-use Rattle.node_words.specs.Own.{y-node, label}
-use Rattle.nodes.specs.Words.{word, node-of}
+use Rattle.resolve_kids.specs.Nodes.{y-line, kind-of, kids-of, kid-of}
+use Rattle.resolve_kids.specs.Params.{params-of}
+use Rattle.form_laws.specs.Nodes.{node}
+use Rattle.form_laws.specs.Forms.{variable}
+use Rattle.form_node_words.specs.Own.{y-node, label}
+use Rattle.form_nodes.specs.Words.{word, node-of}
 use Rattle.form_words.specs.Emit.{step, words, kid-words}
 
 -- a variable or a node of its own

@@ -3,16 +3,16 @@ ghost use mathlib.Core.Path.{_≡_};
 ghost use Prim.Native.Nat.{_<_};
 ghost use Rattle.meaning.specs.Program.{type-line};
 ghost use Rattle.meaning.specs.Rows.{count-of};
-ghost use Rattle.tables.specs.Tables as tables;
+ghost use Rattle.table_access.specs.Tables as tables;
 ghost use Rattle.form_words.specs.Filling.{leaf, Argument, left};
-use kids::kid;
-use kids::kids;
-use node_words::own_word;
-use node_words::variable_word;
-use nodes::count;
-use nodes::kind;
-use nodes::own;
-use nodes::pack;
+use form_node_words::own_word;
+use form_node_words::variable_word;
+use form_nodes::count;
+use form_nodes::kind;
+use form_nodes::own;
+use form_nodes::pack;
+use resolve_kids::kid;
+use resolve_kids::kids;
 
 // The word of a type that has no parts.
 pub fn leaf_word(t: &[u32], y: usize, d: usize, places: bool) -> u64
@@ -20,9 +20,9 @@ pub fn leaf_word(t: &[u32], y: usize, d: usize, places: bool) -> u64
     requires { ⌜ (y < count-of type-line (tables.lines-in (now t))) × (d < tables.decls-of (tables.lines-in (now t))) ⌝ }
     ensures { λ r. ⌜ r ≡ leaf (tables.lines-in (now (t .entry))) d places y ⌝ }
 {
-    let k = tables::type_number(t, y, 0);
+    let k = table_access::type_number(t, y, 0);
     if k == 3 {
-        let v = tables::type_number(t, y, 1);
+        let v = table_access::type_number(t, y, 1);
         return variable_word(t, d, places, v);
     }
     own_word(t, y)

@@ -1,6 +1,6 @@
 // The layout pass as a program: a sheet on standard input, line R on standard output, and behind it both sheets where the sheet is
 // accepted. A read or a write that fails is told on standard error.
-use built::Built;
+use answer_built::Built;
 use libc::STDIN_FILENO;
 use libc::STDOUT_FILENO;
 ghost use Prim.Native.Nat.{_≤_};
@@ -84,7 +84,7 @@ fn put(bytes: &[u8], n: usize) -> bool {
 // Line R, and on code 0 both sheets.
 fn put_all(b: Built, verdict: &[u8], left: &[u8]) -> bool {
     let mut line = [0u8; 32];
-    answer_line::put_answer(&mut line, b.code, b.place, b.rounds);
+    sheet_answer::put_answer(&mut line, b.code, b.place, b.rounds);
     if !put(&line, 32) {
         return false;
     }

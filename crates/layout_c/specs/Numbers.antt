@@ -5,8 +5,8 @@ use Prim.Native.Nat.{ℕ}
 use lib.ListN.{length, set}
 use Rattle.sheet.specs.Format.{base}
 use Rattle.answer.specs.Answer.{Given, called, answer}
-use Rattle.built.specs.declared.Built.{Built}
-use Rattle.built.specs.Built.{Gives}
+use Rattle.answer_built.specs.declared.Built.{Built}
+use Rattle.answer_built.specs.Built.{Gives}
 
 -- code, place and rounds in the cells of a, which a′ is afterwards, and what the outputs hold
 pub record Told (b v l a a′ v′ l′ : List ℕ) : Type 0 where

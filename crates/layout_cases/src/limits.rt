@@ -1,7 +1,7 @@
 // Outputs as long as needed and a byte shorter. What they held is 0xA5 throughout: line K says whether the bytes are as they were, of
 // the verdict output and of the left output, past what is written and, on a refusal, all of them.
 use crate::output;
-use built::Built;
+use answer_built::Built;
 
 const OLD: u8 = 0xA5;
 

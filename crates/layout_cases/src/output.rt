@@ -1,5 +1,5 @@
 // What is written of an answer, and how bytes are compared.
-use built::Built;
+use answer_built::Built;
 use libc::STDOUT_FILENO;
 ghost use Prim.Native.Nat.{_≤_};
 ghost use lib.ListN.{length};
@@ -7,7 +7,7 @@ ghost use lib.ListN.{length};
 // A line of a letter and five numbers.
 pub fn put_line(letter: u8, numbers: [u32; 5]) {
     let mut line = [0u8; 32];
-    writer::put_row(&mut line, letter, numbers);
+    sheet_writer::put_row(&mut line, letter, numbers);
     io::write_all(STDOUT_FILENO, &line);
 }
 
@@ -23,7 +23,7 @@ pub fn put(bytes: &[u8], n: usize) {
 // Line R.
 pub fn put_answer(b: Built) {
     let mut line = [0u8; 32];
-    answer_line::put_answer(&mut line, b.code, b.place, b.rounds);
+    sheet_answer::put_answer(&mut line, b.code, b.place, b.rounds);
     io::write_all(STDOUT_FILENO, &line);
 }
 

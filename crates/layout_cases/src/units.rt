@@ -4,7 +4,7 @@
 use crate::output;
 ghost use Prim.Native.Nat.{_-_, _≤_};
 ghost use lib.ListN.{length};
-use built::Built;
+use answer_built::Built;
 
 const LINE: usize = 32;
 

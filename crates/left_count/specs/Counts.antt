@@ -5,12 +5,12 @@ use mathlib.Core.Bool.{true}
 use Prim.Native.Nat.{ℕ, _+_, _≤_}
 use lib.Dec.{eqb}
 use lib.ListN.{length, getD}
-use Rattle.columns.specs.Column.{pick}
+use Rattle.number_columns.specs.Column.{pick}
 use Rattle.sheet.specs.Line.{Line}
-use Rattle.lefts.specs.declared.Count.{Count}
-use Rattle.arguments.specs.Params.{params-of}
-use Rattle.states.specs.States.{resolves-of}
-use Rattle.lefts.specs.BodyLaws.{left-body, body-lines}
+use Rattle.left_laws.specs.declared.Count.{Count}
+use Rattle.resolve_kids.specs.Params.{params-of}
+use Rattle.state_cells.specs.States.{resolves-of}
+use Rattle.left_laws.specs.BodyLaws.{left-body, body-lines}
 
 -- the Y lines that are resolved
 unfoldable pub decl-types : List Line → List ℕ → List ℕ → List ℕ → ℕ → List ℕ

@@ -9,7 +9,7 @@ use native.Mathlib.Numerals.{add-one}
 use lib.Dec.{eqb, ltb}
 use lib.ListN.{length, getD, length-append}
 use borrow.Author.Tests.{eqb-true, eqb-false, ne-eqb, ltb-true, ltb-false}
-use Rattle.columns.specs.Column.{pick}
+use Rattle.number_columns.specs.Column.{pick}
 use Rattle.sheet.specs.Line.{Line, number}
 use Rattle.sheet.specs.ListLaws.{Every, every-mem, contrary}
 use Rattle.model.specs.Cty.{Cty, size}
@@ -21,24 +21,24 @@ use Rattle.meaning.specs.Program.{param-line, ctor-line, field-line, program}
 use Rattle.meaning.specs.Laws.Program.{length-program}
 use Rattle.meaning.specs.Output.{Written, Lines, emit, decl-lines, program-lines}
 use Rattle.meaning.specs.Laws.Output.{emit-all, decl-written, program-append-written, program-append-lines, nothing}
-use Rattle.declared.specs.Passed.{Passed}
-use Rattle.limits.specs.Limits.{start}
-use Rattle.tables.specs.Tables.{head-line, decls-of, first-of}
-use Rattle.declared.specs.DeclLaws.{whole-at, first-next}
-use Rattle.bodies.specs.BodiesLaws.{first-le}
-use Rattle.arguments.specs.Params.{params-from, params-of}
-use Rattle.arguments.specs.ParamsLaws.{count-before-le}
-use Rattle.kept.specs.Kept.{body-kind, body-last}
-use Rattle.kept.specs.KeptLaws.{params-are}
-use Rattle.states.specs.States.{state, body-of, Shape, kept-types, resolves-of}
-use Rattle.normal.specs.NodesLaws.{length-post, emit-args, emit-types}
-use Rattle.lefts.specs.Lefts.{Ready, left-type, is-left, Flagged, left-written, Counted}
-use Rattle.lefts.specs.BodyLaws.{left-body, body-lines, left-is, left-types-are, length-decl, lines-newtype, lines-bare, lines-record, lines-variant}
-use Rattle.lefts.specs.declared.Count.{Count}
+use Rattle.table_declared.specs.Passed.{Passed}
+use Rattle.row4_limits.specs.Limits.{start}
+use Rattle.table_access.specs.Tables.{head-line, decls-of, first-of}
+use Rattle.table_declared.specs.DeclLaws.{whole-at, first-next}
+use Rattle.erasure_bodies.specs.BodiesLaws.{first-le}
+use Rattle.resolve_kids.specs.Params.{params-from, params-of}
+use Rattle.resolve_kids.specs.ParamsLaws.{count-before-le}
+use Rattle.keep_ctors.specs.Kept.{body-kind, body-last}
+use Rattle.keep_ctors.specs.KeptLaws.{params-are}
+use Rattle.state_cells.specs.States.{state, body-of, Shape, kept-types, resolves-of}
+use Rattle.form_laws.specs.NodesLaws.{length-post, emit-args, emit-types}
+use Rattle.left_laws.specs.Lefts.{Ready, left-type, is-left, Flagged, left-written, Counted}
+use Rattle.left_laws.specs.BodyLaws.{left-body, body-lines, left-is, left-types-are, length-decl, lines-newtype, lines-bare, lines-record, lines-variant}
+use Rattle.left_laws.specs.declared.Count.{Count}
 use Rattle.left_types.specs.Sums.{sum-args, sum-types, Told, Added}
 use Rattle.left_types.specs.SumsLaws.{told, Rest, added-lines, added-more, kept-few}
 use Rattle.left_count.specs.Counts.{decl-types, decl-count, Few}
-use Rattle.declared.specs.PassedLaws.{ctors-few, fields-few, params-few}
+use Rattle.table_declared.specs.PassedLaws.{ctors-few, fields-few, params-few}
 
 -- ---- types written
 all-args : (ls : List Line) (d : ℕ) (ys : List ℕ) (w : Written) → length (emit-all (map (λ y. left-type ls d y) ys) w .args) ≡ length (w .args) + sum-args ls d ys

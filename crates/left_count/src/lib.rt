@@ -6,16 +6,16 @@ ghost use lib.ListN.{length};
 ghost use Rattle.sheet.specs.Sheet.{lines};
 ghost use Rattle.meaning.specs.Program.{field-line};
 ghost use Rattle.meaning.specs.Rows.{count-of};
-ghost use Rattle.tables.specs.Tables.{decls-of, lines-in};
-ghost use Rattle.states.specs.States.{state, resolves-of};
-ghost use Rattle.lefts.specs.Lefts.{Ready, Flagged, Counted};
-ghost use Rattle.lefts.specs.BodyLaws.{left-body, body-lines};
+ghost use Rattle.table_access.specs.Tables.{decls-of, lines-in};
+ghost use Rattle.state_cells.specs.States.{state, resolves-of};
+ghost use Rattle.left_laws.specs.Lefts.{Ready, Flagged, Counted};
+ghost use Rattle.left_laws.specs.BodyLaws.{left-body, body-lines};
 ghost use Rattle.left_types.specs.Sums.{Added};
 ghost use Rattle.left_count.specs.Counts.{decl-types, decl-count, Few};
+use left_laws::Count;
 use left_types::add_lines;
 use left_types::count_fields;
 use left_types::count_type;
-use lefts::Count;
 
 // The types of declaration d, and the lines of its body.
 fn count_body(
@@ -31,15 +31,15 @@ fn count_body(
     requires { ⌜ (state (now u) d ≡ 0 → ⊥) × (c .room ≡ true) × (c .args ≤ 1100000000) × (c .types ≤ 1100000000) × (c .lines ≤ 700000000) ⌝ }
     ensures { λ r. ⌜ Added (lines-in (now (t .entry))) d (resolves-of (lines-in (now (t .entry))) (now (u .entry)) (now (keep .entry)) d) (body-lines (left-body (lines-in (now (t .entry))) (now (u .entry)) (now (keep .entry)) d)) (length (now (scratch .entry))) c r ⌝ }
 {
-    if node_words::state(u, d) == 1 {
+    if form_node_words::state(u, d) == 1 {
         let y = u[2 * d + 1] as usize;
         return count_type(t, u, f, scratch, y, d, c);
     }
-    let k = tables::decl_number(t, d, 2);
+    let k = table_access::decl_number(t, d, 2);
     if k == 0 {
         return c;
     }
-    let n = tables::decl_number(t, d, 4) as usize;
+    let n = table_access::decl_number(t, d, 4) as usize;
     if k == 1 {
         return count_type(t, u, f, scratch, n, d, c);
     }
@@ -67,7 +67,7 @@ fn count_decl(
     if left[d] == 0 {
         return c;
     }
-    let n = calls::params(t, d);
+    let n = resolve_calls::params(t, d);
     count_body(t, u, f, keep, scratch, d, add_lines(c, n + 2))
 }
 
@@ -83,7 +83,7 @@ pub fn count(
     requires { ⌜ Ready (lines-in (now t)) (now t) (now u) (now f) (now keep) × (count-of field-line (lines-in (now t)) ≤ length (now keep)) × Flagged (lines-in (now t)) (now left) ⌝ }
     ensures { λ r. ⌜ Counted (lines-in (now (t .entry))) (now (u .entry)) (now (keep .entry)) (length (now (scratch .entry))) r × Few r ⌝ }
 {
-    let n = tables::decls(t);
+    let n = table_access::decls(t);
     let mut c = Count {
         room: true,
         args: 0,

@@ -5,9 +5,9 @@ use Rattle.sheet.specs.Line.{Line}
 use Rattle.model.specs.Decl.{Ctor}
 use Rattle.meaning.specs.Program.{ctor-line}
 use Rattle.meaning.specs.Rows.{count-of}
-use Rattle.arguments.specs.Params.{params-of}
-use Rattle.kept.specs.Kept.{ctor-name, ctor-fields, ctors-by}
-use Rattle.kept.specs.KeptLaws.{fields-in}
+use Rattle.resolve_kids.specs.Params.{params-of}
+use Rattle.keep_ctors.specs.Kept.{ctor-name, ctor-fields, ctors-by}
+use Rattle.keep_ctors.specs.KeptLaws.{fields-in}
 use Rattle.left_fields.specs.Fields.{left-of, left-fields, Fields}
 
 -- a constructor with its fields resolved

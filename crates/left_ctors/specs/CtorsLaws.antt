@@ -11,12 +11,12 @@ use Rattle.model.specs.Decl.{Ctor}
 use Rattle.meaning.specs.Program.{ctor-line}
 use Rattle.meaning.specs.Output.{Written, Lines, field-lines, ctor-lines}
 use Rattle.meaning.specs.Laws.Output.{grows-args, grows-types, ctor-adds}
-use Rattle.arguments.specs.Params.{params-of}
-use Rattle.kept.specs.Kept.{ctor-name, ctor-fields, fields-by, ctors-by}
-use Rattle.kept.specs.KeptLaws.{fields-in}
-use Rattle.places.specs.declared.Place.{Place}
-use Rattle.places.specs.Places.{Writing, one, seq, Growing, Room, Writes}
-use Rattle.places.specs.PlacesLaws.{writes-none, writes-as, room-as, room-first, room-rest, writes-seq}
+use Rattle.resolve_kids.specs.Params.{params-of}
+use Rattle.keep_ctors.specs.Kept.{ctor-name, ctor-fields, fields-by, ctors-by}
+use Rattle.keep_ctors.specs.KeptLaws.{fields-in}
+use Rattle.left_places.specs.declared.Place.{Place}
+use Rattle.left_places.specs.Places.{Writing, one, seq, Growing, Room, Writes}
+use Rattle.left_places.specs.PlacesLaws.{writes-none, writes-as, room-as, room-first, room-rest, writes-seq}
 use Rattle.left_fields.specs.Fields.{left-of, left-fields, kept-count, Fields}
 use Rattle.left_fields.specs.FieldsLaws.{growing-fields, count-fields, part-fields}
 use Rattle.left_ctors.specs.Ctors.{ctor-left, left-ctor, left-ctors, Ctors}

@@ -7,15 +7,15 @@ ghost use Rattle.sheet.specs.Sheet.{lines};
 ghost use Rattle.meaning.specs.Program.{ctor-line};
 ghost use Rattle.meaning.specs.Rows.{count-of};
 ghost use Rattle.meaning.specs.Output.{ctor-lines};
-ghost use Rattle.kept.specs.Kept.{ctor-fields};
-ghost use Rattle.places.specs.Places.{Room, Writes};
+ghost use Rattle.keep_ctors.specs.Kept.{ctor-fields};
+ghost use Rattle.left_places.specs.Places.{Room, Writes};
 ghost use Rattle.left_fields.specs.Fields.{Fields};
-ghost use Rattle.tables.specs.Tables.{lines-in};
+ghost use Rattle.table_access.specs.Tables.{lines-in};
 ghost use Rattle.left_ctors.specs.Ctors.{left-ctor, left-ctors, Ctors};
 use left_fields::count_kept;
 use left_fields::put_fields;
-use places::Place;
-use places::put_line;
+use left_places::Place;
+use left_places::put_line;
 
 // C line c of declaration d with its kept fields, whose F lines begin with line i.
 fn put_ctor(
@@ -35,8 +35,8 @@ fn put_ctor(
     requires { ⌜ (length (now scratch) ≤ length (now stack)) × Room (ctor-lines (left-ctor (lines-in (now t)) (now keep) d c i ∷ [])) p (now out) ⌝ }
     ensures { λ r. ⌜ Writes (ctor-lines (left-ctor (lines-in (now (t .entry))) (now (keep .entry)) d c i ∷ [])) p r (now (out .entry)) (now (out .exit)) ⌝ }
 {
-    let n = tables::ctor_number(t, c, 1) as usize;
-    let name = tables::ctor_number(t, c, 0);
+    let n = table_access::ctor_number(t, c, 1) as usize;
+    let name = table_access::ctor_number(t, c, 0);
     let m = count_kept(keep, i, n);
     let q = put_line(out, b'C', [name, m as u32, 0, 0, 0], p);
     put_fields(t, u, f, keep, scratch, stack, out, i, n, d, q)
@@ -65,7 +65,7 @@ pub fn put_ctors(
     let mut j = i;
     for m in 0..k {
         q = put_ctor(t, u, f, keep, scratch, stack, out, c + m, j, d, q);
-        j += tables::ctor_number(t, c + m, 1) as usize;
+        j += table_access::ctor_number(t, c + m, 1) as usize;
     }
     q
 }

@@ -9,10 +9,10 @@ use Rattle.model.specs.Decl.{Field, Ctor, Dtype}
 use Rattle.meaning.specs.Program.{field-line}
 use Rattle.meaning.specs.Rows.{count-of}
 use Rattle.meaning.specs.Output.{field-lines, ctor-lines, decl-lines}
-use Rattle.tables.specs.Tables.{decls-of, TableOf}
-use Rattle.states.specs.States.{state, resolves-of}
-use Rattle.lefts.specs.BodyLaws.{left-body}
-use Rattle.places.specs.Places.{Writing, typed, seq, Typed}
+use Rattle.table_access.specs.Tables.{decls-of, TableOf}
+use Rattle.state_cells.specs.States.{state, resolves-of}
+use Rattle.left_laws.specs.BodyLaws.{left-body}
+use Rattle.left_places.specs.Places.{Writing, typed, seq, Typed}
 use Rattle.left_heads.specs.Heads.{by-last, decl-with, framed, bare}
 
 -- with the body that is left

@@ -8,26 +8,26 @@ use native.Mathlib.Numerals.{add-one}
 use borrow.Author.Tests.{eq-eqb, ne-eqb, eqb-true, eqb-false}
 use lib.Dec.{eqb}
 use lib.ListN.{length, getD, length-map}
-use Rattle.columns.specs.Column.{pick}
+use Rattle.number_columns.specs.Column.{pick}
 use Rattle.sheet.specs.Line.{Line}
 use Rattle.sheet.specs.ListLaws.{getD-within}
 use Rattle.model.specs.Cty.{Cty}
 use Rattle.model.specs.Decl.{Body, TAbstract, TAbbrev, TRecord, TVariant}
 use Rattle.meaning.specs.Program.{ctor-line, field-line}
 use Rattle.meaning.specs.Output.{Written, field-lines, ctor-lines, decl-frame, decl-lines}
-use Rattle.limits.specs.Limits.{start}
-use Rattle.tables.specs.Tables.{first-of}
-use Rattle.declared.specs.DeclLaws.{first-next, whole-at}
-use Rattle.arguments.specs.Params.{params-of}
-use Rattle.arguments.specs.ParamsLaws.{count-before-le}
-use Rattle.kept.specs.Kept.{body-kind, body-last, field-type, fields-by, ctors-by}
-use Rattle.kept.specs.KeptLaws.{fields-in, length-ctors-by, total-record, total-variant}
-use Rattle.states.specs.States.{state, body-of, kept-types, resolves-of}
-use Rattle.lefts.specs.Lefts.{left-type}
-use Rattle.lefts.specs.BodyLaws.{left-body}
-use Rattle.places.specs.declared.Place.{Place}
-use Rattle.places.specs.Places.{Writing, typed, Growing, Room, Writes, Typed}
-use Rattle.places.specs.PlacesLaws.{writes-as, room-as, room-first, room-rest, writes-seq}
+use Rattle.row4_limits.specs.Limits.{start}
+use Rattle.table_access.specs.Tables.{first-of}
+use Rattle.table_declared.specs.DeclLaws.{first-next, whole-at}
+use Rattle.resolve_kids.specs.Params.{params-of}
+use Rattle.resolve_kids.specs.ParamsLaws.{count-before-le}
+use Rattle.keep_ctors.specs.Kept.{body-kind, body-last, field-type, fields-by, ctors-by}
+use Rattle.keep_ctors.specs.KeptLaws.{fields-in, length-ctors-by, total-record, total-variant}
+use Rattle.state_cells.specs.States.{state, body-of, kept-types, resolves-of}
+use Rattle.left_laws.specs.Lefts.{left-type}
+use Rattle.left_laws.specs.BodyLaws.{left-body}
+use Rattle.left_places.specs.declared.Place.{Place}
+use Rattle.left_places.specs.Places.{Writing, typed, Growing, Room, Writes, Typed}
+use Rattle.left_places.specs.PlacesLaws.{writes-as, room-as, room-first, room-rest, writes-seq}
 use Rattle.left_fields.specs.Fields.{left-of, left-fields, kept-count, Fields}
 use Rattle.left_fields.specs.FieldsLaws.{count-fields, type-number}
 use Rattle.left_ctors.specs.Ctors.{ctor-left, left-ctors, Ctors}

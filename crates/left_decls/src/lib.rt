@@ -4,10 +4,10 @@ ghost use Prim.Native.Nat.{_+_, _≤_, _<_};
 ghost use lib.ListN.{length};
 ghost use Rattle.sheet.specs.Sheet.{lines};
 ghost use Rattle.meaning.specs.Program.{ctor-line, field-line};
-ghost use Rattle.tables.specs.Tables.{first-of, decls-of, lines-in};
-ghost use Rattle.kept.specs.Kept.{body-last};
-ghost use Rattle.lefts.specs.Lefts.{left-type};
-ghost use Rattle.places.specs.Places.{Room, Writes, Typed};
+ghost use Rattle.table_access.specs.Tables.{first-of, decls-of, lines-in};
+ghost use Rattle.keep_ctors.specs.Kept.{body-last};
+ghost use Rattle.left_laws.specs.Lefts.{left-type};
+ghost use Rattle.left_places.specs.Places.{Room, Writes, Typed};
 ghost use Rattle.left_fields.specs.Fields.{left-fields, Fields};
 ghost use Rattle.left_ctors.specs.Ctors.{left-ctors, Ctors};
 ghost use Rattle.left_decls.specs.Decls.{left-writing, abbreviated, recorded, varied, Given};
@@ -17,8 +17,8 @@ use left_fields::put_fields;
 use left_heads::put_bare;
 use left_heads::put_end;
 use left_heads::put_head;
-use places::Place;
-use places::put_type;
+use left_places::Place;
+use left_places::put_type;
 
 // Declaration d as an abbreviation of Y line y's type.
 fn put_abbrev(
@@ -57,8 +57,8 @@ fn put_record(
     requires { ⌜ (length (now scratch) ≤ length (now stack)) × Room (recorded (lines-in (now t)) d (left-fields (lines-in (now t)) (now keep) d (first-of field-line (lines-in (now t)) d) (body-last (lines-in (now t)) d))) p (now out) ⌝ }
     ensures { λ r. ⌜ Writes (recorded (lines-in (now (t .entry))) d (left-fields (lines-in (now (t .entry))) (now (keep .entry)) d (first-of field-line (lines-in (now (t .entry))) d) (body-last (lines-in (now (t .entry))) d))) p r (now (out .entry)) (now (out .exit)) ⌝ }
 {
-    let i = tables::first_field(t, d);
-    let n = tables::decl_number(t, d, 4) as usize;
+    let i = table_access::first_field(t, d);
+    let n = table_access::decl_number(t, d, 4) as usize;
     let m = count_kept(keep, i, n);
     let q = put_head(t, out, d, 2, m as u32, p);
     let r = put_fields(t, u, f, keep, scratch, stack, out, i, n, d, q);
@@ -81,9 +81,9 @@ fn put_variant(
     requires { ⌜ (length (now scratch) ≤ length (now stack)) × Room (varied (lines-in (now t)) d (left-ctors (lines-in (now t)) (now keep) d (first-of ctor-line (lines-in (now t)) d) (first-of field-line (lines-in (now t)) d) (body-last (lines-in (now t)) d))) p (now out) ⌝ }
     ensures { λ r. ⌜ Writes (varied (lines-in (now (t .entry))) d (left-ctors (lines-in (now (t .entry))) (now (keep .entry)) d (first-of ctor-line (lines-in (now (t .entry))) d) (first-of field-line (lines-in (now (t .entry))) d) (body-last (lines-in (now (t .entry))) d))) p r (now (out .entry)) (now (out .exit)) ⌝ }
 {
-    let c = tables::first_ctor(t, d);
-    let i = tables::first_field(t, d);
-    let k = tables::decl_number(t, d, 4);
+    let c = table_access::first_ctor(t, d);
+    let i = table_access::first_field(t, d);
+    let k = table_access::decl_number(t, d, 4);
     let q = put_head(t, out, d, 3, k, p);
     let r = put_ctors(t, u, f, keep, scratch, stack, out, c, i, k as usize, d, q);
     put_end(out, r)
@@ -109,9 +109,9 @@ pub fn put_decl(
         let y = u[2 * d + 1] as usize;
         return put_abbrev(t, u, f, scratch, stack, out, y, d, p);
     }
-    let kind = tables::decl_number(t, d, 2);
+    let kind = table_access::decl_number(t, d, 2);
     if kind == 1 {
-        let y = tables::decl_number(t, d, 4) as usize;
+        let y = table_access::decl_number(t, d, 4) as usize;
         return put_abbrev(t, u, f, scratch, stack, out, y, d, p);
     }
     if kind == 2 {

@@ -4,17 +4,17 @@ use mathlib.Core.List.{List, map}
 use Prim.Native.Nat.{ℕ, zero, suc, _+_, _≤_, _<_}
 use lib.Dec.{eqb}
 use lib.ListN.{length, getD}
-use Rattle.columns.specs.Column.{pick}
+use Rattle.number_columns.specs.Column.{pick}
 use Rattle.sheet.specs.Line.{Line}
 use Rattle.model.specs.Decl.{Field}
 use Rattle.model.specs.Resolve.{resolve}
 use Rattle.model.specs.Run.{resolved-field, lay}
 use Rattle.meaning.specs.Program.{field-line, program}
 use Rattle.meaning.specs.Rows.{count-of}
-use Rattle.tables.specs.Tables.{TableOf}
-use Rattle.arguments.specs.Params.{params-of}
-use Rattle.kept.specs.Kept.{field-type, field-at, fields-by}
-use Rattle.places.specs.Places.{Typed}
+use Rattle.table_access.specs.Tables.{TableOf}
+use Rattle.resolve_kids.specs.Params.{params-of}
+use Rattle.keep_ctors.specs.Kept.{field-type, field-at, fields-by}
+use Rattle.left_places.specs.Places.{Typed}
 
 -- a field of declaration d, resolved
 abbrev pub left-of : List Line → Field → Field

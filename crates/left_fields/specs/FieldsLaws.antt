@@ -8,7 +8,7 @@ use native.Mathlib.Numerals.{add-one}
 use borrow.Author.Tests.{ne-eqb}
 use lib.Dec.{eqb}
 use lib.ListN.{length, getD, length-append}
-use Rattle.columns.specs.Column.{pick}
+use Rattle.number_columns.specs.Column.{pick}
 use Rattle.sheet.specs.Line.{Line, row, number}
 use Rattle.sheet.specs.Sheet.{lines}
 use Rattle.model.specs.Cty.{Cty}
@@ -17,13 +17,13 @@ use Rattle.model.specs.Run.{resolved-field}
 use Rattle.meaning.specs.Program.{field-line}
 use Rattle.meaning.specs.Output.{Written, last, emit, Lines, field-lines}
 use Rattle.meaning.specs.Laws.Output.{grows-args, grows-types, field-adds, emit-adds}
-use Rattle.tables.specs.Tables.{nth}
-use Rattle.arguments.specs.Params.{params-of}
-use Rattle.kept.specs.Kept.{field-type, field-at, fields-by}
-use Rattle.lefts.specs.Lefts.{left-type}
-use Rattle.places.specs.declared.Place.{Place}
-use Rattle.places.specs.Places.{Writing, one, numbered, typed, seq, Growing, Room, Writes}
-use Rattle.places.specs.PlacesLaws.{growing-numbered, writes-none, writes-as, room-as, room-first, room-rest, writes-seq, room-numbered, writes-numbered}
+use Rattle.table_access.specs.Tables.{nth}
+use Rattle.resolve_kids.specs.Params.{params-of}
+use Rattle.keep_ctors.specs.Kept.{field-type, field-at, fields-by}
+use Rattle.left_laws.specs.Lefts.{left-type}
+use Rattle.left_places.specs.declared.Place.{Place}
+use Rattle.left_places.specs.Places.{Writing, one, numbered, typed, seq, Growing, Room, Writes}
+use Rattle.left_places.specs.PlacesLaws.{growing-numbered, writes-none, writes-as, room-as, room-first, room-rest, writes-seq, room-numbered, writes-numbered}
 use Rattle.left_fields.specs.Fields.{left-of, left-field, left-fields, kept-count, Fields}
 
 -- ---- one after the other

@@ -7,13 +7,13 @@ ghost use Rattle.sheet.specs.Sheet.{lines};
 ghost use Rattle.meaning.specs.Program.{field-line};
 ghost use Rattle.meaning.specs.Rows.{count-of};
 ghost use Rattle.meaning.specs.Output.{field-lines};
-ghost use Rattle.kept.specs.Kept.{field-type};
-ghost use Rattle.places.specs.Places.{Room, Writes, Typed};
-ghost use Rattle.tables.specs.Tables.{lines-in};
+ghost use Rattle.keep_ctors.specs.Kept.{field-type};
+ghost use Rattle.left_places.specs.Places.{Room, Writes, Typed};
+ghost use Rattle.table_access.specs.Tables.{lines-in};
 ghost use Rattle.left_fields.specs.Fields.{left-field, left-fields, kept-count, Fields};
-use places::Place;
-use places::put_line;
-use places::put_type;
+use left_places::Place;
+use left_places::put_line;
+use left_places::put_type;
 
 // F line i of declaration d with its type.
 fn put_field(
@@ -31,9 +31,9 @@ fn put_field(
     requires { ⌜ (length (now scratch) ≤ length (now stack)) × Room (field-lines (left-field (lines-in (now t)) d i ∷ [])) p (now out) ⌝ }
     ensures { λ r. ⌜ Writes (field-lines (left-field (lines-in (now (t .entry))) d i ∷ [])) p r (now (out .entry)) (now (out .exit)) ⌝ }
 {
-    let y = tables::field_number(t, i, 1) as usize;
+    let y = table_access::field_number(t, i, 1) as usize;
     let q = put_type(t, u, f, scratch, stack, out, y, d, p);
-    let name = tables::field_number(t, i, 0);
+    let name = table_access::field_number(t, i, 0);
     let n = (q.types - 1) as u32;
     put_line(out, b'F', [name, n, 0, 0, 0], q)
 }

@@ -3,14 +3,14 @@ use mathlib.Core.List.{List, [], _∷_, map}
 use mathlib.Core.Bool.{Bool, true, false, _&&_}
 use Prim.Native.Nat.{ℕ}
 use lib.Dec.{eqb}
-use Rattle.columns.specs.Column.{pick, _⇒_∥_}
+use Rattle.number_columns.specs.Column.{pick, _⇒_∥_}
 use Rattle.sheet.specs.Line.{Line}
-use Rattle.arguments.specs.Params.{params-of}
-use Rattle.normal.specs.Nodes.{Node}
-use Rattle.normal.specs.Forms.{place}
-use Rattle.nodes.specs.Words.{node-of}
+use Rattle.resolve_kids.specs.Params.{params-of}
+use Rattle.form_laws.specs.Nodes.{Node}
+use Rattle.form_laws.specs.Forms.{place}
+use Rattle.form_nodes.specs.Words.{node-of}
 use Rattle.form_words.specs.Emit.{form-words}
-use Rattle.states.specs.States.{state}
+use Rattle.state_cells.specs.States.{state}
 
 -- a node is the variable of place i
 unfoldable pub is-var : ℕ → Node → Bool

@@ -10,7 +10,7 @@ use lib.Dec.{eqb}
 use lib.ListN.{length, getD, take, drop, set, length-drop}
 use lib.Seq.{getD-take, getD-drop, length-take-le, getD-set-same, getD-set-other}
 use borrow.Author.Tests.{eqb-true, eqb-false, eq-eqb, ne-eqb}
-use Rattle.columns.specs.Column.{pick}
+use Rattle.number_columns.specs.Column.{pick}
 use Rattle.sheet.specs.Line.{Line, number}
 use Rattle.sheet.specs.ListLaws.{same-test, false-true}
 use Rattle.model.specs.Cty.{Cty, Ctys, TUnit, TAny, TExn, TVar, TInt, TFloat, TConst, TArrow, TApp, TTuple, TBuf, TRef, TInline, nil, cons, walk, walks, gather, gathers, names-of-cty, cty-vars}
@@ -22,19 +22,19 @@ use Rattle.model_laws.specs.Names.{position-distinct}
 use Rattle.model_laws.specs.Resolve.{Stays, Unfolds}
 use Rattle.meaning.specs.Program.{program, param-line}
 use Rattle.meaning.specs.Laws.Program.{length-program}
-use Rattle.declared.specs.PassedLaws.{distinct-names}
-use Rattle.namesets.specs.NamesLaws.{member-append, member-iff}
-use Rattle.tables.specs.Tables.{nth, decls-of}
-use Rattle.arguments.specs.Params.{params-from, params-of}
-use Rattle.kids.specs.Nodes.{type-of}
-use Rattle.kept.specs.KeptLaws.{params-are}
-use Rattle.states.specs.States.{state, body-of, unfold-at, closed, Shape}
-use Rattle.normal.specs.Nodes.{Node, node, post, posts}
-use Rattle.normal.specs.Forms.{place, renamed}
-use Rattle.nodes.specs.Words.{node-of}
+use Rattle.table_declared.specs.PassedLaws.{distinct-names}
+use Rattle.mention_sets.specs.NamesLaws.{member-append, member-iff}
+use Rattle.table_access.specs.Tables.{nth, decls-of}
+use Rattle.resolve_kids.specs.Params.{params-from, params-of}
+use Rattle.resolve_kids.specs.Nodes.{type-of}
+use Rattle.keep_ctors.specs.KeptLaws.{params-are}
+use Rattle.state_cells.specs.States.{state, body-of, unfold-at, closed, Shape}
+use Rattle.form_laws.specs.Nodes.{Node, node, post, posts}
+use Rattle.form_laws.specs.Forms.{place, renamed}
+use Rattle.form_nodes.specs.Words.{node-of}
 use Rattle.form_words.specs.Emit.{form-words, Forms}
-use Rattle.lefts.specs.Lefts.{Ready, is-left, left-type}
-use Rattle.lefts.specs.ReadyLaws.{listed-of, body-resolved, ready-form-nodes}
+use Rattle.left_laws.specs.Lefts.{Ready, is-left, left-type}
+use Rattle.left_laws.specs.ReadyLaws.{listed-of, body-resolved, ready-form-nodes}
 use Rattle.left_flags.specs.Flags.{is-var, has-var, has-all, leaves}
 
 -- ---- a variable among nodes

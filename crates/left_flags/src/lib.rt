@@ -4,16 +4,16 @@ ghost use mathlib.Core.List.{map};
 ghost use Prim.Native.Nat.{_+_, _*_, _≤_, _<_};
 ghost use lib.ListN.{length, take, drop};
 ghost use Rattle.model.specs.Decl as decls;
-ghost use Rattle.tables.specs.Tables as tables;
-ghost use Rattle.arguments.specs.Params.{params-of};
-ghost use Rattle.nodes.specs.Words.{node-of};
+ghost use Rattle.table_access.specs.Tables as tables;
+ghost use Rattle.resolve_kids.specs.Params.{params-of};
+ghost use Rattle.form_nodes.specs.Words.{node-of};
 ghost use Rattle.form_words.specs.Emit.{Forms, form-words};
-ghost use Rattle.lefts.specs.Lefts.{Ready, Flagged};
+ghost use Rattle.left_laws.specs.Lefts.{Ready, Flagged};
 ghost use Rattle.left_flags.specs.Flags.{is-var, has-var, has-all, leaves};
-use node_words::place_of;
-use node_words::state;
-use nodes::kind;
-use nodes::own;
+use form_node_words::place_of;
+use form_node_words::state;
+use form_nodes::kind;
+use form_nodes::own;
 
 // A node is the variable of place i.
 fn is_variable(w: u64, i: usize) -> bool
@@ -45,10 +45,10 @@ fn has_params(t: &[u32], f: &[u64], d: usize) -> bool
 {
     let start = f[2 * d] as usize;
     let n = f[2 * d + 1] as usize;
-    let end = tables::first_param(t, d + 1);
-    let mut p = tables::first_param(t, d);
+    let end = table_access::first_param(t, d + 1);
+    let mut p = table_access::first_param(t, d);
     while p < end {
-        let i = place_of(t, d, tables::param(t, p));
+        let i = place_of(t, d, table_access::param(t, p));
         if !has_variable(f, start, n, i) {
             return false;
         }
@@ -83,7 +83,7 @@ pub fn flags(t: &[u32], u: &[u16], f: &[u64], keep: &[u8], left: &mut [u8])
     requires { ⌜ Ready (tables.lines-in (now t)) (now t) (now u) (now f) (now keep) × (tables.decls-of (tables.lines-in (now t)) ≤ length (now left)) ⌝ }
     ensures { λ _. ⌜ Flagged (tables.lines-in (now (t .entry))) (now (left .exit)) ⌝ }
 {
-    let n = tables::decls(t);
+    let n = table_access::decls(t);
     for d in 0..n {
         left[d] = bit(is_left(t, u, f, d));
     }

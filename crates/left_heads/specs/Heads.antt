@@ -6,9 +6,9 @@ use Rattle.sheet.specs.Line.{Line, row, number}
 use Rattle.model.specs.Decl.{Body, Dtype}
 use Rattle.meaning.specs.Program.{local-line, param-line, verdict-line}
 use Rattle.meaning.specs.Output.{last}
-use Rattle.tables.specs.Tables.{head-line}
-use Rattle.arguments.specs.Params.{params-of}
-use Rattle.places.specs.Places.{Writing, none, one, seq}
+use Rattle.table_access.specs.Tables.{head-line}
+use Rattle.resolve_kids.specs.Params.{params-of}
+use Rattle.left_places.specs.Places.{Writing, none, one, seq}
 
 -- lines that use no type
 abbrev pub fixed : List Line → Writing

@@ -6,20 +6,20 @@ use native.Mathlib.Omega.{arith}
 use lib.ListN.{length}
 use Rattle.sheet.specs.Line.{Line, row, number}
 use Rattle.sheet.specs.Sheet.{lines}
-use Rattle.declared.specs.Passed.{Passed}
+use Rattle.table_declared.specs.Passed.{Passed}
 use Rattle.meaning.specs.Program.{param-line}
 use Rattle.meaning.specs.Rows.{count-of}
 use Rattle.meaning.specs.Output.{Written, last}
-use Rattle.limits.specs.Limits.{start}
-use Rattle.tables.specs.Tables.{nth, head-line, first-of}
-use Rattle.arguments.specs.Params.{params-from, params-of}
-use Rattle.arguments.specs.ParamsLaws.{count-before-le}
-use Rattle.calls.specs.CallsLaws.{params-length}
-use Rattle.places.specs.declared.Place.{Place}
-use Rattle.places.specs.Places.{Writing, one, more, seq, Growing, At, Inside, Room, Writes}
-use Rattle.places.specs.PlacesLaws.{growing-one, growing-seq, writes-none, writes-as, room-as, room-first, room-rest, writes-seq}
+use Rattle.row4_limits.specs.Limits.{start}
+use Rattle.table_access.specs.Tables.{nth, head-line, first-of}
+use Rattle.resolve_kids.specs.Params.{params-from, params-of}
+use Rattle.resolve_kids.specs.ParamsLaws.{count-before-le}
+use Rattle.resolve_calls.specs.CallsLaws.{params-length}
+use Rattle.left_places.specs.declared.Place.{Place}
+use Rattle.left_places.specs.Places.{Writing, one, more, seq, Growing, At, Inside, Room, Writes}
+use Rattle.left_places.specs.PlacesLaws.{growing-one, growing-seq, writes-none, writes-as, room-as, room-first, room-rest, writes-seq}
 use Rattle.left_heads.specs.Heads.{fixed, by-last, param-row, verdict-row, head-rows, framed}
-use Rattle.declared.specs.PassedLaws.{nth-small}
+use Rattle.table_declared.specs.PassedLaws.{nth-small}
 
 pub growing-fixed : (ms : List Line) → Growing (fixed ms)
 growing-fixed ms w = (omega arith, omega arith)

@@ -6,12 +6,12 @@ ghost use Prim.Native.Nat.{_+_, _≤_, _<_};
 ghost use Rattle.sheet.specs.Sheet.{lines};
 ghost use Rattle.meaning.specs.Program.{param-line};
 ghost use Rattle.meaning.specs.Rows.{count-of};
-ghost use Rattle.tables.specs.Tables.{Tabled, decls-of, lines-in};
-ghost use Rattle.arguments.specs.Params.{params-from};
-ghost use Rattle.places.specs.Places.{one, Room, Writes};
+ghost use Rattle.table_access.specs.Tables.{Tabled, decls-of, lines-in};
+ghost use Rattle.resolve_kids.specs.Params.{params-from};
+ghost use Rattle.left_places.specs.Places.{one, Room, Writes};
 ghost use Rattle.left_heads.specs.Heads.{fixed, param-row, verdict-row, head-rows, bare};
-use places::Place;
-use places::put_line;
+use left_places::Place;
+use left_places::put_line;
 
 // The n P lines from line i on.
 fn put_params(t: &[u32], out: &mut [u8], i: usize, n: usize, p: Place) -> Place
@@ -21,7 +21,7 @@ fn put_params(t: &[u32], out: &mut [u8], i: usize, n: usize, p: Place) -> Place
 {
     let mut q = p;
     for j in 0..n {
-        let x = tables::param(t, i + j);
+        let x = table_access::param(t, i + j);
         q = put_line(out, b'P', [x as u32, 0, 0, 0, 0], q);
     }
     q
@@ -33,10 +33,10 @@ pub fn put_head(t: &[u32], out: &mut [u8], d: usize, kind: u32, end: u32, p: Pla
     requires { ⌜ Room (fixed (head-rows (lines-in (now t)) d kind end)) p (now out) ⌝ }
     ensures { λ r. ⌜ Writes (fixed (head-rows (lines-in (now (t .entry))) d kind end)) p r (now (out .entry)) (now (out .exit)) ⌝ }
 {
-    let n = calls::params(t, d);
-    let i = tables::first_param(t, d);
-    let name = tables::decl_number(t, d, 0);
-    let flags = tables::decl_number(t, d, 1);
+    let n = resolve_calls::params(t, d);
+    let i = table_access::first_param(t, d);
+    let name = table_access::decl_number(t, d, 0);
+    let flags = table_access::decl_number(t, d, 1);
     let q = put_line(out, b'D', [name, flags, kind, n as u32, end], p);
     put_params(t, out, i, n, q)
 }

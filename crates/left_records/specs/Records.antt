@@ -4,12 +4,12 @@ use mathlib.Core.Bool.{Bool, true, false, not}
 use Prim.Native.Nat.{ℕ, zero, suc, _+_, _-_, _/_, _%_}
 use lib.Dec.{eqb}
 use lib.ListN.{getD}
-use Rattle.columns.specs.Column.{pick, _⇒_∥_}
+use Rattle.number_columns.specs.Column.{pick, _⇒_∥_}
 use Rattle.sheet.specs.Line.{Line, number}
 use Rattle.meaning.specs.Program.{field-line}
-use Rattle.tables.specs.Tables.{head-line, first-of}
-use Rattle.kept.specs.Kept.{body-kind, body-last}
-use Rattle.states.specs.States.{state}
+use Rattle.table_access.specs.Tables.{head-line, first-of}
+use Rattle.keep_ctors.specs.Kept.{body-kind, body-last}
+use Rattle.state_cells.specs.States.{state}
 
 -- one of the n F lines from line f on is kept
 unfoldable pub some-kept : List ℕ → ℕ → ℕ → Bool

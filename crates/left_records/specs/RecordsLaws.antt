@@ -10,20 +10,20 @@ use lib.Dec.{eqb}
 use lib.ListN.{length, getD, set}
 use lib.Seq.{getD-set-same, getD-set-other}
 use borrow.Author.Tests.{eqb-true, eqb-false, ne-eqb}
-use Rattle.columns.specs.Column.{pick, _⇒_∥_}
+use Rattle.number_columns.specs.Column.{pick, _⇒_∥_}
 use Rattle.sheet.specs.Line.{Line, number}
 use Rattle.model.specs.Cty.{Cty}
 use Rattle.model.specs.Decl.{Field, TAbstract, TAbbrev, TRecord, TVariant, has-flag, bit, close-fields, Decl, dtype-at}
 use Rattle.model.specs.Run.{with-body, resolved-field, record-body, record-verdict, record-of, left-at}
 use Rattle.meaning.specs.Program.{ctor-line, field-line, dtype-of, program}
-use Rattle.tables.specs.Tables.{head-line, decls-of, first-of}
-use Rattle.declared.specs.DeclLaws.{dtype-is}
-use Rattle.arguments.specs.Params.{params-of}
-use Rattle.kept.specs.Kept.{body-kind, body-last, ctor-name, ctor-fields, field-at, fields-by, ctors-by}
-use Rattle.kept.specs.KeptLaws.{fields-in, total-variant}
-use Rattle.states.specs.States.{state, body-of}
-use Rattle.lefts.specs.Lefts.{Ready, is-left, left-type, Flagged}
-use Rattle.lefts.specs.BodyLaws.{left-ctor, resolve-in, left-body, left-is}
+use Rattle.table_access.specs.Tables.{head-line, decls-of, first-of}
+use Rattle.table_declared.specs.DeclLaws.{dtype-is}
+use Rattle.resolve_kids.specs.Params.{params-of}
+use Rattle.keep_ctors.specs.Kept.{body-kind, body-last, ctor-name, ctor-fields, field-at, fields-by, ctors-by}
+use Rattle.keep_ctors.specs.KeptLaws.{fields-in, total-variant}
+use Rattle.state_cells.specs.States.{state, body-of}
+use Rattle.left_laws.specs.Lefts.{Ready, is-left, left-type, Flagged}
+use Rattle.left_laws.specs.BodyLaws.{left-ctor, resolve-in, left-body, left-is}
 use Rattle.left_records.specs.Records.{some-kept, record-by}
 
 -- ---- a constructor that keeps a field

@@ -5,10 +5,10 @@ ghost use lib.ListN.{length};
 ghost use Rattle.model.specs.Decl as decls;
 ghost use Rattle.meaning.specs.Program.{field-line};
 ghost use Rattle.meaning.specs.Rows.{count-of};
-ghost use Rattle.tables.specs.Tables as tables;
-ghost use Rattle.lefts.specs.Lefts.{Ready, Flagged, Recorded};
+ghost use Rattle.table_access.specs.Tables as tables;
+ghost use Rattle.left_laws.specs.Lefts.{Ready, Flagged, Recorded};
 ghost use Rattle.left_records.specs.Records.{some-kept, record-by};
-use node_words::state;
+use form_node_words::state;
 
 // One of the fields from F line `from` on, up to F line `end`, is kept.
 fn any_kept(keep: &[u8], from: usize, end: usize) -> bool
@@ -34,23 +34,23 @@ fn record_of(t: &[u32], u: &[u16], keep: &[u8], left: &[u8], d: usize) -> bool
     if left[d] == 0 {
         return false;
     }
-    let flags = tables::decl_number(t, d, 1);
+    let flags = table_access::decl_number(t, d, 1);
     if flags / 2 % 2 == 1 {
         return flags / 16 % 2 == 1;
     }
     if state(u, d) == 1 {
         return false;
     }
-    if tables::decl_number(t, d, 2) != 3 {
+    if table_access::decl_number(t, d, 2) != 3 {
         return false;
     }
-    if tables::decl_number(t, d, 4) != 1 {
+    if table_access::decl_number(t, d, 4) != 1 {
         return false;
     }
     any_kept(
         keep,
-        tables::first_field(t, d),
-        tables::first_field(t, d + 1),
+        table_access::first_field(t, d),
+        table_access::first_field(t, d + 1),
     )
 }
 
@@ -66,7 +66,7 @@ pub fn records(t: &[u32], u: &[u16], f: &[u64], keep: &[u8], left: &[u8], record
     requires { ⌜ (count-of field-line (tables.lines-in (now t)) ≤ length (now keep)) × (tables.decls-of (tables.lines-in (now t)) ≤ length (now records)) ⌝ }
     ensures { λ _. ⌜ Recorded (tables.lines-in (now (t .entry))) (now (records .exit)) ⌝ }
 {
-    let n = tables::decls(t);
+    let n = table_access::decls(t);
     for d in 0..n {
         records[d] = bit(record_of(t, u, keep, left, d));
     }

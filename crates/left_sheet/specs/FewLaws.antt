@@ -18,10 +18,10 @@ use Rattle.meaning.specs.Rows.{row7}
 use Rattle.meaning.specs.Laws.Output.{nothing, types-of, total-bound, program-adds}
 use Rattle.meaning.specs.Laws.Numbers.{Numbered, weights, run-count, run-types, program-full, weights-program}
 use Rattle.answer.specs.Laws.Left.{program-matches}
-use Rattle.declared.specs.Passed.{Passed}
-use Rattle.declared.specs.PassedLaws.{decls-few, fields-few}
-use Rattle.lefts.specs.Lefts.{left-written}
-use Rattle.head_rows.specs.HeadRows.{Resolvable}
+use Rattle.table_declared.specs.Passed.{Passed}
+use Rattle.table_declared.specs.PassedLaws.{decls-few, fields-few}
+use Rattle.left_laws.specs.Lefts.{left-written}
+use Rattle.rows_heads.specs.HeadRows.{Resolvable}
 
 module _ (ls : List Line) (passed : Passed ls) (resolvable : Resolvable base ls) where
   abbrev ds : List Dtype

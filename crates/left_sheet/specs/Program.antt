@@ -7,7 +7,7 @@ use Rattle.model.specs.Decl.{Dtype, table}
 use Rattle.model.specs.Run.{somes, left-at}
 use Rattle.meaning.specs.Program.{field-line, program}
 use Rattle.meaning.specs.Rows.{count-of}
-use Rattle.lefts.specs.Lefts.{Ready, Flagged, Fit}
+use Rattle.left_laws.specs.Lefts.{Ready, Flagged, Fit}
 
 -- of the first n declarations, and of declaration d
 abbrev pub lefts-to : List Line → ℕ → List Dtype

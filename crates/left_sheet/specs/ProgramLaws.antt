@@ -6,7 +6,7 @@ use mathlib.Core.Option.{Option, none, some}
 use Prim.Native.Nat.{ℕ, zero, suc, _+_, _-_, _<_}
 use native.Mathlib.Omega.{arith}
 use lib.ListN.{getD}
-use Rattle.columns.specs.Column.{pick}
+use Rattle.number_columns.specs.Column.{pick}
 use Rattle.sheet.specs.Line.{Line}
 use Rattle.sheet.specs.Sheet.{lines}
 use Rattle.sheet.specs.ListLaws.{false-true}
@@ -19,20 +19,20 @@ use Rattle.meaning.specs.Program.{program, dtype-of}
 use Rattle.meaning.specs.Output.{Written, decl-lines, program-lines}
 use Rattle.meaning.specs.Laws.Output.{grows-args, grows-types, program-adds, program-append-written, program-append-lines}
 use Rattle.meaning.specs.Laws.Program.{length-program}
-use Rattle.tables.specs.Tables.{decls-of}
-use Rattle.declared.specs.DeclLaws.{dtype-is}
-use Rattle.kept.specs.KeptLaws.{params-lines}
-use Rattle.states.specs.States.{state, Shape}
-use Rattle.lefts.specs.Lefts.{is-left}
-use Rattle.lefts.specs.BodyLaws.{left-body, left-is}
-use Rattle.lefts.specs.ReadyLaws.{ready-nodes, ready-asked}
-use Rattle.places.specs.declared.Place.{Place}
-use Rattle.places.specs.Places.{seq, Growing, Room, Writes}
-use Rattle.places.specs.PlacesLaws.{writes-none, writes-as, room-as, room-first, room-rest, writes-seq}
+use Rattle.table_access.specs.Tables.{decls-of}
+use Rattle.table_declared.specs.DeclLaws.{dtype-is}
+use Rattle.keep_ctors.specs.KeptLaws.{params-lines}
+use Rattle.state_cells.specs.States.{state, Shape}
+use Rattle.left_laws.specs.Lefts.{is-left}
+use Rattle.left_laws.specs.BodyLaws.{left-body, left-is}
+use Rattle.left_laws.specs.ReadyLaws.{ready-nodes, ready-asked}
+use Rattle.left_places.specs.declared.Place.{Place}
+use Rattle.left_places.specs.Places.{seq, Growing, Room, Writes}
+use Rattle.left_places.specs.PlacesLaws.{writes-none, writes-as, room-as, room-first, room-rest, writes-seq}
 use Rattle.left_heads.specs.Heads.{decl-with}
 use Rattle.left_decls.specs.Decls.{left-decl, left-writing, Given}
 use Rattle.left_sheet.specs.Program.{lefts-to, lefts-at, Lefts}
-use Rattle.places.specs.Places as places
+use Rattle.left_places.specs.Places as places
 
 -- ---- lists
 table-more : {A : Type 0} (f : ℕ → A) (m k : ℕ) → table f (m + k) ≡ table f m ++ table (λ i. f (m + i)) k

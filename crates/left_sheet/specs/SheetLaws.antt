@@ -23,16 +23,16 @@ use Rattle.meaning.specs.Program.{name-line, type-line, is, select, program}
 use Rattle.meaning.specs.Output.{Lines, program-lines, left-lines}
 use Rattle.meaning.specs.Laws.Output.{nothing, program-adds, Sized, fits-sized, encode-sized, every-select, left-sized, left-bytes}
 use Rattle.answer.specs.Answer.{left-sheet, after}
-use Rattle.header.specs.OrderLaws.{name-letter, name-before, count-of-le}
-use Rattle.tables.specs.OfSheet.{OfSheet, program-same, sheet-ordered}
-use Rattle.tables.specs.Tables.{lines-in}
-use Rattle.declared.specs.LineLaws.{nth-at}
-use Rattle.emitter.specs.Lines.{arg-row}
-use Rattle.emitter.specs.LinesLaws.{puts-last, length-puts, args-whole}
-use Rattle.emitter.specs.LaidLaws.{laid, puts-puts, puts-append}
-use Rattle.lefts.specs.Lefts.{left-written}
-use Rattle.places.specs.declared.Place.{Place}
-use Rattle.places.specs.Places.{more, At, Inside, Room, Writes}
+use Rattle.rows_header.specs.OrderLaws.{name-letter, name-before, count-of-le}
+use Rattle.table_access.specs.OfSheet.{OfSheet, program-same, sheet-ordered}
+use Rattle.table_access.specs.Tables.{lines-in}
+use Rattle.table_declared.specs.LineLaws.{nth-at}
+use Rattle.left_emitter.specs.Lines.{arg-row}
+use Rattle.left_emitter.specs.LinesLaws.{puts-last, length-puts, args-whole}
+use Rattle.left_emitter.specs.LaidLaws.{laid, puts-puts, puts-append}
+use Rattle.left_laws.specs.Lefts.{left-written}
+use Rattle.left_places.specs.declared.Place.{Place}
+use Rattle.left_places.specs.Places.{more, At, Inside, Room, Writes}
 
 -- nothing is written
 abbrev no-lines : Lines

@@ -5,11 +5,11 @@ ghost use lib.ListN.{length};
 ghost use Rattle.model.specs.Run.{run, left-program};
 ghost use Rattle.meaning.specs.Program.{program};
 ghost use Rattle.meaning.specs.Output.{program-lines};
-ghost use Rattle.tables.specs.Tables.{decls-of, lines-in};
-ghost use Rattle.places.specs.Places.{Room, Writes};
+ghost use Rattle.table_access.specs.Tables.{decls-of, lines-in};
+ghost use Rattle.left_places.specs.Places.{Room, Writes};
 ghost use Rattle.left_sheet.specs.Program.{lefts-at, Lefts};
 use left_decls::put_decl;
-use places::Place;
+use left_places::Place;
 
 // Declaration d, if it is left.
 fn put_at(
@@ -50,7 +50,7 @@ pub fn put_decls(
     requires { ⌜ (length (now scratch) ≤ length (now stack)) × Room (program-lines (left-program (run 100 (program (lines-in (now t)))))) p (now out) ⌝ }
     ensures { λ r. ⌜ Writes (program-lines (left-program (run 100 (program (lines-in (now (t .entry))))))) p r (now (out .entry)) (now (out .exit)) ⌝ }
 {
-    let n = tables::decls(t);
+    let n = table_access::decls(t);
     let mut q = p;
     for d in 0..n {
         q = put_at(t, u, f, keep, left, scratch, stack, out, d, q);

@@ -10,13 +10,13 @@ ghost use Rattle.sheet.specs.Output.{puts};
 ghost use Rattle.meaning.specs.Program.{name-line, field-line, select};
 ghost use Rattle.meaning.specs.Rows.{count-of};
 ghost use Rattle.answer.specs.Answer.{left-sheet, after};
-ghost use Rattle.tables.specs.Tables.{lines-in};
-ghost use Rattle.tables.specs.OfSheet.{OfSheet};
-ghost use Rattle.lefts.specs.Lefts.{Ready, Flagged, Fit, left-written};
-use copier::copy_lines;
+ghost use Rattle.table_access.specs.Tables.{lines-in};
+ghost use Rattle.table_access.specs.OfSheet.{OfSheet};
+ghost use Rattle.left_laws.specs.Lefts.{Ready, Flagged, Fit, left-written};
+use left_places::Place;
 use left_program::put_decls;
-use parts::LINE;
-use places::Place;
+use sheet_parts::LINE;
+use sheet_writer::copier::copy_lines;
 
 // Copies the n N lines of the sheet, which are its first, to the front of the output.
 fn put_names(s: &[u8], t: &[u32], out: &mut [u8], n: usize)
@@ -48,7 +48,7 @@ pub fn put_left(
     requires { ⌜ length (left-sheet base (lines 6 (now s))) ≤ length (now out) ⌝ }
     ensures { λ _. ⌜ now (out .exit) ≡ after (left-sheet base (lines 6 (now (s .entry)))) (now (out .entry)) ⌝ }
 {
-    let n = tables::names(t);
+    let n = table_access::names(t);
     put_names(s, t, out, n);
     let p = Place {
         lists: n,

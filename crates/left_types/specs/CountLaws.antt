@@ -6,9 +6,9 @@ use native.Mathlib.Omega.{arith}
 use native.Mathlib.Numerals.{add-one}
 use lib.ListN.{length, getD, take}
 use lib.Seq.{take-suc}
-use Rattle.normal.specs.Nodes.{Node, args-of, count-args}
-use Rattle.normal.specs.NodesLaws.{count-args-append}
-use Rattle.nodes.specs.Words.{node-of}
+use Rattle.form_laws.specs.Nodes.{Node, args-of, count-args}
+use Rattle.form_laws.specs.NodesLaws.{count-args-append}
+use Rattle.form_nodes.specs.Words.{node-of}
 
 pub count-few : (w : ℕ) → node-of w .count ≤ 1023
 unfolding node-of

@@ -9,12 +9,12 @@ use Rattle.sheet.specs.ListLaws.{Every}
 use Rattle.model.specs.Cty.{size}
 use Rattle.meaning.specs.Program.{field-line}
 use Rattle.meaning.specs.Rows.{count-of}
-use Rattle.kept.specs.Kept.{field-type}
-use Rattle.normal.specs.Nodes.{post, count-args}
-use Rattle.nodes.specs.Words.{node-of}
+use Rattle.keep_ctors.specs.Kept.{field-type}
+use Rattle.form_laws.specs.Nodes.{post, count-args}
+use Rattle.form_nodes.specs.Words.{node-of}
 use Rattle.form_words.specs.Emit.{words, Asked}
-use Rattle.lefts.specs.Lefts.{left-type}
-use Rattle.lefts.specs.declared.Count.{Count}
+use Rattle.left_laws.specs.Lefts.{left-type}
+use Rattle.left_laws.specs.declared.Count.{Count}
 
 -- the A lines of what these Y lines resolve to in declaration d
 unfoldable pub sum-args : List Line → ℕ → List ℕ → ℕ

@@ -9,25 +9,25 @@ use lib.Dec.{eqb}
 use lib.ListN.{length, getD, take, length-append}
 use lib.Seq.{take-at}
 use borrow.Author.Tests.{eqb-true, eqb-false, ne-eqb}
-use Rattle.columns.specs.Column.{pick}
+use Rattle.number_columns.specs.Column.{pick}
 use Rattle.sheet.specs.Line.{Line}
 use Rattle.sheet.specs.ListLaws.{every-append, contrary}
 use Rattle.model.specs.Cty.{Cty, size}
 use Rattle.meaning.specs.Program.{field-line}
 use Rattle.meaning.specs.Laws.Output.{emit-adds, nothing}
-use Rattle.limits.specs.Limits.{start}
-use Rattle.tables.specs.Tables.{decls-of, first-of}
-use Rattle.arguments.specs.ParamsLaws.{count-before-le}
-use Rattle.kept.specs.Kept.{body-kind, field-type}
-use Rattle.normal.specs.Nodes.{post, count-args}
-use Rattle.normal.specs.NodesLaws.{emit-args}
-use Rattle.nodes.specs.Words.{node-of}
-use Rattle.node_words.specs.Put.{Put}
+use Rattle.row4_limits.specs.Limits.{start}
+use Rattle.table_access.specs.Tables.{decls-of, first-of}
+use Rattle.resolve_kids.specs.ParamsLaws.{count-before-le}
+use Rattle.keep_ctors.specs.Kept.{body-kind, field-type}
+use Rattle.form_laws.specs.Nodes.{post, count-args}
+use Rattle.form_laws.specs.NodesLaws.{emit-args}
+use Rattle.form_nodes.specs.Words.{node-of}
+use Rattle.form_node_words.specs.Put.{Put}
 use Rattle.form_words.specs.Emit.{words}
-use Rattle.states.specs.States.{state, kept-types, resolves-of}
-use Rattle.lefts.specs.Lefts.{Ready, left-type}
-use Rattle.lefts.specs.ReadyLaws.{ready-asked, ready-nodes, ready-length, ready-size}
-use Rattle.lefts.specs.declared.Count.{Count}
+use Rattle.state_cells.specs.States.{state, kept-types, resolves-of}
+use Rattle.left_laws.specs.Lefts.{Ready, left-type}
+use Rattle.left_laws.specs.ReadyLaws.{ready-asked, ready-nodes, ready-length, ready-size}
+use Rattle.left_laws.specs.declared.Count.{Count}
 use Rattle.left_types.specs.Sums.{sum-args, sum-types, Told, Tells, Added}
 
 pub told : (ls : List Line) (t u f keep : List ℕ) → Ready ls t u f keep → (d y : ℕ) → d < decls-of ls → List·Memᴰ y (resolves-of ls u keep d) → Told ls t u f d y

@@ -9,13 +9,13 @@ ghost use lib.ListN.{length, getD};
 ghost use Rattle.sheet.specs.Sheet.{lines};
 ghost use Rattle.meaning.specs.Program.{field-line};
 ghost use Rattle.meaning.specs.Rows.{count-of};
-ghost use Rattle.tables.specs.Tables.{decls-of, first-of, lines-in};
-ghost use Rattle.kept.specs.Kept.{body-kind};
-ghost use Rattle.states.specs.States.{state};
-ghost use Rattle.lefts.specs.Lefts.{Ready};
+ghost use Rattle.table_access.specs.Tables.{decls-of, first-of, lines-in};
+ghost use Rattle.keep_ctors.specs.Kept.{body-kind};
+ghost use Rattle.state_cells.specs.States.{state};
+ghost use Rattle.left_laws.specs.Lefts.{Ready};
 ghost use Rattle.left_types.specs.Sums.{Told, Added, Tells};
 ghost use Rattle.left_types.specs.SumsLaws.{One, Rest};
-use lefts::Count;
+use left_laws::Count;
 
 // The A and Y lines of Y line y's type in declaration d, added.
 pub fn count_type(
@@ -30,7 +30,7 @@ pub fn count_type(
     requires { ⌜ Told (lines-in (now t)) (now t) (now u) (now f) d y × (c .args ≤ 2000000000) × (c .types ≤ 2000000000) ⌝ }
     ensures { λ r. ⌜ Added (lines-in (now (t .entry))) d (y ∷ []) 0 (length (now (scratch .entry))) c r ⌝ }
 {
-    let n = forms::emit(t, u, f, y, d, false, scratch, 0);
+    let n = form_emit::emit(t, u, f, y, d, false, scratch, 0);
     if n > scratch.len() {
         return Count {
             room: false,
@@ -78,7 +78,7 @@ fn count_field(
     if keep[i] != 1 {
         return c;
     }
-    let y = tables::field_number(t, i, 1) as usize;
+    let y = table_access::field_number(t, i, 1) as usize;
     let r = count_type(t, u, f, scratch, y, d, c);
     if !r.room {
         return r;
@@ -101,8 +101,8 @@ pub fn count_fields(
     requires { ⌜ (c .room ≡ true) × (c .args ≤ 1200000000) × (c .types ≤ 1200000000) × (c .lines ≤ 800000000) ⌝ }
     ensures { λ r. ⌜ Rest (lines-in (now (t .entry))) (now (keep .entry)) d (first-of field-line (lines-in (now (t .entry))) d) (first-of field-line (lines-in (now (t .entry))) (d + 1)) (length (now (scratch .entry))) c r ⌝ }
 {
-    let end = tables::first_field(t, d + 1);
-    let mut i = tables::first_field(t, d);
+    let end = table_access::first_field(t, d + 1);
+    let mut i = table_access::first_field(t, d);
     let mut r = c;
     while i < end {
         r = count_field(t, u, f, keep, scratch, i, d, r);

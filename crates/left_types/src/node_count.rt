@@ -3,10 +3,10 @@ ghost use mathlib.Core.Path.{_≡_};
 ghost use mathlib.Core.List.{map};
 ghost use Prim.Native.Nat.{_≤_};
 ghost use lib.ListN.{length};
-ghost use Rattle.normal.specs.Nodes.{args-of, count-args};
-ghost use Rattle.nodes.specs.Words.{node-of};
-use nodes::count;
-use nodes::kind;
+ghost use Rattle.form_laws.specs.Nodes.{args-of, count-args};
+ghost use Rattle.form_nodes.specs.Words.{node-of};
+use form_nodes::count;
+use form_nodes::kind;
 
 // How many A lines a node has.
 fn node_args(w: u64) -> usize

@@ -5,7 +5,7 @@ use mathlib.Core.List.{List, [], _∷_, _++_, map}
 use mathlib.Core.Bool.{Bool, true, false}
 use Prim.Native.Nat.{ℕ, suc, _+_}
 use lib.ListN.{length}
-use Rattle.columns.specs.Column.{step, scan, read}
+use Rattle.number_columns.specs.Column.{step, scan, read}
 use Rattle.sheet.specs.Format.{Format}
 use Rattle.sheet.specs.Line.{Line, named, row, cell}
 use Rattle.sheet.specs.Sheet.{first, lineAt}

@@ -5,7 +5,7 @@ use mathlib.Core.Bool.{not, Bool, true, false}
 use Prim.Native.Nat.{ℕ, _+_, _-_}
 use lib.Dec.{eqb}
 use lib.ListN.{length}
-use Rattle.columns.specs.Column.{_⇒_∥_, pick}
+use Rattle.number_columns.specs.Column.{_⇒_∥_, pick}
 use Rattle.sheet.specs.Line.{Line, row, number}
 use Rattle.model.specs.Cty.{Cty, Ctys, TUnit, TAny, TExn, TVar, TInt, TFloat, TConst, TArrow, TApp, TTuple, TBuf, TRef, TInline, nil, cons}
 use Rattle.model.specs.Decl.{Field, Ctor, Body, TAbstract, TAbbrev, TRecord, TVariant, Dtype, CtorLayout, TypeInfo, bit, layout-number}

@@ -7,7 +7,7 @@ use mathlib.Core.Option.{Option, none, some}
 use Prim.Native.Nat.{ℕ, _+_, _-_}
 use lib.Dec.{eqb}
 use lib.ListN.{length, replicate}
-use Rattle.columns.specs.Column.{pick, _⇒_∥_}
+use Rattle.number_columns.specs.Column.{pick, _⇒_∥_}
 use Rattle.model.specs.Cty.{
   Cty,
   Ctys,

@@ -6,7 +6,7 @@ use mathlib.Core.Bool.{Bool, true, false, _&&_, not}
 use Prim.Native.Nat.{_<_, _+_, ℕ, zero, suc}
 use lib.Dec.{eqb}
 use lib.ListN.{length, getD, set}
-use Rattle.columns.specs.Column.{pick}
+use Rattle.number_columns.specs.Column.{pick}
 use Rattle.model.specs.Cty.{Cty, Ctys, TUnit, TAny, TExn, TVar, TInt, TFloat, TConst, TArrow, TApp, TTuple, TBuf, TRef, TInline, nil, cons}
 use Rattle.model.specs.Decl.{Field, Body, TAbstract, TAbbrev, TRecord, TVariant, Dtype, Erased, Realized, has-flag, Origin, here, imported, Decl, dtype-at, origin-at, position}
 

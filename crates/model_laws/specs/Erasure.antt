@@ -9,7 +9,7 @@ use Prim.Native.Nat.{ℕ, suc, _+_, _≤_, _<_}
 use native.Mathlib.Omega.{arith}
 use lib.Dec.{T, eqb, eqb→eq, eqb-refl}
 use lib.ListN.{length, getD, length-map, List·getD-map}
-use Rattle.columns.specs.Column.{pick}
+use Rattle.number_columns.specs.Column.{pick}
 use Rattle.sheet.specs.ListLaws.{getD-within}
 use Rattle.model.specs.Cty.{walks, walk, Cty, Ctys, TUnit, TAny, TExn, TVar, TInt, TFloat, TConst, TArrow, TApp, TTuple, TBuf, TRef, TInline, nil, cons, gather, gathers, names-of-cty}
 use Rattle.model.specs.Decl.{member, close, Field, Ctor, Body, TAbstract, TAbbrev, TRecord, TVariant, Dtype, Erased, Realized, has-flag, ctors-of, CtorLayout, bit, TypeInfo, Origin, here, imported, Decl, no-decl, dtype-at, origin-at, table, position}

@@ -9,7 +9,7 @@ use native.Mathlib.Decide.{decLt}
 use lib.Dec.{T, eqb, eqb→eq, eqb-refl, nltb→le}
 use lib.ListN.{length, length-append, List·getD-append}
 use borrow.Author.Tests.{le-ltb}
-use Rattle.columns.specs.Column.{pick}
+use Rattle.number_columns.specs.Column.{pick}
 use Rattle.model.specs.Cty.{names-of-cty}
 use Rattle.model.specs.Decl.{Field, Body, TAbstract, TAbbrev, TRecord, TVariant, ctors-of, Decl, no-decl, dtype-at, position}
 use Rattle.model.specs.Layout.{kept}

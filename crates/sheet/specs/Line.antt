@@ -5,10 +5,10 @@ use mathlib.Core.Bool.{Bool, true, false, _&&_}
 use Prim.Native.Nat.{ℕ, _+_, _*_, _-_}
 use lib.Dec.{eqb, leb}
 use lib.ListN.{length, take, drop, getD, replicate}
-use Rattle.columns.specs.declared.Number.{Number}
-use Rattle.columns.specs.declared.Number.the-variants.{Value, Bad}
-use Rattle.columns.specs.Column.{pick, read, write}
-pub use Rattle.columns.specs.Column.{isValue}
+use Rattle.number_columns.specs.declared.Number.{Number}
+use Rattle.number_columns.specs.declared.Number.the-variants.{Value, Bad}
+use Rattle.number_columns.specs.Column.{pick, read, write}
+pub use Rattle.number_columns.specs.Column.{isValue}
 use Rattle.sheet.specs.Format.{textBytes}
 
 -- An N line: its number, and its text without the spaces after it. Any other line: its letter and

@@ -10,10 +10,10 @@ use lib.Dec.{eqb, ltb, leb}
 use lib.ListN.{length, take, drop, getD, replicate, length-append, length-take, length-drop, length-replicate, take-append-drop, drop-of-length-le, List·getD-eq-default}
 use lib.Seq.{take-at, drop-at, getD-at, drop-drop, drop-cons, drop-append-seam, length-take-le}
 use borrow.Author.Tests.{le-leb, eqb-true, eqb-false, ltb-true, ltb-false, leb-true, leb-false}
-use Rattle.columns.specs.declared.Number.{Number}
-use Rattle.columns.specs.declared.Number.the-variants.{Value, Bad}
-use Rattle.columns.specs.Column.{pick, read, write}
-use Rattle.columns.specs.ColumnLaws.{read-write, write-read, write-length, ten-pos}
+use Rattle.number_columns.specs.declared.Number.{Number}
+use Rattle.number_columns.specs.declared.Number.the-variants.{Value, Bad}
+use Rattle.number_columns.specs.Column.{pick, read, write}
+use Rattle.number_columns.specs.ColumnLaws.{read-write, write-read, write-length, ten-pos}
 use Rattle.sheet.specs.Format.{lineBytes, textBytes}
 use Rattle.sheet.specs.Line.{Line, named, row, bad, graphic, spelling, spaces, proper, padded, lettered, cell, isValue, value, decodeNamed, decodeRow, decode, writes, encode, letter, number, isBad}
 pub use Rattle.sheet.specs.ListLaws.{both}

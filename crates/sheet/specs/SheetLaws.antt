@@ -10,7 +10,7 @@ use lib.Dec.{eqb, ltb}
 use lib.ListN.{length, take, drop, getD, length-append, length-take, length-drop, take-append-drop, List·getD-eq-default}
 use lib.Seq.{take-at, take-take, drop-drop, take-append-le, drop-append-le, drop-append-add, length-take-le}
 use borrow.Author.Tests.{eq-eqb, eqb-true, ltb-true, ltb-false}
-use Rattle.columns.specs.Column.{pick}
+use Rattle.number_columns.specs.Column.{pick}
 use Rattle.sheet.specs.Format.{lineBytes, textBytes}
 use Rattle.sheet.specs.Line.{Line, named, row, bad, spelling, decode, encode, letter, text, isBad}
 use Rattle.sheet.specs.Sheet.{lineAt, count, line, linesFrom, lines, encodes, row2, textOf, nameText}

@@ -1,8 +1,8 @@
 // Reads each sheet that an argument names, and writes what is read of it.
-use access::Cell;
-use access::Letter;
 use libc::STDOUT_FILENO;
-use parts::LINE;
+use sheet_names::access::Cell;
+use sheet_names::access::Letter;
+use sheet_parts::LINE;
 ghost use Prim.Native.Nat.{_≤_};
 ghost use lib.ListN.{length};
 
@@ -20,7 +20,7 @@ fn put_columns(columns: &[u8; 7]) {
 // A number in six columns, with a space before it.
 fn put_number(n: u32) {
     let mut columns = [32u8; 7];
-    digits::write_number(&mut columns[1..7], n);
+    sheet_writer::digits::write_number(&mut columns[1..7], n);
     put_columns(&columns);
 }
 
@@ -50,7 +50,7 @@ fn put_cell(c: Cell) {
 // The numbers of line i of any bytes, and one too many.
 fn put_cells(s: &[u8], i: usize) {
     for k in 0..6 {
-        put_cell(access::number_at(s, i, k));
+        put_cell(sheet_names::access::number_at(s, i, k));
     }
 }
 
@@ -59,12 +59,12 @@ fn put_line(s: &[u8], i: usize) {
     put(b"line");
     put_place(i);
     put(b" ");
-    put_letter(access::letter_at(s, i));
+    put_letter(sheet_names::access::letter_at(s, i));
     put_cells(s, i);
     put(b" [");
-    put(names::name(s, i));
+    put(sheet_names::name(s, i));
     put(b"] [");
-    put(access::text_at(s, i));
+    put(sheet_names::access::text_at(s, i));
     put(b"]\n");
 }
 
@@ -80,12 +80,12 @@ fn put_lines(s: &[u8]) {
 fn put_sheet(s: &[u8])
     requires { ⌜ length (now s) ≤ 1024 ⌝ }
 {
-    if format::row1(s) {
+    if walk_decode::format::row1(s) {
         put(b"row 1\n");
     }
     put(b"row 2 at");
     let mut cells = [0u32; 192];
-    put_place(decode::decode_lines(s, 6, &mut cells));
+    put_place(walk_decode::decode_lines(s, 6, &mut cells));
     put(b"\n");
     put_lines(s);
 }

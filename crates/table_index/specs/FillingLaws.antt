@@ -8,10 +8,10 @@ use lib.Dec.{ltb}
 use lib.ListN.{length, getD, set, drop, length-set}
 use lib.Seq.{getD-set-same, getD-set-other, sets, sets-eq}
 use borrow.Author.Tests.{ltb-true, ltb-false}
-use Rattle.columns.specs.Column.{pick}
+use Rattle.number_columns.specs.Column.{pick}
 use Rattle.model_laws.specs.Rounds.{cases-eq}
-use Rattle.tables.specs.declared.Sizes.{Sizes}
-use Rattle.tables.specs.Tables.{cell-count, header}
+use Rattle.table_access.specs.declared.Sizes.{Sizes}
+use Rattle.table_access.specs.Tables.{cell-count, header}
 use Rattle.table_index.specs.declared.Seen.{Seen}
 use Rattle.table_index.specs.Filling.{Put, all, Agree, Kept, Toward}
 use Rattle.table_index.specs.Index.{begin-of}

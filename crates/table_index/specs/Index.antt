@@ -4,16 +4,16 @@ use mathlib.Core.List.{List, [], _∷_}
 use Prim.Native.Nat.{ℕ, _+_, _*_, _≤_, _<_}
 use lib.Dec.{ltb}
 use lib.ListN.{length, getD, take, drop}
-use Rattle.columns.specs.Column.{pick}
+use Rattle.number_columns.specs.Column.{pick}
 use Rattle.sheet.specs.Line.{Line}
-use Rattle.cells.specs.Cells.{lines-of}
+use Rattle.walk_cells.specs.Cells.{lines-of}
 use Rattle.model.specs.Decl.{position}
 use Rattle.meaning.specs.Program.{name-line, param-line, ctor-line, field-line, program}
 use Rattle.meaning.specs.Rows.{count-of, count-before, heads-before}
-use Rattle.header.specs.Header.{header}
-use Rattle.declared.specs.Passed.{Passed}
-use Rattle.tables.specs.declared.Sizes.{Sizes}
-use Rattle.tables.specs.Tables.{decls-of, sizes-of, at-begins, at-params, at-ctors, at-fields, at-names, cell-count, cells-of}
+use Rattle.rows_header.specs.Header.{header}
+use Rattle.table_declared.specs.Passed.{Passed}
+use Rattle.table_access.specs.declared.Sizes.{Sizes}
+use Rattle.table_access.specs.Tables.{decls-of, sizes-of, at-begins, at-params, at-ctors, at-fields, at-names, cell-count, cells-of}
 use Rattle.table_index.specs.declared.Seen.{Seen}
 use Rattle.table_index.specs.Filling.{Agree}
 

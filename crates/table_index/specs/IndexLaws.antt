@@ -9,7 +9,7 @@ use lib.Dec.{eqb, leb, ltb}
 use lib.ListN.{length, getD, set}
 use lib.Seq.{getD-set-same, getD-set-other}
 use borrow.Author.Tests.{ltb-true, ltb-false, lt-ltb, le-ltb, eq-eqb, ne-eqb}
-use Rattle.columns.specs.Column.{pick, _⇒_∥_}
+use Rattle.number_columns.specs.Column.{pick, _⇒_∥_}
 use Rattle.sheet.specs.Line.{Line, letter, number}
 use Rattle.sheet.specs.ListLaws.{both, false-true}
 use Rattle.model.specs.Decl.{Dtype, dtype-at, position, close-fields}
@@ -18,16 +18,16 @@ use Rattle.meaning.specs.Rows.{line-at, count-of, count-before, heads-before, g
 use Rattle.model_laws.specs.Names.{position-name, position-distinct}
 use Rattle.model_laws.specs.Rounds.{cases-eq}
 use Rattle.meaning.specs.Laws.Program.{head-cases, heads-before-lt, length-program}
-use Rattle.header.specs.Header.{Lettered}
-use Rattle.order.specs.StepLaws.{count-before-step, heads-before-step, count-before-le, heads-before-le}
-use Rattle.limits.specs.Limits.{start}
-use Rattle.limits.specs.LimitsLaws.{start-at}
-use Rattle.declared.specs.Passed.{Passed}
-use Rattle.declared.specs.LineLaws.{nth-at, good-line}
-use Rattle.declared.specs.DeclLaws.{dtype-is}
-use Rattle.declared.specs.PassedLaws.{place-counted, head-place, distinct-names}
-use Rattle.tables.specs.Tables.{place-of, decls-of, sizes-of, at-begins, at-params, at-ctors, at-fields, at-names, number-cell, begin-row, header, cells-of, Within}
-use Rattle.tables.specs.CellsLaws.{Holds, header-cell, line-letter, line-number, begin-cell, param-cell, ctor-cell, field-cell, name-cell}
+use Rattle.rows_header.specs.Header.{Lettered}
+use Rattle.row3_order.specs.StepLaws.{count-before-step, heads-before-step, count-before-le, heads-before-le}
+use Rattle.row4_limits.specs.Limits.{start}
+use Rattle.row4_limits.specs.LimitsLaws.{start-at}
+use Rattle.table_declared.specs.Passed.{Passed}
+use Rattle.table_declared.specs.LineLaws.{nth-at, good-line}
+use Rattle.table_declared.specs.DeclLaws.{dtype-is}
+use Rattle.table_declared.specs.PassedLaws.{place-counted, head-place, distinct-names}
+use Rattle.table_access.specs.Tables.{place-of, decls-of, sizes-of, at-begins, at-params, at-ctors, at-fields, at-names, number-cell, begin-row, header, cells-of, Within}
+use Rattle.table_access.specs.CellsLaws.{Holds, header-cell, line-letter, line-number, begin-cell, param-cell, ctor-cell, field-cell, name-cell}
 use Rattle.table_index.specs.declared.Seen.{Seen}
 use Rattle.table_index.specs.Filling.{Put, all, Agree, Kept, Toward}
 use Rattle.table_index.specs.FillingLaws.{put-one, put-toward, section-step}

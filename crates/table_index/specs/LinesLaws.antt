@@ -9,11 +9,11 @@ use lib.ListN.{length, getD, take, drop, length-append, length-drop, List·getD-
 use lib.Seq.{length-take-le, getD-take, getD-drop, getD-append-add, ext-getD}
 use borrow.Author.Tests.{ltb-true, ltb-false}
 use Rattle.sheet.specs.Line.{Line, row}
-use Rattle.cells.specs.Cells.{cells, lines-of, bare}
-use Rattle.cells.specs.CellsLaws.{lines-cells, length-cells}
-use Rattle.tables.specs.declared.Sizes.{Sizes}
-use Rattle.tables.specs.Tables.{sizes-of, at-begins, cell-count, header, sections, cells-of, lines-in}
-use Rattle.tables.specs.CellsLaws.{offset, joined-get, cells-length, header-cell}
+use Rattle.walk_cells.specs.Cells.{cells, lines-of, bare}
+use Rattle.walk_cells.specs.CellsLaws.{lines-cells, length-cells}
+use Rattle.table_access.specs.declared.Sizes.{Sizes}
+use Rattle.table_access.specs.Tables.{sizes-of, at-begins, cell-count, header, sections, cells-of, lines-in}
+use Rattle.table_access.specs.CellsLaws.{offset, joined-get, cells-length, header-cell}
 use Rattle.table_index.specs.Index.{lines-behind, Ready, Headed}
 
 -- ---- cells and lines

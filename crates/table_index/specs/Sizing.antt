@@ -6,8 +6,8 @@ use lib.ListN.{length}
 use Rattle.sheet.specs.Line.{Line}
 use Rattle.meaning.specs.Program.{name-line, arg-line, type-line, ctor-line, field-line}
 use Rattle.meaning.specs.Rows.{count-of}
-use Rattle.declared.specs.Passed.{Passed}
-use Rattle.tables.specs.Tables.{decls-of}
+use Rattle.table_declared.specs.Passed.{Passed}
+use Rattle.table_access.specs.Tables.{decls-of}
 
 -- These lines passed rows 1 to 7, and there are so many, and of each kind.
 pub record Counted (ls : List Line) (lines names args types decls ctors fields : ℕ) : Type 0 where

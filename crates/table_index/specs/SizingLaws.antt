@@ -15,13 +15,13 @@ use Rattle.meaning.specs.declared.Due.the-variants.{Header, Within, Broken}
 use Rattle.meaning.specs.Program.{name-line, arg-line, type-line, param-line, ctor-line, field-line, verdict-line, select}
 use Rattle.meaning.specs.Rows.{count-of, due, due-header, due-after}
 use Rattle.meaning.specs.Laws.Rows.{is-header}
-use Rattle.header.specs.OrderLaws.{header-le, count-of-le}
-use Rattle.limits.specs.Limits.{start, counts-of}
-use Rattle.limits.specs.LimitsLaws.{start-past, Kind, kind, a-name, an-arg, a-type, a-local, an-import, a-param, a-ctor, a-field, another}
-use Rattle.declared.specs.Passed.{Passed}
-use Rattle.declared.specs.PassedLaws.{decls-few, lines-few}
-use Rattle.declared.specs.DeclLaws.{ends-lines, verdicts-first}
-use Rattle.tables.specs.Tables.{decls-of, sizes-of, cell-count}
+use Rattle.rows_header.specs.OrderLaws.{header-le, count-of-le}
+use Rattle.row4_limits.specs.Limits.{start, counts-of}
+use Rattle.row4_limits.specs.LimitsLaws.{start-past, Kind, kind, a-name, an-arg, a-type, a-local, an-import, a-param, a-ctor, a-field, another}
+use Rattle.table_declared.specs.Passed.{Passed}
+use Rattle.table_declared.specs.PassedLaws.{decls-few, lines-few}
+use Rattle.table_declared.specs.DeclLaws.{ends-lines, verdicts-first}
+use Rattle.table_access.specs.Tables.{decls-of, sizes-of, cell-count}
 use Rattle.table_index.specs.Sizing.{Counted}
 
 -- ---- nine letters

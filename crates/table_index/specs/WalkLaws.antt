@@ -15,16 +15,16 @@ use Rattle.meaning.specs.Program.{name-line, arg-line, type-line, local-line, i
 use Rattle.meaning.specs.Rows.{line-at, count-of, count-before, heads-before}
 use Rattle.model_laws.specs.Names.{position-le}
 use Rattle.meaning.specs.Laws.Program.{length-program}
-use Rattle.header.specs.Header as head
-use Rattle.header.specs.OrderLaws.{header-cases, header-letter, header-le}
-use Rattle.order.specs.StepLaws.{count-before-step}
-use Rattle.limits.specs.Limits.{start}
-use Rattle.limits.specs.LimitsLaws.{start-past}
-use Rattle.declared.specs.Passed.{Passed}
-use Rattle.declared.specs.PassedLaws.{ordered}
-use Rattle.tables.specs.declared.Sizes.{Sizes}
-use Rattle.tables.specs.Tables.{decls-of, sizes-of, at-begins, at-params, at-ctors, at-fields, at-names, cell-count, header, cells-of, lines-in, Tabled}
-use Rattle.tables.specs.CellsLaws.{cells-length, name-cell}
+use Rattle.rows_header.specs.Header as head
+use Rattle.rows_header.specs.OrderLaws.{header-cases, header-letter, header-le}
+use Rattle.row3_order.specs.StepLaws.{count-before-step}
+use Rattle.row4_limits.specs.Limits.{start}
+use Rattle.row4_limits.specs.LimitsLaws.{start-past}
+use Rattle.table_declared.specs.Passed.{Passed}
+use Rattle.table_declared.specs.PassedLaws.{ordered}
+use Rattle.table_access.specs.declared.Sizes.{Sizes}
+use Rattle.table_access.specs.Tables.{decls-of, sizes-of, at-begins, at-params, at-ctors, at-fields, at-names, cell-count, header, cells-of, lines-in, Tabled}
+use Rattle.table_access.specs.CellsLaws.{cells-length, name-cell}
 use Rattle.table_index.specs.declared.Seen.{Seen}
 use Rattle.table_index.specs.Filling.{Put, all, Agree, Toward}
 use Rattle.table_index.specs.FillingLaws.{agree-join}

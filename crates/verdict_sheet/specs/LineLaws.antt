@@ -22,16 +22,16 @@ use Rattle.meaning.specs.Program.{local-line, import-line, field-line, is, is-h
 use Rattle.meaning.specs.Rows.{line-at, count-of, count-before, heads-before, some-below, zeros-from, good-numbers, last-head, head-of, good-verdicts, row7}
 use Rattle.meaning.specs.Output.{verdict-line-of}
 use Rattle.meaning.specs.Laws.Verdict.{verdict-line-at}
-use Rattle.order.specs.StepLaws.{heads-before-suc, heads-before-mono, count-before-mono, count-before-suc, last-head-suc}
-use Rattle.limits.specs.Limits.{start}
-use Rattle.limits.specs.LimitsLaws.{start-counts}
-use Rattle.unused.specs.UnusedLaws.{stray, some-at}
-use Rattle.tables.specs.Tables.{nth, head-line, decls-of, first-of}
-use Rattle.declared.specs.LineLaws.{good-line, nth-at}
-use Rattle.declared.specs.DeclLaws.{line-inside, line-of-head, group-is, head-is-head, origin-local, wholes}
-use Rattle.marks.specs.Marks.{type-erased}
-use Rattle.keeps.specs.Keeps.{slots-at, erased-at, Slotted}
-use Rattle.keeps.specs.KeepsLaws.{slot-is}
+use Rattle.row3_order.specs.StepLaws.{heads-before-suc, heads-before-mono, count-before-mono, count-before-suc, last-head-suc}
+use Rattle.row4_limits.specs.Limits.{start}
+use Rattle.row4_limits.specs.LimitsLaws.{start-counts}
+use Rattle.row5_types.specs.UnusedLaws.{stray, some-at}
+use Rattle.table_access.specs.Tables.{nth, head-line, decls-of, first-of}
+use Rattle.table_declared.specs.LineLaws.{good-line, nth-at}
+use Rattle.table_declared.specs.DeclLaws.{line-inside, line-of-head, group-is, head-is-head, origin-local, wholes}
+use Rattle.erasure_marks.specs.Marks.{type-erased}
+use Rattle.keep_fields.specs.Keeps.{slots-at, erased-at, Slotted}
+use Rattle.keep_fields.specs.KeepsLaws.{slot-is}
 use Rattle.verdict_sheet.specs.Upto.{verdicts, Sheet}
 
 -- ---- where a line stands

@@ -5,8 +5,8 @@ use Prim.Native.Nat.{ℕ, zero, suc, _+_, _*_, _/_, _%_, _<_}
 use native.Mathlib.Omega.{arith}
 use lib.ListN.{length, getD, set}
 use lib.Seq.{set-append-left}
-use Rattle.columns.specs.Column.{shown, write}
-use Rattle.columns.specs.ColumnLaws.{write-length}
+use Rattle.number_columns.specs.Column.{shown, write}
+use Rattle.number_columns.specs.ColumnLaws.{write-length}
 use Rattle.sheet.specs.Line.{row, writes, encode}
 use Rattle.sheet.specs.LineLaws.{row-length}
 

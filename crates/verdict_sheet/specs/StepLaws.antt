@@ -9,7 +9,7 @@ use lib.Dec.{eqb}
 use lib.ListN.{length, getD, set, drop}
 use lib.Seq.{take-length}
 use borrow.Author.Tests.{ne-eqb}
-use Rattle.columns.specs.Column.{pick, _⇒_∥_}
+use Rattle.number_columns.specs.Column.{pick, _⇒_∥_}
 use Rattle.sheet.specs.Line.{Line, letter, number}
 use Rattle.sheet.specs.Sheet.{lines}
 use Rattle.sheet.specs.Format.{base}
@@ -23,20 +23,20 @@ use Rattle.meaning.specs.Program.{field-line, import-line, is, type-at, trees, 
 use Rattle.meaning.specs.Rows.{line-at, count-of, count-before}
 use Rattle.meaning.specs.Laws.Program.{length-program}
 use Rattle.answer.specs.Answer.{verdict-sheet, after}
-use Rattle.order.specs.StepLaws.{count-before-suc}
-use Rattle.limits.specs.Limits.{start}
-use Rattle.limits.specs.LimitsLaws.{start-past, start-rises}
-use Rattle.tables.specs.Tables.{head-line, decls-of, lines-in}
-use Rattle.declared.specs.LineLaws.{nth-at}
-use Rattle.declared.specs.DeclLaws.{origin-local}
-use Rattle.keeps.specs.Keeps.{Slotted}
-use Rattle.kept.specs.Kept.{body-kind}
-use Rattle.states.specs.States.{state, Shape, Settled}
-use Rattle.lefts.specs.Lefts.{Recorded}
+use Rattle.row3_order.specs.StepLaws.{count-before-suc}
+use Rattle.row4_limits.specs.Limits.{start}
+use Rattle.row4_limits.specs.LimitsLaws.{start-past, start-rises}
+use Rattle.table_access.specs.Tables.{head-line, decls-of, lines-in}
+use Rattle.table_declared.specs.LineLaws.{nth-at}
+use Rattle.table_declared.specs.DeclLaws.{origin-local}
+use Rattle.keep_fields.specs.Keeps.{Slotted}
+use Rattle.keep_ctors.specs.Kept.{body-kind}
+use Rattle.state_cells.specs.States.{state, Shape, Settled}
+use Rattle.left_laws.specs.Lefts.{Recorded}
 use Rattle.verdict_sheet.specs.Upto.{upto, number-by, Sheet, Next, Moved}
 use Rattle.verdict_sheet.specs.LineLaws.{start-le, inside, header-stays, import-stays, local-head, local-entry, local-field, local-verdict, local-other}
 use Rattle.verdict_sheet.specs.UptoLaws.{bytes, upto-none, upto-all, upto-again, upto-same, upto-letter, upto-keep, upto-three, upto-run, letter-byte}
-use Rattle.tables.specs.OfSheet.{decls-same, OfSheet, program-same, sheet-passed, first-same}
+use Rattle.table_access.specs.OfSheet.{decls-same, OfSheet, program-same, sheet-passed, first-same}
 
 -- ---- numbers of a verdict
 shape-number : (ls : List Line) (u : List ℕ) (d : ℕ) (l : Layout) → Shape ls u d l → number-by (state u d) (body-kind ls d) ≡ layout-number l

@@ -5,7 +5,7 @@ use mathlib.Core.Bool.{false}
 use Prim.Native.Nat.{ℕ, suc, _≤_, _<_}
 use lib.Dec.{eqb}
 use lib.ListN.{length, take, drop}
-use Rattle.columns.specs.Column.{_⇒_∥_}
+use Rattle.number_columns.specs.Column.{_⇒_∥_}
 use Rattle.sheet.specs.Line.{Line}
 use Rattle.sheet.specs.Format.{base}
 use Rattle.sheet.specs.Sheet.{count, lines, encodes, row1, row2}
@@ -13,13 +13,13 @@ use Rattle.model.specs.Run.{run}
 use Rattle.meaning.specs.Program.{field-line, import-line, is, program}
 use Rattle.meaning.specs.Rows.{count-of, count-before}
 use Rattle.meaning.specs.Output.{verdict-lines}
-use Rattle.limits.specs.Limits.{start}
-use Rattle.declared.specs.Passed.{Passed}
-use Rattle.tables.specs.Tables.{head-line, decls-of, lines-in}
-use Rattle.tables.specs.OfSheet.{OfSheet}
-use Rattle.keeps.specs.Keeps.{Slotted}
-use Rattle.states.specs.States.{Settled}
-use Rattle.lefts.specs.Lefts.{Recorded}
+use Rattle.row4_limits.specs.Limits.{start}
+use Rattle.table_declared.specs.Passed.{Passed}
+use Rattle.table_access.specs.Tables.{head-line, decls-of, lines-in}
+use Rattle.table_access.specs.OfSheet.{OfSheet}
+use Rattle.keep_fields.specs.Keeps.{Slotted}
+use Rattle.state_cells.specs.States.{Settled}
+use Rattle.left_laws.specs.Lefts.{Recorded}
 
 -- a layout's number, by the cell that says how the name is replaced, and by the body kind
 unfoldable pub number-by : ℕ → ℕ → ℕ

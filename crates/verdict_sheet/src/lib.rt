@@ -2,7 +2,7 @@
 mod overlay;
 
 use overlay::THIRD;
-use parts::LINE;
+use sheet_parts::LINE;
 ghost use mathlib.Core.Path.{_≡_};
 ghost use Prim.Native.Nat.{suc, _≤_, _<_};
 ghost use lib.ListN.{length};
@@ -11,12 +11,12 @@ ghost use Rattle.sheet.specs.Sheet.{lines};
 ghost use Rattle.meaning.specs.Program.{field-line};
 ghost use Rattle.meaning.specs.Rows.{count-of, count-before};
 ghost use Rattle.answer.specs.Answer.{verdict-sheet, after};
-ghost use Rattle.limits.specs.Limits.{start};
-ghost use Rattle.tables.specs.Tables.{decls-of, lines-in};
-ghost use Rattle.tables.specs.OfSheet.{OfSheet};
-ghost use Rattle.keeps.specs.Keeps.{Slotted};
-ghost use Rattle.states.specs.States.{Settled};
-ghost use Rattle.lefts.specs.Lefts.{Recorded};
+ghost use Rattle.row4_limits.specs.Limits.{start};
+ghost use Rattle.table_access.specs.Tables.{decls-of, lines-in};
+ghost use Rattle.table_access.specs.OfSheet.{OfSheet};
+ghost use Rattle.keep_fields.specs.Keeps.{Slotted};
+ghost use Rattle.state_cells.specs.States.{Settled};
+ghost use Rattle.left_laws.specs.Lefts.{Recorded};
 ghost use Rattle.verdict_sheet.specs.Upto.{Known, Next, Moved, upto};
 
 // Line i of a local declaration d, before which there are f F lines; and how many there are after it.
@@ -58,12 +58,12 @@ fn put_decl(s: &[u8], t: &[u32], u: &[u16], keep: &[u8], records: &[u8], out: &m
     requires { ⌜ (length (now s) ≤ length (now out)) × (now out ≡ upto (now s) (start (lines 6 (now s)) d) (now out)) ⌝ }
     ensures { λ _. ⌜ now (out .exit) ≡ upto (now (s .entry)) (start (lines 6 (now (s .entry))) (suc d)) (now (out .entry)) ⌝ }
 {
-    if tables::is_import(t, d) {
+    if table_access::is_import(t, d) {
         return;
     }
-    let end = tables::line_of(t, d + 1);
-    let mut i = tables::line_of(t, d);
-    let mut f = tables::first_field(t, d);
+    let end = table_access::line_of(t, d + 1);
+    let mut i = table_access::line_of(t, d);
+    let mut f = table_access::first_field(t, d);
     while i < end {
         f = put_line(s, t, u, keep, records, out, d, i, f);
         i += 1;
@@ -78,7 +78,7 @@ pub fn put_verdicts(s: &[u8], t: &[u32], u: &[u16], keep: &[u8], records: &[u8],
     ensures { λ _. ⌜ now (out .exit) ≡ after (verdict-sheet base (lines 6 (now (s .entry)))) (now (out .entry)) ⌝ }
 {
     overlay::copy(s, out);
-    let n = tables::decls(t);
+    let n = table_access::decls(t);
     let mut d = 0;
     while d < n {
         put_decl(s, t, u, keep, records, out, d);

@@ -1,19 +1,19 @@
 // The verdict sheet over a copy of the sheet: the copy, and a V line. `upto` says what stands in the output when some lines are written.
-use parts::LINE;
+use sheet_parts::LINE;
 ghost use mathlib.Core.Path.{_≡_};
 ghost use mathlib.Core.List.{_++_};
 ghost use Prim.Native.Nat.{suc, _*_, _≤_, _<_};
 ghost use lib.Dec.{eqb};
 ghost use lib.ListN.{length, drop, getD};
-ghost use Rattle.columns.specs.Column.{pick};
+ghost use Rattle.number_columns.specs.Column.{pick};
 ghost use Rattle.sheet.specs.Sheet.{lines};
 ghost use Rattle.model.specs.Decl as decl;
 ghost use Rattle.model.specs.Run.{layout-of-decl};
 ghost use Rattle.meaning.specs.Program.{program};
-ghost use Rattle.tables.specs.Tables.{decls-of, lines-in, Tabled};
-ghost use Rattle.tables.specs.OfSheet.{OfSheet};
-ghost use Rattle.states.specs.States.{Settled};
-ghost use Rattle.lefts.specs.Lefts.{Recorded};
+ghost use Rattle.table_access.specs.Tables.{decls-of, lines-in, Tabled};
+ghost use Rattle.table_access.specs.OfSheet.{OfSheet};
+ghost use Rattle.state_cells.specs.States.{Settled};
+ghost use Rattle.left_laws.specs.Lefts.{Recorded};
 ghost use Rattle.verdict_sheet.specs.Upto.{Next, upto};
 
 // The sheet's bytes at the front of an output.
@@ -22,7 +22,7 @@ pub fn copy(s: &[u8], out: &mut [u8])
     ensures { λ _. ⌜ now (out .exit) ≡ now (s .entry) ++ drop (length (now (s .entry))) (now (out .entry)) ⌝ }
 {
     let n = s.len();
-    copier::copy_lines(&mut out[0..n], s);
+    sheet_writer::copier::copy_lines(&mut out[0..n], s);
 }
 
 // The places of a line's first three numbers, where each has one digit.
@@ -45,7 +45,7 @@ fn layout_number(t: &[u32], u: &[u16], d: usize) -> u8
     if state == 1 {
         return 1;
     }
-    let kind = tables::decl_number(t, d, 2);
+    let kind = table_access::decl_number(t, d, 2);
     if kind == 0 {
         return 4;
     }

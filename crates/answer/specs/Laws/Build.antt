@@ -30,7 +30,7 @@ use Rattle.meaning.specs.Laws.Rows.{ends-whole, Ends, row3-ends, ends-row3, row
 use Rattle.meaning.specs.Laws.Output.{Sized, fits-sized, left-bytes-prefix, ten, verdict-fits, verdict-bytes, verdict-round}
 use Rattle.answer.specs.Laws.Answer.{sheets, passes-build, build-passes, build-equal}
 use Rattle.answer.specs.Laws.Pass.{clear-heads, heads-clear, own-imports}
-use Rattle.locality.specs.Laws.Pinning.{prefix-lefts, Apart, prefix-program, prefix-infos}
+use Rattle.model_locality.specs.Laws.Pinning.{prefix-lefts, Apart, prefix-program, prefix-infos}
 use Rattle.answer.specs.Laws.Step.{
   Checks,
   later,

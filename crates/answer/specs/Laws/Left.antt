@@ -12,7 +12,7 @@ use lib.Dec.{eqb, leb, ltb}
 use lib.ListN.{length, getD, take, drop, length-drop}
 use lib.Seq.{take-suc, take-add, getD-drop}
 use borrow.Author.Tests.{eqb-true, ltb-true, ltb-false, leb-false, not-false}
-use Rattle.columns.specs.Column.{pick, _⇒_∥_}
+use Rattle.number_columns.specs.Column.{pick, _⇒_∥_}
 use Rattle.sheet.specs.Line.{Line, bad, letter, number}
 use Rattle.sheet.specs.Format.{Format, lineBytes, Ample}
 use Rattle.sheet.specs.Sheet.{count, lines, row1}
@@ -29,7 +29,7 @@ use Rattle.meaning.specs.Rows.{line-at, count-of, count-before, heads-before, p
 use Rattle.meaning.specs.Output.{left-lines}
 use Rattle.answer.specs.Answer.{row8, row9-10, left-sheet, Clear, Passes}
 use Rattle.answer.specs.Laws.Pass.{clear-heads}
-use Rattle.locality.specs.Laws.Fuel.{NoReturn}
+use Rattle.model_locality.specs.Laws.Fuel.{NoReturn}
 use Rattle.meaning.specs.Laws.Written.{left-program-read}
 use Rattle.meaning.specs.Laws.Numbers.{sheet-round, left-sheet-normal}
 use Rattle.meaning.specs.Laws.Program.{None, heads, head-cases, length-program, program-at, HeadAt, head-at, body-number, body-of-number, close-number}

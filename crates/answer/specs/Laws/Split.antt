@@ -44,7 +44,7 @@ use Rattle.meaning.specs.Laws.Program.{none-append, Starts, None, select-append
 use Rattle.meaning.specs.Laws.Rows.{Ends, raw-rawly, ends-prefix, NoHeader, no-header}
 use Rattle.answer.specs.Answer.{verdict-sheet, Passes, Clear}
 use Rattle.answer.specs.Laws.Pass.{name-at, distinct-program}
-use Rattle.locality.specs.Laws.Pinning.{Apart, distinct-undeclared}
+use Rattle.model_locality.specs.Laws.Pinning.{Apart, distinct-undeclared}
 use Rattle.answer.specs.Laws.Step.{same-rows, SameRows, verdicts, later, program-parts}
 use Rattle.answer.specs.Laws.Build.{pass-whole, verdict-lines-behind, passes-sound, Sound, pass-no-bad, whole-length, whole-append, NoBad, no-bad-pass, Split, split-steps}
 use Rattle.answer.specs.Laws.Cut.{Splits, chain}

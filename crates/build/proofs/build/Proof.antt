@@ -5,9 +5,9 @@ use native.Mathlib.Omega.{arith}
 use borrow.Author.Needs.{needs}
 use Rattle.sheet.specs.Format.{base}
 use Rattle.sheet.specs.Sheet.{row1}
-use Rattle.limits.specs.LimitsLaws.{short-bytes}
-use Rattle.refusals.specs.declared.Checked.{Checked}
-use Rattle.refusals.specs.RowsLaws.{at1}
+use Rattle.row4_limits.specs.LimitsLaws.{short-bytes}
+use Rattle.rows_refusals.specs.declared.Checked.{Checked}
+use Rattle.rows_refusals.specs.RowsLaws.{at1}
 use Rattle.build.specs.BuildLaws.{gives-sheet}
 use Rattle.build.proofs.build.Statement.{statement}
 use Rattle.build.proofs.build.Tie as tie

@@ -6,8 +6,8 @@ use lib.ListN.{length, drop, length-drop}
 use lib.Seq.{length-take-le}
 use borrow.Author.Needs.{needs}
 use Rattle.sheet.specs.Sheet.{count}
-use Rattle.refusals.specs.declared.Checked.{Checked}
-use Rattle.limits.specs.LimitsLaws.{short-bytes}
+use Rattle.rows_refusals.specs.declared.Checked.{Checked}
+use Rattle.row4_limits.specs.LimitsLaws.{short-bytes}
 use Rattle.build.specs.BuildLaws.{checked-lines, gives-sheet}
 use Rattle.build.proofs.checked.Statement.{statement}
 use Rattle.build.proofs.checked.Tie as tie

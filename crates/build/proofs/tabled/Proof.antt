@@ -4,8 +4,8 @@ use Prim.Native.Nat.{ℕ, _*_, _≤_}
 use native.Mathlib.Omega.{arith}
 use borrow.Author.Needs.{needs}
 use Rattle.sheet.specs.Format.{base}
-use Rattle.declared.specs.PassedLaws.{decls-within, fields-within}
-use Rattle.tables.specs.Tables.{lines-in}
+use Rattle.table_declared.specs.PassedLaws.{decls-within, fields-within}
+use Rattle.table_access.specs.Tables.{lines-in}
 use Rattle.build.specs.BuildLaws.{part-length}
 use Rattle.build.proofs.tabled.Statement.{statement}
 use Rattle.build.proofs.tabled.Tie as tie

@@ -2,7 +2,7 @@
 use native.Mathlib.Omega.{arith}
 use Rattle.form_tables.specs.Bounds.{starts-own, ends-own}
 use borrow.Author.Needs.{needs}
-use Rattle.declared.specs.PassedLaws.{decls-few}
+use Rattle.table_declared.specs.PassedLaws.{decls-few}
 use Rattle.form_tables.proofs.bounded.Statement.{statement}
 use Rattle.form_tables.proofs.bounded.Tie as tie
 

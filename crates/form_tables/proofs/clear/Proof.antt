@@ -3,7 +3,7 @@ use mathlib.Core.Path.{_≡_, refl}
 use Prim.Native.Nat.{ℕ, _-_, _≤_, _<_}
 use native.Mathlib.Omega.{arith}
 use lib.ListN.{length, getD, length-set}
-use Rattle.normal_forms.specs.RanksLaws.{zeros-more}
+use Rattle.form_normal.specs.RanksLaws.{zeros-more}
 use borrow.Author.Needs.{needs}
 use Rattle.form_tables.proofs.clear.Statement.{statement}
 use Rattle.form_tables.proofs.clear.Tie as tie

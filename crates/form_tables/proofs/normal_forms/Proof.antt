@@ -2,7 +2,7 @@
 use native.Mathlib.Omega.{arith}
 use borrow.Author.Needs.{needs}
 use Rattle.sheet.specs.Format.{base}
-use Rattle.declared.specs.PassedLaws.{decls-within}
+use Rattle.table_declared.specs.PassedLaws.{decls-within}
 use Rattle.form_tables.specs.Bounded.{zeros}
 use Rattle.form_tables.proofs.normal_forms.Statement.{statement}
 use Rattle.form_tables.proofs.normal_forms.Tie as tie

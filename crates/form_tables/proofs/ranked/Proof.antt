@@ -3,13 +3,13 @@ use mathlib.Core.Path.{_≡_, refl, sym, subst, _∙_}
 use Prim.Native.Nat.{ℕ, _-_, _*_, _≤_}
 use native.Mathlib.Omega.{arith}
 use lib.ListN.{length}
-use Rattle.tables.specs.Tables.{lines-in}
-use Rattle.normal_forms.specs.Tables.{Table}
-use Rattle.normal_forms.specs.Ranks.{Done}
-use Rattle.normal_forms.specs.RanksLaws.{first-table, next-rank, formed-stop, formed-done}
+use Rattle.table_access.specs.Tables.{lines-in}
+use Rattle.form_normal.specs.Tables.{Table}
+use Rattle.form_normal.specs.Ranks.{Done}
+use Rattle.form_normal.specs.RanksLaws.{first-table, next-rank, formed-stop, formed-done}
 use Rattle.form_tables.specs.Bounded.{within}
 use borrow.Author.Needs.{needs}
-use Rattle.declared.specs.PassedLaws.{decls-few}
+use Rattle.table_declared.specs.PassedLaws.{decls-few}
 use Rattle.form_tables.proofs.ranked.Statement.{statement}
 use Rattle.form_tables.proofs.ranked.Tie as tie
 

@@ -2,10 +2,10 @@
 use Prim.Native.Nat.{_<_}
 use native.Mathlib.Omega.{arith}
 use borrow.Author.Needs.{needs}
-use Rattle.kids.specs.NodesLaws.{node-at}
+use Rattle.resolve_kids.specs.NodesLaws.{node-at}
 use Rattle.form_words.specs.Filling.{argument-given}
 use Rattle.form_words.proofs.argument_line.Statement.{statement}
-use Rattle.tables.specs.Tables.{lines-in}
+use Rattle.table_access.specs.Tables.{lines-in}
 use Rattle.form_words.proofs.argument_line.Tie as tie
 
 returns-3 : tie.Need-returns-3

@@ -4,12 +4,12 @@ use mathlib.Core.Bool.{true}
 use Prim.Native.Nat.{ℕ, _-_, _≤_, _<_}
 use native.Mathlib.Omega.{arith}
 use lib.ListN.{length}
-use Rattle.tables.specs.Tables.{decls-of, lines-in}
+use Rattle.table_access.specs.Tables.{decls-of, lines-in}
 use Rattle.left_types.specs.Sums.{Added}
 use Rattle.left_count.specs.Counts.{decl-types, decl-count}
 use Rattle.left_count.specs.CountsLaws.{Upto, upto-none, upto-more, counted-all, counted-short, few-upto, few-short}
 use borrow.Author.Tests.{not-true, not-false}
-use Rattle.declared.specs.PassedLaws.{decls-few}
+use Rattle.table_declared.specs.PassedLaws.{decls-few}
 use Rattle.left_count.proofs.count.Statement.{statement}
 use Rattle.left_count.proofs.count.Tie as tie
 

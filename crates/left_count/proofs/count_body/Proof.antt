@@ -6,9 +6,9 @@ use lib.ListN.{length}
 use Rattle.left_types.specs.SumsLaws.{added-lines}
 use Rattle.left_count.specs.CountsLaws.{variant-few, told-newtype, told-abbrev, kind-three, count-newtype, count-none, count-abbrev, count-record, count-variant}
 use borrow.Author.Needs.{needs}
-use Rattle.declared.specs.PassedLaws.{decls-few}
+use Rattle.table_declared.specs.PassedLaws.{decls-few}
 use Rattle.left_count.proofs.count_body.Statement.{statement}
-use Rattle.tables.specs.Tables.{lines-in}
+use Rattle.table_access.specs.Tables.{lines-in}
 use Rattle.left_count.proofs.count_body.Tie as tie
 
 state-requires : tie.Need-state-requires

@@ -6,7 +6,7 @@ use Rattle.left_types.specs.SumsLaws.{added-lines}
 use Rattle.left_count.specs.CountsLaws.{params-few-of, left-open, decl-skip, decl-left}
 use borrow.Author.Needs.{needs}
 use Rattle.left_count.proofs.count_decl.Statement.{statement}
-use Rattle.tables.specs.Tables.{lines-in}
+use Rattle.table_access.specs.Tables.{lines-in}
 use Rattle.left_count.proofs.count_decl.Tie as tie
 
 returns : tie.Need-returns

@@ -3,9 +3,9 @@ use Rattle.left_fields.specs.FieldsLaws.{kept-few}
 use Rattle.left_ctors.specs.CtorsLaws.{ctor-line-room, ctor-fields-room, ctor-writes}
 use native.Mathlib.Omega.{arith}
 use borrow.Author.Needs.{needs}
-use Rattle.declared.specs.PassedLaws.{fields-few}
+use Rattle.table_declared.specs.PassedLaws.{fields-few}
 use Rattle.left_ctors.proofs.put_ctor.Statement.{statement}
-use Rattle.tables.specs.Tables.{lines-in}
+use Rattle.table_access.specs.Tables.{lines-in}
 use Rattle.left_ctors.proofs.put_ctor.Tie as tie
 
 count-kept-requires : tie.Need-count-kept-requires

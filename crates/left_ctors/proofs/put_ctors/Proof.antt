@@ -4,15 +4,15 @@ use Prim.Native.Nat.{ℕ, _+_, _-_, _≤_}
 use lib.ListN.{length}
 use Rattle.meaning.specs.Program.{ctor-line}
 use Rattle.meaning.specs.Output.{ctor-lines}
-use Rattle.kept.specs.KeptLaws.{fields-in}
-use Rattle.places.specs.Places.{Writes}
+use Rattle.keep_ctors.specs.KeptLaws.{fields-in}
+use Rattle.left_places.specs.Places.{Writes}
 use Rattle.left_ctors.specs.Ctors.{left-ctors}
-use Rattle.header.specs.OrderLaws.{count-of-le}
+use Rattle.rows_header.specs.OrderLaws.{count-of-le}
 use Rattle.left_ctors.specs.CtorsLaws.{ctors-room, ctors-writes, ctors-start, fields-in-start, ctor-next, ctor-given, ctor-few}
 use native.Mathlib.Omega.{arith}
 use borrow.Author.Needs.{needs}
 use Rattle.left_ctors.proofs.put_ctors.Statement.{statement}
-use Rattle.tables.specs.Tables.{lines-in}
+use Rattle.table_access.specs.Tables.{lines-in}
 use Rattle.left_ctors.proofs.put_ctors.Tie as tie
 
 abbrev Inv-loop : tie.InvT-loop

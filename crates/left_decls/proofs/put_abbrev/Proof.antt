@@ -1,10 +1,10 @@
 -- `left_decls::put_abbrev` meets its contract: the type first, and then the D line with its number. Assumes nothing.
-use Rattle.lefts.specs.Lefts.{left-type}
+use Rattle.left_laws.specs.Lefts.{left-type}
 use Rattle.left_decls.specs.DeclsLaws.{abbrev-type, abbrev-number, abbrev-bare, abbrev-writes}
 use native.Mathlib.Omega.{arith}
 use borrow.Author.Needs.{needs}
 use Rattle.left_decls.proofs.put_abbrev.Statement.{statement}
-use Rattle.tables.specs.Tables.{lines-in}
+use Rattle.table_access.specs.Tables.{lines-in}
 use Rattle.left_decls.proofs.put_abbrev.Tie as tie
 
 put-type-requires : tie.Need-put-type-requires

@@ -5,7 +5,7 @@ use Rattle.left_decls.specs.DeclsLaws.{state-is, given-newtype, given-ab
 use native.Mathlib.Omega.{arith}
 use borrow.Author.Needs.{needs}
 use Rattle.left_decls.proofs.put_decl.Statement.{statement}
-use Rattle.tables.specs.Tables.{lines-in}
+use Rattle.table_access.specs.Tables.{lines-in}
 use Rattle.left_decls.proofs.put_decl.Tie as tie
 
 cast-y : tie.Need-cast-y

@@ -1,6 +1,6 @@
 -- `left_decls::put_record` meets its contract: the D and P lines with the count of kept fields, these, and the V line. Assumes nothing.
 use Rattle.meaning.specs.Output.{field-lines}
-use Rattle.declared.specs.PassedLaws.{fields-few}
+use Rattle.table_declared.specs.PassedLaws.{fields-few}
 use Rattle.left_fields.specs.Fields.{left-fields}
 use Rattle.left_fields.specs.FieldsLaws.{growing-fields, kept-few}
 use Rattle.left_heads.specs.HeadsLaws.{frame-head, frame-body, frame-end, frame-writes}
@@ -8,7 +8,7 @@ use Rattle.left_decls.specs.DeclsLaws.{record-is, room-same, writes-same
 use native.Mathlib.Omega.{arith}
 use borrow.Author.Needs.{needs}
 use Rattle.left_decls.proofs.put_record.Statement.{statement}
-use Rattle.tables.specs.Tables.{lines-in}
+use Rattle.table_access.specs.Tables.{lines-in}
 use Rattle.left_decls.proofs.put_record.Tie as tie
 
 count-kept-requires : tie.Need-count-kept-requires

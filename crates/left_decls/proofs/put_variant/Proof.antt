@@ -7,7 +7,7 @@ use Rattle.left_decls.specs.DeclsLaws.{variant-is, room-same, writes-sam
 use native.Mathlib.Omega.{arith}
 use borrow.Author.Needs.{needs}
 use Rattle.left_decls.proofs.put_variant.Statement.{statement}
-use Rattle.tables.specs.Tables.{lines-in}
+use Rattle.table_access.specs.Tables.{lines-in}
 use Rattle.left_decls.proofs.put_variant.Tie as tie
 
 put-head-requires : tie.Need-put-head-requires

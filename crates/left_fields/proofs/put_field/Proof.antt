@@ -3,7 +3,7 @@ use Rattle.left_fields.specs.FieldsLaws.{type-room-at, number-at, line-r
 use native.Mathlib.Omega.{arith}
 use borrow.Author.Needs.{needs}
 use Rattle.left_fields.proofs.put_field.Statement.{statement}
-use Rattle.tables.specs.Tables.{lines-in}
+use Rattle.table_access.specs.Tables.{lines-in}
 use Rattle.left_fields.proofs.put_field.Tie as tie
 
 put-type-requires : tie.Need-put-type-requires

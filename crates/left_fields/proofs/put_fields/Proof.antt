@@ -3,13 +3,13 @@ use mathlib.Core.Path.{_≡_, refl}
 use Prim.Native.Nat.{_+_, _-_, _≤_}
 use lib.ListN.{length}
 use Rattle.meaning.specs.Output.{field-lines}
-use Rattle.places.specs.Places.{Writes}
+use Rattle.left_places.specs.Places.{Writes}
 use Rattle.left_fields.specs.Fields.{left-fields}
 use Rattle.left_fields.specs.FieldsLaws.{part-fields, fields-start, fields-room, fields-writes}
 use native.Mathlib.Omega.{arith}
 use borrow.Author.Needs.{needs}
 use Rattle.left_fields.proofs.put_fields.Statement.{statement}
-use Rattle.tables.specs.Tables.{lines-in}
+use Rattle.table_access.specs.Tables.{lines-in}
 use Rattle.left_fields.proofs.put_fields.Tie as tie
 
 abbrev Inv-loop : tie.InvT-loop

@@ -3,7 +3,7 @@ use Rattle.left_fields.specs.FieldsLaws.{kept-no, kept-room, kept-writes
 use native.Mathlib.Omega.{arith}
 use borrow.Author.Needs.{needs}
 use Rattle.left_fields.proofs.put_kept.Statement.{statement}
-use Rattle.tables.specs.Tables.{lines-in}
+use Rattle.table_access.specs.Tables.{lines-in}
 use Rattle.left_fields.proofs.put_kept.Tie as tie
 
 returns : tie.Need-returns

@@ -6,9 +6,9 @@ use lib.ListN.{length, getD, length-set}
 use Rattle.model.specs.Decl.{bit}
 use Rattle.model.specs.Run.{left-at}
 use Rattle.meaning.specs.Program.{program}
-use Rattle.declared.specs.PassedLaws.{decls-few}
-use Rattle.tables.specs.Tables.{decls-of, lines-in}
-use Rattle.lefts.specs.Lefts.{is-left}
+use Rattle.table_declared.specs.PassedLaws.{decls-few}
+use Rattle.table_access.specs.Tables.{decls-of, lines-in}
+use Rattle.left_laws.specs.Lefts.{is-left}
 use Rattle.left_flags.specs.FlagsLaws.{ready-forms, leaves-is, flag-more}
 use borrow.Author.Needs.{needs}
 use Rattle.left_flags.proofs.flags.Statement.{statement}

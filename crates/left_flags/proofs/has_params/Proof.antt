@@ -4,17 +4,17 @@ use mathlib.Core.List.{map}
 use Prim.Native.Nat.{ℕ, _+_, _-_}
 use native.Mathlib.Omega.{arith}
 use Rattle.meaning.specs.Program.{param-line}
-use Rattle.limits.specs.Limits.{start}
-use Rattle.declared.specs.PassedLaws.{decls-few, params-few}
-use Rattle.arguments.specs.Params.{params-from, params-of}
-use Rattle.arguments.specs.ParamsLaws.{count-before-le}
-use Rattle.nodes.specs.Words.{node-of}
+use Rattle.row4_limits.specs.Limits.{start}
+use Rattle.table_declared.specs.PassedLaws.{decls-few, params-few}
+use Rattle.resolve_kids.specs.Params.{params-from, params-of}
+use Rattle.resolve_kids.specs.ParamsLaws.{count-before-le}
+use Rattle.form_nodes.specs.Words.{node-of}
 use Rattle.form_words.specs.Emit.{form-words}
 use Rattle.left_flags.specs.Flags.{has-all}
 use Rattle.left_flags.specs.FlagsLaws.{all-end, all-hit, all-miss}
 use borrow.Author.Tests.{not-true, not-false}
 use Rattle.left_flags.proofs.has_params.Statement.{statement}
-use Rattle.tables.specs.Tables.{lines-in}
+use Rattle.table_access.specs.Tables.{lines-in}
 use Rattle.left_flags.proofs.has_params.Tie as tie
 
 abbrev Inv-loop : tie.InvT-loop

@@ -4,7 +4,7 @@ use mathlib.Core.Bool.{false}
 use Prim.Native.Nat.{ℕ, _+_, _-_, _≤_, _<_}
 use native.Mathlib.Omega.{arith}
 use lib.ListN.{getD}
-use Rattle.nodes.specs.Words.{node-of}
+use Rattle.form_nodes.specs.Words.{node-of}
 use Rattle.left_flags.specs.Flags.{is-var}
 use Rattle.left_flags.specs.FlagsLaws.{has-true, has-false, none-more}
 use borrow.Author.Needs.{needs}

@@ -3,9 +3,9 @@ use mathlib.Core.Path.{sym, _∙_}
 use native.Mathlib.Omega.{arith}
 use Rattle.left_flags.specs.FlagsLaws.{leaves-none, leaves-some, leaves-newtype}
 use borrow.Author.Needs.{needs}
-use Rattle.declared.specs.PassedLaws.{decls-few}
+use Rattle.table_declared.specs.PassedLaws.{decls-few}
 use Rattle.left_flags.proofs.is_left.Statement.{statement}
-use Rattle.tables.specs.Tables.{lines-in}
+use Rattle.table_access.specs.Tables.{lines-in}
 use Rattle.left_flags.proofs.is_left.Tie as tie
 
 state-requires : tie.Need-state-requires

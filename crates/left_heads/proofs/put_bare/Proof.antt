@@ -1,10 +1,10 @@
 -- `left_heads::put_bare` meets its contract. Assumes nothing.
-use Rattle.places.specs.Places.{none}
-use Rattle.places.specs.PlacesLaws.{growing-none, writes-none}
+use Rattle.left_places.specs.Places.{none}
+use Rattle.left_places.specs.PlacesLaws.{growing-none, writes-none}
 use Rattle.left_heads.specs.HeadsLaws.{frame-head, frame-end, frame-writes}
 use borrow.Author.Needs.{needs}
 use Rattle.left_heads.proofs.put_bare.Statement.{statement}
-use Rattle.tables.specs.Tables.{lines-in}
+use Rattle.table_access.specs.Tables.{lines-in}
 use Rattle.left_heads.proofs.put_bare.Tie as tie
 
 put-head-requires : tie.Need-put-head-requires

@@ -2,9 +2,9 @@
 use Rattle.left_heads.specs.HeadsLaws.{params-inside, d-room, p-room, head-writes}
 use native.Mathlib.Omega.{arith}
 use borrow.Author.Needs.{needs}
-use Rattle.declared.specs.PassedLaws.{params-few}
+use Rattle.table_declared.specs.PassedLaws.{params-few}
 use Rattle.left_heads.proofs.put_head.Statement.{statement}
-use Rattle.tables.specs.Tables.{lines-in}
+use Rattle.table_access.specs.Tables.{lines-in}
 use Rattle.left_heads.proofs.put_head.Tie as tie
 
 cast-t14 : tie.Need-cast-t14

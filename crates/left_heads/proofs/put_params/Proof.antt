@@ -3,15 +3,15 @@ use mathlib.Core.Path.{_≡_, refl}
 use mathlib.Core.List.{map}
 use Prim.Native.Nat.{_+_, _-_, _≤_}
 use lib.ListN.{length}
-use Rattle.arguments.specs.Params.{params-from}
-use Rattle.places.specs.Places.{Writes}
+use Rattle.resolve_kids.specs.Params.{params-from}
+use Rattle.left_places.specs.Places.{Writes}
 use Rattle.left_heads.specs.Heads.{fixed, param-row}
 use Rattle.left_heads.specs.HeadsLaws.{param-small, params-start, params-room, params-writes}
 use native.Mathlib.Omega.{arith}
 use borrow.Author.Needs.{needs}
-use Rattle.declared.specs.PassedLaws.{params-few}
+use Rattle.table_declared.specs.PassedLaws.{params-few}
 use Rattle.left_heads.proofs.put_params.Statement.{statement}
-use Rattle.tables.specs.Tables.{lines-in}
+use Rattle.table_access.specs.Tables.{lines-in}
 use Rattle.left_heads.proofs.put_params.Tie as tie
 
 abbrev Inv-loop : tie.InvT-loop

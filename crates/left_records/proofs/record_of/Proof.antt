@@ -4,10 +4,10 @@ use Prim.Native.Nat.{_+_}
 use native.Mathlib.Omega.{arith}
 use Rattle.sheet.specs.Line.{number}
 use Rattle.meaning.specs.Program.{field-line}
-use Rattle.limits.specs.Limits.{start}
-use Rattle.declared.specs.PassedLaws.{decls-few}
-use Rattle.tables.specs.Tables.{head-line, lines-in}
-use Rattle.arguments.specs.ParamsLaws.{count-before-le}
+use Rattle.row4_limits.specs.Limits.{start}
+use Rattle.table_declared.specs.PassedLaws.{decls-few}
+use Rattle.table_access.specs.Tables.{head-line, lines-in}
+use Rattle.resolve_kids.specs.ParamsLaws.{count-before-le}
 use Rattle.left_records.specs.RecordsLaws.{by-none, by-source, by-newtype, by-kind, by-last, by-kept}
 use borrow.Author.Needs.{needs}
 use Rattle.left_records.proofs.record_of.Statement.{statement}

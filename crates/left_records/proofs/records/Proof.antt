@@ -6,8 +6,8 @@ use lib.ListN.{length, getD, length-set}
 use Rattle.model.specs.Decl.{bit}
 use Rattle.model.specs.Run.{record-of, left-at}
 use Rattle.meaning.specs.Program.{program}
-use Rattle.declared.specs.PassedLaws.{decls-few}
-use Rattle.tables.specs.Tables.{decls-of, lines-in}
+use Rattle.table_declared.specs.PassedLaws.{decls-few}
+use Rattle.table_access.specs.Tables.{decls-of, lines-in}
 use Rattle.left_records.specs.RecordsLaws.{record-is, number-more}
 use borrow.Author.Needs.{needs}
 use Rattle.left_records.proofs.records.Statement.{statement}

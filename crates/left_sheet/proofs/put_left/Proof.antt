@@ -6,9 +6,9 @@ use native.Mathlib.Omega.{arith}
 use Rattle.left_sheet.specs.FewLaws.{left-types-few}
 use borrow.Author.Needs.{needs}
 use Rattle.left_sheet.proofs.put_left.Statement.{statement}
-use Rattle.tables.specs.Tables.{lines-in}
+use Rattle.table_access.specs.Tables.{lines-in}
 use Rattle.meaning.specs.Program.{name-line}
-use Rattle.tables.specs.OfSheet.{count-same}
+use Rattle.table_access.specs.OfSheet.{count-same}
 use Rattle.left_sheet.proofs.put_left.Tie as tie
 
 put-names-requires : tie.Need-put-names-requires

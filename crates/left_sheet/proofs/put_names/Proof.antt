@@ -8,7 +8,7 @@ use native.Mathlib.Omega.{arith}
 use borrow.Author.Needs.{needs}
 use Rattle.left_sheet.proofs.put_names.Statement.{statement}
 use Rattle.meaning.specs.Program.{name-line}
-use Rattle.tables.specs.OfSheet.{count-same}
+use Rattle.table_access.specs.OfSheet.{count-same}
 use Rattle.left_sheet.proofs.put_names.Tie as tie
 
 part-end : tie.Need-part-copy-lines-end-2

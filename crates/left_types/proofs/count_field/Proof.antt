@@ -9,7 +9,7 @@ use Rattle.left_types.specs.SumsLaws.{added-short, added-lines, added-mo
 use borrow.Author.Needs.{needs}
 use borrow.Author.Tests.{not-true, not-false}
 use Rattle.left_types.proofs.count_field.Statement.{statement}
-use Rattle.tables.specs.Tables.{lines-in}
+use Rattle.table_access.specs.Tables.{lines-in}
 use Rattle.left_types.proofs.count_field.Tie as tie
 
 returns : tie.Need-returns

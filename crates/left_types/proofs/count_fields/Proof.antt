@@ -5,11 +5,11 @@ use Prim.Native.Nat.{ℕ, _+_, _-_, _*_, _≤_}
 use native.Mathlib.Omega.{arith}
 use lib.ListN.{length}
 use Rattle.meaning.specs.Program.{field-line}
-use Rattle.limits.specs.Limits.{start}
-use Rattle.declared.specs.PassedLaws.{decls-few, fields-few}
-use Rattle.tables.specs.Tables.{first-of, lines-in}
-use Rattle.arguments.specs.ParamsLaws.{count-before-le}
-use Rattle.lefts.specs.declared.Count.{Count}
+use Rattle.row4_limits.specs.Limits.{start}
+use Rattle.table_declared.specs.PassedLaws.{decls-few, fields-few}
+use Rattle.table_access.specs.Tables.{first-of, lines-in}
+use Rattle.resolve_kids.specs.ParamsLaws.{count-before-le}
+use Rattle.left_laws.specs.declared.Count.{Count}
 use Rattle.left_types.specs.SumsLaws.{One, Rest, tells, rest-step, rest-stop, rest-end, one-few}
 use borrow.Author.Tests.{not-true, not-false}
 use Rattle.left_types.proofs.count_fields.Statement.{statement}

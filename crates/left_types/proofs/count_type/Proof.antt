@@ -4,7 +4,7 @@ use native.Mathlib.Omega.{arith}
 use Rattle.left_types.specs.SumsLaws.{added-short, added-type, type-short, type-few, part-few, args-small}
 use borrow.Author.Needs.{needs}
 use Rattle.left_types.proofs.count_type.Statement.{statement}
-use Rattle.tables.specs.Tables.{lines-in}
+use Rattle.table_access.specs.Tables.{lines-in}
 use Rattle.left_types.proofs.count_type.Tie as tie
 
 emit-requires : tie.Need-emit-requires

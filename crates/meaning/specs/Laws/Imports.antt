@@ -3,13 +3,13 @@ use mathlib.Core.List.{List, [], _∷_, List·Memᴰ·not-nil}
 use mathlib.Core.Bool.{Bool, true, false}
 use Prim.Native.Nat.{ℕ}
 use lib.Dec.{eqb}
-use Rattle.columns.specs.Column.{pick, _⇒_∥_}
+use Rattle.number_columns.specs.Column.{pick, _⇒_∥_}
 use Rattle.sheet.specs.Line.{Line}
 use Rattle.model.specs.Decl.{Ctor, Body, TAbstract, TAbbrev, TRecord, TVariant, Dtype, ctors-of-tydef, CtorLayout, L-erased, L-struct, L-opaque}
 use Rattle.model.specs.Layout.{ctor-layout, newtype-of, collapse}
 use Rattle.model.specs.Names.{ctors-names, body-names, dtype-names, Among, cls-names, layout-names}
 use Rattle.model_laws.specs.Names.{among-append, kept-names, ctors-own}
-use Rattle.locality.specs.Laws.Own.{Own, option-weaken, newtype-own, collapse-own}
+use Rattle.model_locality.specs.Laws.Own.{Own, option-weaken, newtype-own, collapse-own}
 use Rattle.meaning.specs.Program.{keeps-of, ctor-layouts-by, abbreviated, layout-by, info-of}
 
 pub cls-by : (cs : List Ctor) (bss : List (List Bool)) → Among (cls-names (ctor-layouts-by cs bss)) (ctors-names cs)

@@ -11,7 +11,7 @@ use native.Mathlib.Nat.{mul-le-mul-left}
 use lib.Dec.{eqb, ltb}
 use lib.ListN.{length, getD, length-append, length-map}
 use borrow.Author.Tests.{eqb-true, ltb-true, ltb-false}
-use Rattle.columns.specs.Column.{pick, _⇒_∥_}
+use Rattle.number_columns.specs.Column.{pick, _⇒_∥_}
 use Rattle.sheet.specs.Line.{Line, letter, number}
 use Rattle.sheet.specs.LineLaws.{Fits}
 use Rattle.sheet.specs.Sheet.{lines, encodes}

@@ -9,8 +9,8 @@ use native.Mathlib.Nat.{mul-suc, mul-le-mul-left}
 use lib.Dec.{eqb}
 use lib.ListN.{length, getD, length-append, length-map}
 use borrow.Author.Tests.{eqb-true}
-use Rattle.columns.specs.Column.{pick}
-use Rattle.columns.specs.ColumnLaws.{ten-pos}
+use Rattle.number_columns.specs.Column.{pick}
+use Rattle.number_columns.specs.ColumnLaws.{ten-pos}
 use Rattle.sheet.specs.Format.{lineBytes, textBytes}
 use Rattle.sheet.specs.Line.{Line, named, row, bad, lettered, encode, letter, number}
 use Rattle.sheet.specs.LineLaws.{AllBelow, Fits, named-length, row-length}

@@ -11,7 +11,7 @@ use lib.Dec.{eqb, leb, ltb}
 use lib.ListN.{length, getD, take, drop, length-append, length-map, List·getD-map, List·getD-append, take-append-drop}
 use lib.Seq.{take-all, take-append-le, take-append-add, getD-append-add, take-length}
 use borrow.Author.Tests.{eqb-true, eq-eqb, ltb-true, ltb-false, lt-ltb, le-ltb, leb-true, leb-false, lt-leb, le-leb, not-true, not-false}
-use Rattle.columns.specs.Column.{pick, _⇒_∥_}
+use Rattle.number_columns.specs.Column.{pick, _⇒_∥_}
 use Rattle.sheet.specs.Format.{Format}
 use Rattle.sheet.specs.FirstLaws.{first-le, first-congr, none-first}
 use Rattle.sheet.specs.Line.{Line, named, row, bad, cell, value, decode, letter, number, text, isBad}

@@ -8,7 +8,7 @@ use native.Mathlib.Omega.{arith}
 use lib.Dec.{eqb}
 use lib.ListN.{take, length, getD}
 use borrow.Author.Tests.{eqb-false, eqb-true}
-use Rattle.columns.specs.Column.{pick, _⇒_∥_}
+use Rattle.number_columns.specs.Column.{pick, _⇒_∥_}
 use Rattle.sheet.specs.Line.{Line, row, bad, number, letter}
 use Rattle.sheet.specs.ListLaws.{length-nil, contrary, one-of}
 use Rattle.model.specs.Cty.{Cty}

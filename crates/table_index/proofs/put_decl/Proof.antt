@@ -2,7 +2,7 @@
 use Prim.Native.Nat.{_+_, _*_}
 use native.Mathlib.Omega.{arith}
 use borrow.Author.Needs.{needs}
-use Rattle.tables.specs.Tables.{lines-in}
+use Rattle.table_access.specs.Tables.{lines-in}
 use Rattle.table_index.specs.IndexLaws.{begin-room, name-read, at-read, decls-fit, store-room, decl-filled, decl-next}
 use Rattle.table_index.proofs.put_decl.Statement.{statement}
 use Rattle.table_index.proofs.put_decl.Tie as tie

@@ -5,7 +5,7 @@ use lib.ListN.{take}
 use lib.Seq.{length-sets, lt-length-sets}
 use mir.Syntax.{w32, w64}
 use borrow.Author.Needs.{needs, fits-under}
-use Rattle.tables.specs.Tables.{header}
+use Rattle.table_access.specs.Tables.{header}
 use Rattle.table_index.specs.FillingLaws.{places-small, header-small, header-put}
 use Rattle.table_index.proofs.put_header.Statement.{statement}
 use Rattle.table_index.proofs.put_header.Tie as tie

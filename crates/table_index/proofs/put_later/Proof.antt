@@ -1,7 +1,7 @@
 -- `table_index::put_later` meets its contract, by the letter of the line. Assumes nothing.
 use mathlib.Core.Logic.{inr}
 use native.Mathlib.Omega.{arith}
-use Rattle.tables.specs.Tables.{lines-in}
+use Rattle.table_access.specs.Tables.{lines-in}
 use Rattle.table_index.specs.IndexLaws.{letter-read, is-letter, head-read, no-letter, line-fits, param-room, param-next, other-next}
 use borrow.Author.Needs.{needs}
 use Rattle.table_index.proofs.put_later.Statement.{statement}

@@ -1,7 +1,7 @@
 -- `table_index::put_line` meets its contract, by the letter of the line. Assumes nothing.
 use mathlib.Core.Logic.{inl}
 use native.Mathlib.Omega.{arith}
-use Rattle.tables.specs.Tables.{lines-in}
+use Rattle.table_access.specs.Tables.{lines-in}
 use Rattle.table_index.specs.IndexLaws.{letter-read, head-read, member-read}
 use borrow.Author.Needs.{needs}
 use Rattle.table_index.proofs.put_line.Statement.{statement}

@@ -5,9 +5,9 @@ use native.Mathlib.Omega.{arith}
 use native.Mathlib.Numerals.{add-one}
 use lib.ListN.{length}
 use borrow.Author.Needs.{needs}
-use Rattle.header.specs.LettersLaws.{lettered}
-use Rattle.header.specs.OrderLaws.{header-le}
-use Rattle.tables.specs.Tables.{lines-in}
+use Rattle.rows_header.specs.LettersLaws.{lettered}
+use Rattle.rows_header.specs.OrderLaws.{header-le}
+use Rattle.table_access.specs.Tables.{lines-in}
 use Rattle.table_index.specs.Index.{Reached}
 use Rattle.table_index.specs.WalkLaws.{reached-first, lines-kept, reached-here, reached-there, last-room, filled-all}
 use Rattle.table_index.proofs.put_lines.Statement.{statement}

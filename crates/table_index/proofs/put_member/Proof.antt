@@ -2,8 +2,8 @@
 use mathlib.Core.Bool.{Bool, true, false}
 use Prim.Native.Nat.{_≤_}
 use native.Mathlib.Omega.{arith}
-use Rattle.columns.specs.Column.{pick}
-use Rattle.tables.specs.Tables.{lines-in}
+use Rattle.number_columns.specs.Column.{pick}
+use Rattle.table_access.specs.Tables.{lines-in}
 use Rattle.table_index.specs.IndexLaws.{line-fits, member-room, member-next}
 use borrow.Author.Needs.{needs}
 use Rattle.table_index.proofs.put_member.Statement.{statement}

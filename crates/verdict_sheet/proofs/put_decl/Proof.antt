@@ -9,14 +9,14 @@ use borrow.Author.Needs.{needs}
 use Rattle.sheet.specs.Sheet.{lines}
 use Rattle.meaning.specs.Program.{field-line, import-line, is}
 use Rattle.meaning.specs.Rows.{count-before}
-use Rattle.limits.specs.Limits.{start}
-use Rattle.declared.specs.PassedLaws.{decls-few}
-use Rattle.tables.specs.Tables.{head-line, lines-in}
+use Rattle.row4_limits.specs.Limits.{start}
+use Rattle.table_declared.specs.PassedLaws.{decls-few}
+use Rattle.table_access.specs.Tables.{head-line, lines-in}
 use Rattle.verdict_sheet.specs.Upto.{upto}
 use Rattle.verdict_sheet.specs.LineLaws.{start-le}
 use Rattle.verdict_sheet.specs.StepLaws.{starts-rise, import-whole, local-next, upto-self, sheet-of}
 use Rattle.verdict_sheet.proofs.put_decl.Statement.{statement}
-use Rattle.tables.specs.OfSheet.{head-same, decls-same, start-same, first-same}
+use Rattle.table_access.specs.OfSheet.{head-same, decls-same, start-same, first-same}
 use Rattle.verdict_sheet.proofs.put_decl.Tie as tie
 
 abbrev Inv-loop : tie.InvT-loop

@@ -6,14 +6,14 @@ use native.Mathlib.Numerals.{add-one}
 use lib.ListN.{length}
 use borrow.Author.Needs.{needs}
 use Rattle.sheet.specs.Sheet.{lines}
-use Rattle.limits.specs.Limits.{start}
-use Rattle.tables.specs.Tables.{decls-of}
+use Rattle.row4_limits.specs.Limits.{start}
+use Rattle.table_access.specs.Tables.{decls-of}
 use Rattle.verdict_sheet.specs.Upto.{upto}
 use Rattle.verdict_sheet.specs.LineLaws.{start-le}
 use Rattle.verdict_sheet.specs.StepLaws.{upto-self, begun, ended, decl-next, slotted-of, sheet-of, recorded-of}
 use Rattle.verdict_sheet.proofs.put_verdicts.Statement.{statement}
 use Rattle.meaning.specs.Program.{field-line}
-use Rattle.tables.specs.OfSheet.{count-same, decls-same}
+use Rattle.table_access.specs.OfSheet.{count-same, decls-same}
 use Rattle.verdict_sheet.proofs.put_verdicts.Tie as tie
 
 abbrev Inv-loop : tie.InvT-loop

@@ -3,7 +3,7 @@ use Rattle.left_sheet.specs.ProgramLaws.{at-nothing, at-some, given-of, 
 use native.Mathlib.Omega.{arith}
 use borrow.Author.Needs.{needs}
 use Rattle.left_sheet.proofs.left_program.put_at.Statement.{statement}
-use Rattle.tables.specs.Tables.{lines-in}
+use Rattle.table_access.specs.Tables.{lines-in}
 use Rattle.left_sheet.proofs.left_program.put_at.Tie as tie
 
 returns : tie.Need-returns

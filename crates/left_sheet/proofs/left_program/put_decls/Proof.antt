@@ -5,8 +5,8 @@ use Prim.Native.Nat.{_-_, _≤_}
 use lib.ListN.{length}
 use Rattle.model.specs.Decl.{Dtype}
 use Rattle.meaning.specs.Output.{program-lines}
-use Rattle.tables.specs.Tables.{decls-of, lines-in}
-use Rattle.places.specs.Places.{Room, Writes}
+use Rattle.table_access.specs.Tables.{decls-of, lines-in}
+use Rattle.left_places.specs.Places.{Room, Writes}
 use Rattle.left_sheet.specs.Program.{lefts-to}
 use Rattle.left_sheet.specs.ProgramLaws.{lefts-start, lefts-room, lefts-writes, lefts-all, lefts-again}
 use native.Mathlib.Omega.{arith}

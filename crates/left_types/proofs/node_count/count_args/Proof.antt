@@ -5,8 +5,8 @@ use Prim.Native.Nat.{ℕ, _+_, _-_, _*_, _≤_}
 use native.Mathlib.Omega.{arith}
 use lib.ListN.{length, take}
 use lib.Seq.{take-all}
-use Rattle.normal.specs.Nodes.{count-args}
-use Rattle.nodes.specs.Words.{node-of}
+use Rattle.form_laws.specs.Nodes.{count-args}
+use Rattle.form_nodes.specs.Words.{node-of}
 use Rattle.left_types.specs.CountLaws.{count-more}
 use borrow.Author.Needs.{needs}
 use Rattle.left_types.proofs.node_count.count_args.Statement.{statement}

@@ -3,7 +3,7 @@ use mathlib.Core.Path.{_∙_}
 use native.Mathlib.Omega.{arith}
 use borrow.Author.Needs.{needs}
 use borrow.Author.Tests.{ne-eqb}
-use Rattle.normal.specs.Nodes.{args-of}
+use Rattle.form_laws.specs.Nodes.{args-of}
 use Rattle.left_types.specs.CountLaws.{count-few}
 use Rattle.left_types.proofs.node_count.node_args.Statement.{statement}
 use Rattle.left_types.proofs.node_count.node_args.Tie as tie

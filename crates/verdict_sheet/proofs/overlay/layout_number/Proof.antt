@@ -3,7 +3,7 @@ use borrow.Author.Needs.{needs}
 use borrow.Author.Tests.{ne-eqb}
 use Rattle.verdict_sheet.specs.StepLaws.{cell-inside, number-gone, number-newtype, number-kept}
 use Rattle.verdict_sheet.proofs.overlay.layout_number.Statement.{statement}
-use Rattle.tables.specs.Tables.{lines-in}
+use Rattle.table_access.specs.Tables.{lines-in}
 use Rattle.verdict_sheet.proofs.overlay.layout_number.Tie as tie
 
 shared-slice-read-state : tie.Need-shared-slice-read-state

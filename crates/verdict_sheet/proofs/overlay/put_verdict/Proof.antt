@@ -11,8 +11,8 @@ use Rattle.meaning.specs.Program.{program}
 use Rattle.verdict_sheet.specs.StepLaws.{here-room, layout-small, bit-small, zero-small, step-verdict, sheet-of}
 use Rattle.verdict_sheet.proofs.overlay.put_verdict.Statement.{statement}
 use Rattle.model.specs.Decl.{layout-number}
-use Rattle.tables.specs.OfSheet.{program-same, decls-same}
-use Rattle.tables.specs.Tables.{lines-in}
+use Rattle.table_access.specs.OfSheet.{program-same, decls-same}
+use Rattle.table_access.specs.Tables.{lines-in}
 use Rattle.verdict_sheet.proofs.overlay.put_verdict.Tie as tie
 
 layout-number-requires : tie.Need-layout-number-requires

@@ -1,2 +1,0 @@
-pub mod Params
-pub mod ParamsLaws

@@ -1,0 +1,28 @@
+-- `build_deciding::resolved` meets its contract, by rows 9 and 10. Assumes nothing.
+use mathlib.Core.Path.{sym, _∙_}
+use borrow.Author.Needs.{needs}
+use Rattle.build_deciding.specs.DecidingLaws.{gives-faults, clear-of}
+use Rattle.build_deciding.proofs.resolved.Statement.{statement}
+use Rattle.build_deciding.proofs.resolved.Tie as tie
+
+written-requires : tie.Need-written-requires
+written-requires c κs = let p = c .before .before .before .before .before .before .before .before .before .before .before .before .pre in (clear-of _ _ _ _ _ (p .0) (sym (c .before .before .before .before .rows9-10 .ensures) ∙ c .before .before .enum-told .given .1), p .1)
+
+returns-2 : tie.Need-returns-2
+returns-2 c =
+    let a = c .before .before .before .before .before .before .before .before .before .before .before .before .args in
+    rw (c .refused .ensures) (gives-faults _ _ _ _ _ (c .before .before .before .before .before .before .before .before .before .before .before .before .pre .0) (a .v .now) (a .l .now) _ _ (sym (c .before .before .before .before .rows9-10 .ensures) ∙ c .before .before .r .given .1))
+
+pub resolved-spec : {M : Type 1} → statement M
+resolved-spec =
+    tie.close
+    (tie.spec
+    (λ c κs. search needs)
+    (λ c. search needs)
+    written-requires
+    (λ c. search needs)
+    (λ c κs. search needs)
+    (λ c. search needs)
+    (λ c. search needs)
+    (λ c. search needs)
+    returns-2)

@@ -1,0 +1,157 @@
+-- From what the passes find to what the rows after them ask. Assumes nothing.
+use mathlib.Core.Bool.{Bool, true, false}
+use mathlib.Core.Path.{_≡_, refl, sym, _∙_, ap, ap₂, subst}
+use mathlib.Core.List.{List, [], _∷_, map}
+use Prim.Native.Nat.{ℕ, _≤_, _<_}
+use native.Mathlib.Omega.{arith}
+use lib.Dec.{ltb}
+use lib.ListN.{length, length-map}
+use borrow.Author.Tests.{lt-ltb, le-ltb}
+use Rattle.sheet.specs.Format.{base}
+use Rattle.sheet.specs.Line.{Line}
+use Rattle.sheet.specs.Sheet.{first, count, lines}
+use Rattle.sheet.specs.SheetLaws.{length-lines}
+use Rattle.walk_cells.specs.Cells.{bare}
+use Rattle.meaning_bares.specs.ProgramLaws.{program-bare}
+use Rattle.model.specs.Decl.{Decl}
+use Rattle.answer.specs.Answer.{Row, line-row, row8, row9-10, fault-at, refusal}
+use Rattle.sheet.specs.FirstLaws.{first-le}
+use Rattle.model.specs.Reach.{cyclic}
+use Rattle.model.specs.Run.{run, layouts-of, unfold-next}
+use Rattle.meaning.specs.Program.{program}
+use Rattle.meaning.specs.Laws.Program.{length-program}
+use Rattle.answer.specs.declared.Refusal.{Refusal}
+use Rattle.answer.specs.declared.Refusal.the-variants.{Accepted, Refused}
+use Rattle.row4_limits.specs.Limits.{start}
+use Rattle.table_declared.specs.Passed.{Passed}
+use Rattle.table_declared.specs.BareLaws.{place8-bare, fault-bare, place9-10-bare}
+use Rattle.table_declared.specs.PassedLaws.{decls-within}
+use Rattle.table_access.specs.Tables.{decls-of, lines-in}
+use Rattle.table_access.specs.OfSheet.{OfSheet, program-same}
+use Rattle.rows_heads.specs.HeadRows.{returns-row, faults-row, resolvable}
+use Rattle.set_search.specs.Loops.{First}
+use Rattle.row8_returning.specs.ReturningLaws.{no-return, ranked-all}
+use Rattle.row9_faults.specs.Attempts.{Asked}
+use Rattle.answer_built.specs.Built.{refused-as, Gives}
+use Rattle.answer_built.specs.BuiltLaws.{row8-alone, faults-alone, rows-eight, rows-faults, rows-eleven, input-accepted, gives-refused}
+use Rattle.build_sheets.specs.Sheets.{Lent}
+use Rattle.build_passes.specs.declared.Run.{Run}
+use Rattle.build_passes.specs.Passes.{Ran}
+use Rattle.build_deciding.specs.Deciding.{Read, Found, Clear}
+use Rattle.row8_returning.specs.RowLaws as rows
+
+-- ---- the rows of the table's lines are those of the bytes
+-- what a row alone tells, where i is the first number below its bound m at which its test holds
+abbrev told : Row → ℕ → ℕ → Refusal
+told r i m = elim (ltb i m) [ true ↦ Refused (r .code i) (r .place i) | false ↦ Accepted ]
+
+-- rows with one bound and one such number, and one code and place
+same-refusal : (r q : Row) → r .bound ≡ q .bound → first (r .test) (r .bound) ≡ first (q .test) (q .bound) → ((i : ℕ) → r .code i ≡ q .code i) → ((i : ℕ) → r .place i ≡ q .place i) → refusal (r ∷ []) ≡ refusal (q ∷ [])
+unfolding refusal
+same-refusal r q n e c p = go (first (r .test) (r .bound)) (first (q .test) (q .bound)) (r .bound) (q .bound) e n
+  where
+    at : (j : ℕ) (z : Bool) → _≡_ {A = Refusal} (elim z [ true ↦ Refused (r .code j) (r .place j) | false ↦ Accepted ]) (elim z [ true ↦ Refused (q .code j) (q .place j) | false ↦ Accepted ])
+    at j true = rw (c j, p j)
+    at j false = refl
+
+    go : (i j m k : ℕ) → i ≡ j → m ≡ k → told r i m ≡ told q j k
+    go i j m k x y = ap₂ (told r) x y ∙ at j (ltb j k)
+
+module _ (b t : List ℕ) (of : OfSheet b t) where
+  abbrev in-t : List Line
+  in-t = lines-in t
+
+  lines-many : length (lines 6 b) ≡ count 6 b
+  lines-many = length-lines 6 b
+
+  pub eight-same : refusal (returns-row in-t ∷ []) ≡ row8-alone b
+  eight-same =
+      let p : program in-t ≡ program (lines 6 b) = program-same b t of in
+      ap (λ (ls : List Line). refusal (returns-row ls ∷ [])) (of .lines-are)
+      ∙ same-refusal (returns-row (map bare (lines 6 b))) (line-row 8 (count 6 b) (row8 (program (lines 6 b)) (lines 6 b))) (length-map (lines 6 b) bare ∙ lines-many)
+      (ap (λ (ds : List Decl). first (row8 ds (map bare (lines 6 b))) (length (map bare (lines 6 b)))) (program-bare (lines 6 b)) ∙ place8-bare (lines 6 b) (program (lines 6 b)) ∙ ap (first (row8 (program (lines 6 b)) (lines 6 b))) lines-many)
+      (λ i. refl) (λ i. refl)
+
+  pub faults-same : refusal (faults-row base in-t ∷ []) ≡ faults-alone b
+  faults-same =
+      ap (λ (ls : List Line). refusal (faults-row base ls ∷ [])) (of .lines-are)
+      ∙ same-refusal (faults-row base (map bare (lines 6 b)))
+      (record { bound = count 6 b; test = row9-10 base (program (lines 6 b)) (lines 6 b); code = fault-at base (program (lines 6 b)) (lines 6 b); place = λ i. i })
+      (length-map (lines 6 b) bare ∙ lines-many)
+      (ap (λ (ds : List Decl). first (row9-10 base ds (map bare (lines 6 b))) (length (map bare (lines 6 b)))) (program-bare (lines 6 b)) ∙ place9-10-bare (lines 6 b) (program (lines 6 b)) base ∙ ap (first (row9-10 base (program (lines 6 b)) (lines 6 b))) lines-many)
+      (λ i. ap (λ (ds : List Decl). fault-at base ds (map bare (lines 6 b)) i) (program-bare (lines 6 b)) ∙ fault-bare (lines 6 b) (program (lines 6 b)) base i) (λ i. refl)
+
+-- ---- row 8
+module _ (b t keep u : List ℕ) (r : Run) (rank rank′ : List ℕ) (read : Read b t) (ran : Ran (lines-in t) keep u r rank rank′) where
+  abbrev ls : List Line
+  ls = lines-in t
+
+  abbrev n : ℕ
+  n = decls-of ls
+
+  abbrev p : Passed ls
+  p = read .of .tabled .passed
+
+  -- a declaration returns to itself
+  pub gives-eight : (v l : List ℕ) → r .returning < n → Gives b v l (refused-as 8 (start ls (r .returning))) v l
+  gives-eight v l h =
+      gives-refused b v l 8 (start ls (r .returning))
+      (rows-eight b (length v) (length l) (read .sheet) 8 (start ls (r .returning))
+      (sym (eight-same b t (read .of)) ∙ rows.row8-alone ls (r .returning) rank rank′ (ran .judged .first-of) ∙ rw (lt-ltb (r .returning) n h)))
+
+  all : n ≤ r .returning → r .returning ≡ n
+  all h = omega (arith, ran .judged .first-of .is, first-le (cyclic (unfold-next (program ls) (layouts-of (program ls))) n) n)
+
+  -- none does
+  pub found-of : length rank ≡ n → n ≤ r .returning → Found b t u rank′ keep
+  found-of long h =
+      let f : First (unfold-next (program ls) (layouts-of (program ls))) n n rank rank′ = subst (λ (k : ℕ). First (unfold-next (program ls) (layouts-of (program ls))) n k rank rank′) (all h) (ran .judged .first-of) in
+      let s = ran .judged .settled in
+      record {
+        read = read;
+        ranked = ranked-all ls p u s rank rank′ f t (read .of .tabled) (f .before .long ∙ long);
+        settled = s;
+        slotted = ran .slotted;
+        keeps = ran .long;
+        no-return = λ d l. no-return ls p u s rank rank′ f d (omega (arith, length-program ls));
+        eight = rows.row8-alone ls (r .returning) rank rank′ (ran .judged .first-of) ∙ rw (le-ltb (r .returning) n h);
+      }
+
+  pub rounds-of : r .rounds ≡ run 100 (program ls) .rounds
+  unfolding run
+  rounds-of = ran .counted
+
+-- ---- rows 9 to 11
+module _ (b t u rank keep : List ℕ) (f : Found b t u rank keep) where
+  eight-bytes : row8-alone b ≡ Accepted
+  eight-bytes = sym (eight-same b t (f .read .of)) ∙ f .eight
+
+  pub asked-of : Asked (lines-in t) t u keep
+  asked-of = record { tabled = f .ranked .tabled; bounded = f .read .of .bounded; settled = f .settled; slotted = f .slotted; fields = f .keeps; no-return = f .no-return }
+
+  pub gives-faults : (v l : List ℕ) (code place : ℕ) → refusal (faults-row base (lines-in t) ∷ []) ≡ Refused code place → Gives b v l (refused-as code place) v l
+  gives-faults v l code place e =
+      gives-refused b v l code place (rows-faults b (length v) (length l) (f .read .sheet) eight-bytes code place (sym (faults-same b t (f .read .of)) ∙ e))
+
+  pub clear-of : refusal (faults-row base (lines-in t) ∷ []) ≡ Accepted → Clear b t u rank keep
+  clear-of e = record { found = f; faults = e; accepted = input-accepted b (f .read .sheet) eight-bytes (sym (faults-same b t (f .read .of)) ∙ e) }
+
+module _ (b t u rank keep : List ℕ) (c : Clear b t u rank keep) where
+  pub gives-eleven : (v l : List ℕ) → length v < length b → Gives b v l (refused-as 11 (length b)) v l
+  gives-eleven v l h = gives-refused b v l 11 (length b) (rows-eleven b (length v) (length l) (c .accepted) h)
+
+  pub lent-of : (v : List ℕ) → length b ≤ length v → Lent b t u rank keep v 98496 1024 1024
+  lent-of v h =
+      record {
+        of = c .found .read .of;
+        accepted = c .accepted;
+        ranked = c .found .ranked;
+        settled = c .found .settled;
+        slotted = c .found .slotted;
+        resolvable = resolvable base (lines-in t) (c .found .eight) (c .faults);
+        keeps = c .found .keeps;
+        verdict-room = h;
+        cells = omega (arith, decls-within base (lines-in t) (c .found .read .of .bounded));
+        small = omega arith;
+        stacked = omega arith;
+      }

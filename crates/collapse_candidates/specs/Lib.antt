@@ -1,0 +1,4 @@
+pub mod Payloads
+pub mod PayloadsLaws
+pub mod Candidates
+pub mod CandidatesLaws

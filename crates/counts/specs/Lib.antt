@@ -1,4 +1,0 @@
-pub mod Quickly
-pub mod QuicklyLaws
-pub mod Walk
-pub mod WalkLaws

@@ -1,4 +1,0 @@
-pub mod Ways
-pub mod WaysLaws
-pub mod DistinctLaws
-pub mod BareLaws

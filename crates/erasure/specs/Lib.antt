@@ -1,2 +1,0 @@
-pub mod Fixpoint
-pub mod FixpointLaws

@@ -1,0 +1,4 @@
+pub mod Rounds
+pub mod RoundsLaws
+pub mod Fixpoint
+pub mod FixpointLaws

@@ -1,0 +1,4 @@
+pub mod Put
+pub mod Own
+pub mod OwnLaws
+pub mod Stands

@@ -1,4 +1,0 @@
-pub mod Chosen
-pub mod ChosenLaws
-pub mod Laying
-pub mod LayingLaws

@@ -1,3 +1,0 @@
-pub mod Put
-pub mod Own
-pub mod OwnLaws

@@ -1,1 +1,0 @@
-// Outcomes of resolving types: the definitions and laws are in specs/.

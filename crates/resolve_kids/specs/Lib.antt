@@ -1,0 +1,4 @@
+pub mod Params
+pub mod ParamsLaws
+pub mod Nodes
+pub mod NodesLaws

@@ -1,3 +1,0 @@
-pub mod Returning
-pub mod ReturningLaws
-pub mod RowLaws

@@ -1,0 +1,4 @@
+pub mod UnusedLaws
+pub mod TypeLists
+pub mod TypeListsLaws
+pub mod TypeLinesLaws

@@ -1,0 +1,3 @@
+pub mod CopyLaws
+pub mod SixLaws
+pub mod RowLaws

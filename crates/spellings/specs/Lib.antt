@@ -1,4 +1,0 @@
-pub mod Spellings
-pub mod SomeLaws
-pub mod SpellingsLaws
-pub mod Keys

@@ -1,3 +1,0 @@
-pub mod TypeLists
-pub mod TypeListsLaws
-pub mod TypeLinesLaws
