@@ -125,7 +125,7 @@ fn exact(q: Quick, letter: u32) -> Quick
 }
 
 // After a line up to F, which counts as a C line below D and else as an F line: both counts are made, since which of the two comes next
-// cannot be foreseen. No sum of letters is as large as that of as many C and F lines.
+// cannot be foreseen. The sum of letters is at most that of so many C and F lines, and equal only where all are such.
 fn member(q: Quick, letter: u32) -> Quick
     requires { ⌜ (quickly.sum (q .tally) < 1152921504606846976) × (q .letters < 1152921504606846976) ⌝ }
     ensures { λ r. ⌜ r ≡ quickly.member q letter ⌝ }
