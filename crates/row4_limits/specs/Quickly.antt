@@ -39,6 +39,7 @@ member q x =
 abbrev pub unknown : Quick → Quick
 unknown q = record { known = false; letters = q .letters; tally = q .tally }
 
+-- a line by its letter: V lines count nothing, and what is past F and none of V, P and I is not known
 unfoldable pub stepped : Quick → ℕ → Quick
 stepped q x =
     ltb 70 x ⇒ (eqb x 86 ⇒ q ∥ eqb x 80 ⇒ exact q 80 ∥ eqb x 73 ⇒ exact q 73 ∥ unknown q) ∥

@@ -106,13 +106,15 @@ groups-after l g =
     }
 
 -- ---- constructors and fields in one array
--- the marks of constructors, and behind them those of fields
+-- the marks of constructors
 abbrev pub ctor-marks : List ℕ → List ℕ
 ctor-marks m = take 256 m
 
+-- and behind them those of fields
 abbrev pub field-marks : List ℕ → List ℕ
 field-marks m = drop 256 m
 
+-- after a line, with both in one array
 abbrev pub MembersAfter : Line → Groups → List ℕ → List ℕ → List ℕ → Bool → List ℕ → List ℕ → List ℕ → Type 0
 MembersAfter l g d p m r d' p' m' = After l g d p (field-marks m) (ctor-marks m) r d' p' (field-marks m') (ctor-marks m')
 

@@ -25,6 +25,7 @@ good-with most h kept l =
     is verdict-line l ⇒ declared-verdict h kept l ∥
     true
 
+-- a line of the declaration that begins with h, of whose fields so many are kept
 abbrev pub good-line : Line → ℕ → Line → Bool
 good-line h kept l = good-with (most-keep h) h kept l
 
