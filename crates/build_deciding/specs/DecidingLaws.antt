@@ -19,7 +19,7 @@ use Rattle.sheet.specs.FirstLaws.{first-le}
 use Rattle.model.specs.Reach.{cyclic}
 use Rattle.model.specs.Run.{run, layouts-of, unfold-next}
 use Rattle.meaning.specs.Program.{program}
-use Rattle.meaning.specs.Laws.Program.{length-program}
+use Rattle.meaning_laws.specs.Program.{length-program}
 use Rattle.answer.specs.declared.Refusal.{Refusal}
 use Rattle.answer.specs.declared.Refusal.the-variants.{Accepted, Refused}
 use Rattle.row4_limits.specs.Limits.{start}

@@ -17,7 +17,7 @@ use Rattle.model.specs.Decl.{Dtype}
 use Rattle.model.specs.Run.{run, left-program}
 use Rattle.meaning.specs.Program.{name-line, program}
 use Rattle.meaning.specs.Rows.{count-of}
-use Rattle.meaning.specs.Laws.Output.{Sized, fits-sized, left-bytes, left-length, program-adds}
+use Rattle.meaning_laws.specs.Output.{Sized, fits-sized, left-bytes, left-length, program-adds}
 use Rattle.answer.specs.Answer.{left-sheet, verdict-sheet, input-rows, input-refusal, output-rows, refusal, answered, answer, Passes}
 use Rattle.answer.specs.declared.Refusal.the-variants.{Accepted}
 use Rattle.answer.specs.Laws.Build.{verdict-sheet-length}

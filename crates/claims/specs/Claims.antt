@@ -39,7 +39,7 @@ use Rattle.model.specs.Run.{record-of, left-program, run, layouts-of, resolves,
 use Rattle.meaning.specs.Program.{type-line, trees, program}
 use Rattle.meaning.specs.Rows.{line-at, heads-before, head-of}
 use Rattle.meaning.specs.Output.{verdict-lines, verdict-line-of, left-lines}
-use Rattle.meaning.specs.Laws.Verdict.{verdict-line-at}
+use Rattle.meaning_laws.specs.Verdict.{verdict-line-at}
 use Rattle.answer.specs.Answer.{rows, Refuses, Answer, verdict-sheet, left-sheet, answer, after, Passes}
 use Rattle.model.specs.Names.{Declared, Agree, OwnImports}
 use Rattle.answer.specs.Cut.{Faultless, Sheets, build, builds, join, Cut, Call, Over, InTurn, last-call, AllAccept, Wrote}

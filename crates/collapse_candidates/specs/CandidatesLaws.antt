@@ -18,7 +18,7 @@ use Rattle.model_laws.specs.Layout.{candidate-at, getD-candidates}
 use Rattle.model_laws.specs.Rounds.{cases-eq}
 use Rattle.meaning.specs.Program.{type-line, field-line, import-line, is, dtype-of, program}
 use Rattle.meaning.specs.Rows.{count-of}
-use Rattle.meaning.specs.Laws.Program.{length-program}
+use Rattle.meaning_laws.specs.Program.{length-program}
 use Rattle.table_declared.specs.Passed.{Passed}
 use Rattle.table_access.specs.Tables.{head-line, decls-of}
 use Rattle.table_declared.specs.DeclLaws.{dtype-is, origin-local, origin-import}

@@ -16,7 +16,7 @@ use Rattle.model_laws.specs.Cty.{close-names}
 use Rattle.model_laws.specs.Layout.{guard-below}
 use Rattle.meaning.specs.Program.{type-line, program}
 use Rattle.meaning.specs.Rows.{count-of}
-use Rattle.meaning.specs.Laws.Program.{length-program}
+use Rattle.meaning_laws.specs.Program.{length-program}
 use Rattle.table_access.specs.Tables.{decls-of}
 use Rattle.resolve_kids.specs.Nodes.{type-of}
 use Rattle.resolve_kids.specs.Params.{params-of}

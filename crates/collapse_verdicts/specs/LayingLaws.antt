@@ -19,7 +19,7 @@ use Rattle.model_laws.specs.Layout.{getD-layouts}
 use Rattle.model_laws.specs.Rounds.{cases-eq}
 use Rattle.model_laws.specs.Run.{import-layout}
 use Rattle.meaning.specs.Program.{import-line, verdict-line, is, trees, body-of, dtype-of, abbreviated, layout-by, info-of, program}
-use Rattle.meaning.specs.Laws.Program.{length-program}
+use Rattle.meaning_laws.specs.Program.{length-program}
 use Rattle.table_declared.specs.Passed.{Passed}
 use Rattle.table_access.specs.Tables.{nth, group, head-line, decls-of}
 use Rattle.table_declared.specs.DeclLaws.{dtype-is, origin-local, origin-import, verdict-is}

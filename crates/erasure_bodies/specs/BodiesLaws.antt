@@ -16,7 +16,7 @@ use Rattle.model.specs.Decl.{TVariant, has-flag, close-body, close-fields}
 use Rattle.model.specs.Erasure.{marked, fields-erased, body-erased, dtype-erased, rule-of, rule}
 use Rattle.meaning.specs.Program.{name-line, type-line, import-line, param-line, ctor-line, field-line, is, select, Group, groups, trees, ctor-of, body-of, dtype-of, program}
 use Rattle.meaning.specs.Rows.{line-at, count-of, zeros-from, good-head, good-numbers}
-use Rattle.meaning.specs.Laws.Program.{select-append, head-cases}
+use Rattle.meaning_laws.specs.Program.{select-append, head-cases}
 use Rattle.model_laws.specs.Rounds.{cases-eq}
 use Rattle.row4_limits.specs.Limits.{start}
 use Rattle.table_declared.specs.Passed.{Passed}

@@ -14,7 +14,7 @@ use Rattle.meaning.specs.Program.{name-line, type-line, import-line, verdict-li
 use Rattle.meaning.specs.Rows.{count-of}
 use Rattle.model_laws.specs.Rounds.{cases-eq}
 use Rattle.model_laws.specs.Erasure.{length-start, start-at, start-sound}
-use Rattle.meaning.specs.Laws.Program.{length-program}
+use Rattle.meaning_laws.specs.Program.{length-program}
 use Rattle.row5_types.specs.TypeLists.{types-of}
 use Rattle.table_declared.specs.Passed.{Passed}
 use Rattle.table_access.specs.Tables.{nth, head-line, decls-of}

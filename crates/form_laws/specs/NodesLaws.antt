@@ -37,7 +37,7 @@ use Rattle.model.specs.Cty.{
 use Rattle.model.specs.Resolve.{attach}
 use Rattle.meaning.specs.Output.{Written, put, last, Members, listed, first-arg, emit, emits}
 use Rattle.model_laws.specs.Cty.{lengths-append}
-use Rattle.meaning.specs.Laws.Output.{emit-adds, emits-adds}
+use Rattle.meaning_laws.specs.Output.{emit-adds, emits-adds}
 use Rattle.form_laws.specs.SubstLaws.{lengths-walks}
 use Rattle.form_laws.specs.Nodes.{
   Node,

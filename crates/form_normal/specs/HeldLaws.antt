@@ -6,7 +6,7 @@ use native.Mathlib.Omega.{arith}
 use Rattle.sheet.specs.ListLaws.{Every, every-append}
 use Rattle.model.specs.Cty.{Cty, Ctys, TUnit, TAny, TExn, TVar, TInt, TFloat, TConst, TArrow, TApp, TTuple, TBuf, TRef, TInline, nil, cons, lengths, walk, walks, size, sizes}
 use Rattle.model_laws.specs.Cty.{size-positive}
-use Rattle.meaning.specs.Laws.Output.{TypeNumbers, TypesNumbers}
+use Rattle.meaning_laws.specs.Output.{TypeNumbers, TypesNumbers}
 use Rattle.form_laws.specs.Nodes.{Node, node, post, posts}
 use Rattle.form_laws.specs.Forms.{renamed}
 use Rattle.form_nodes.specs.WordsLaws.{Room, nodes-words}

@@ -18,7 +18,7 @@ use Rattle.model.specs.Layout.{layouts-of-ctors, slots, kept, ctor-layout, ctor
 use Rattle.meaning.specs.Output.{all-slots}
 use Rattle.meaning.specs.Program.{param-line, ctor-line, field-line, import-line, is, select, before, Group, groups, trees, type-at, field-of, ctor-of, body-of, dtype-of, keeps, keeps-of, ctor-layouts-by, info-of, program}
 use Rattle.meaning.specs.Rows.{count-of}
-use Rattle.meaning.specs.Laws.Program.{Whole, AllCounted}
+use Rattle.meaning_laws.specs.Program.{Whole, AllCounted}
 use Rattle.table_declared.specs.Passed.{Passed}
 use Rattle.table_access.specs.Tables.{nth, group, head-line, decls-of, first-of}
 use Rattle.table_declared.specs.DeclLaws.{first-next, nth-in, dtype-is, origin-local, origin-import, whole-at}

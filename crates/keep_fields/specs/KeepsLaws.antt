@@ -19,7 +19,7 @@ use Rattle.meaning.specs.Output.{all-slots}
 use Rattle.meaning.specs.Program.{type-line, param-line, ctor-line, field-line, import-line, is, select, before, Group, groups, trees, type-at, field-of, ctor-of, body-of, dtype-of, keeps, keeps-of, ctor-layouts-by, info-of, program}
 use Rattle.meaning.specs.Rows.{count-of}
 use Rattle.model_laws.specs.Lists.{getD-map}
-use Rattle.meaning.specs.Laws.Program.{Whole}
+use Rattle.meaning_laws.specs.Program.{Whole}
 use Rattle.model_laws.specs.Rounds.{cases-eq}
 use Rattle.table_declared.specs.Passed.{Passed}
 use Rattle.table_access.specs.Tables.{nth, group, head-line, decls-of, first-of}

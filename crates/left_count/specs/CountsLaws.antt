@@ -18,9 +18,9 @@ use Rattle.model.specs.Resolve.{resolve}
 use Rattle.model.specs.Run.{with-body, rw-decl, somes, lay, layout-of-decl, left-at}
 use Rattle.model_laws.specs.Run.{run-lefts}
 use Rattle.meaning.specs.Program.{param-line, ctor-line, field-line, program}
-use Rattle.meaning.specs.Laws.Program.{length-program}
+use Rattle.meaning_laws.specs.Program.{length-program}
 use Rattle.meaning.specs.Output.{Written, Lines, emit, decl-lines, program-lines}
-use Rattle.meaning.specs.Laws.Output.{emit-all, decl-written, program-append-written, program-append-lines, nothing}
+use Rattle.meaning_laws.specs.Output.{emit-all, decl-written, program-append-written, program-append-lines, nothing}
 use Rattle.table_declared.specs.Passed.{Passed}
 use Rattle.row4_limits.specs.Limits.{start}
 use Rattle.table_access.specs.Tables.{head-line, decls-of, first-of}

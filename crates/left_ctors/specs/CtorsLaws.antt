@@ -10,7 +10,7 @@ use Rattle.sheet.specs.Sheet.{lines}
 use Rattle.model.specs.Decl.{Ctor}
 use Rattle.meaning.specs.Program.{ctor-line}
 use Rattle.meaning.specs.Output.{Written, Lines, field-lines, ctor-lines}
-use Rattle.meaning.specs.Laws.Output.{grows-args, grows-types, ctor-adds}
+use Rattle.meaning_laws.specs.Output.{grows-args, grows-types, ctor-adds}
 use Rattle.resolve_kids.specs.Params.{params-of}
 use Rattle.keep_ctors.specs.Kept.{ctor-name, ctor-fields, fields-by, ctors-by}
 use Rattle.keep_ctors.specs.KeptLaws.{fields-in}

@@ -16,7 +16,7 @@ use Rattle.model.specs.Decl.{Field}
 use Rattle.model.specs.Run.{resolved-field}
 use Rattle.meaning.specs.Program.{field-line}
 use Rattle.meaning.specs.Output.{Written, last, emit, Lines, field-lines}
-use Rattle.meaning.specs.Laws.Output.{grows-args, grows-types, field-adds, emit-adds}
+use Rattle.meaning_laws.specs.Output.{grows-args, grows-types, field-adds, emit-adds}
 use Rattle.table_access.specs.Tables.{nth}
 use Rattle.resolve_kids.specs.Params.{params-of}
 use Rattle.keep_ctors.specs.Kept.{field-type, field-at, fields-by}

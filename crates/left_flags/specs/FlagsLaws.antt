@@ -21,7 +21,7 @@ use Rattle.model_laws.specs.Cty.{all-names}
 use Rattle.model_laws.specs.Names.{position-distinct}
 use Rattle.model_laws.specs.Resolve.{Stays, Unfolds}
 use Rattle.meaning.specs.Program.{program, param-line}
-use Rattle.meaning.specs.Laws.Program.{length-program}
+use Rattle.meaning_laws.specs.Program.{length-program}
 use Rattle.table_declared.specs.PassedLaws.{distinct-names}
 use Rattle.mention_sets.specs.NamesLaws.{member-append, member-iff}
 use Rattle.table_access.specs.Tables.{nth, decls-of}

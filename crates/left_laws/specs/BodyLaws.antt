@@ -16,8 +16,8 @@ use Rattle.model.specs.Resolve.{resolve}
 use Rattle.model.specs.Run.{with-body, all-in, collapsed-abbrev, resolved-field, resolved-ctor, struct-body, rw-decl, lay, layout-of-decl, left-at}
 use Rattle.meaning.specs.Program.{ctor-line, field-line, dtype-of, trees, program}
 use Rattle.meaning.specs.Output.{Written, emit, last, field-lines, ctor-lines, decl-frame, decl-lines}
-use Rattle.meaning.specs.Laws.Program.{body-number, body-of-number, close-number}
-use Rattle.meaning.specs.Laws.Output.{types-of-fields, types-of-ctors, types-of-body}
+use Rattle.meaning_laws.specs.Program.{body-number, body-of-number, close-number}
+use Rattle.meaning_laws.specs.Output.{types-of-fields, types-of-ctors, types-of-body}
 use Rattle.table_declared.specs.Passed.{Passed}
 use Rattle.table_access.specs.Tables.{group, decls-of, first-of}
 use Rattle.table_declared.specs.DeclLaws.{dtype-is, whole-at}

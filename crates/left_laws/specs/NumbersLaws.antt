@@ -11,7 +11,7 @@ use Rattle.sheet.specs.FirstLaws.{first-before}
 use Rattle.sheet.specs.ListLaws.{Every, at-every, both}
 use Rattle.meaning.specs.Program.{name-line, arg-line, type-line, select, trees}
 use Rattle.meaning.specs.Rows.{line-at, count-of, zeros-from, is-width, good-type, good-numbers, row5}
-use Rattle.meaning.specs.Laws.Numbers.{Signed, getD-numbers, trees-after-numbers}
+use Rattle.meaning_laws.specs.Numbers.{Signed, getD-numbers, trees-after-numbers}
 use Rattle.table_declared.specs.Passed.{Passed}
 use Rattle.resolve_kids.specs.Nodes.{y-line, kind-of, type-of}
 use Rattle.resolve_kids.specs.NodesLaws.{Lettered, lettered}

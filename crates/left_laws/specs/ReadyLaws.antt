@@ -19,7 +19,7 @@ use Rattle.model.specs.Run.{lay, layout-of-decl, resolves}
 use Rattle.model_laws.specs.Resolve.{Resolved}
 use Rattle.meaning.specs.Program.{program, type-line, param-line}
 use Rattle.meaning.specs.Rows.{count-of}
-use Rattle.meaning.specs.Laws.Program.{length-program}
+use Rattle.meaning_laws.specs.Program.{length-program}
 use Rattle.model_locality.specs.Laws.Fuel.{rank-of, ranked}
 use Rattle.row4_limits.specs.Limits.{start}
 use Rattle.table_declared.specs.Passed.{Passed}
@@ -37,7 +37,7 @@ use Rattle.form_laws.specs.Forms.{place, renamed}
 use Rattle.form_nodes.specs.Words.{word, node-of}
 use Rattle.form_words.specs.Emit.{words, form-words, Asked}
 use Rattle.form_words.specs.CodeLaws.{state-below}
-use Rattle.meaning.specs.Laws.Numbers.{UnfoldNumbers, close-numbers, resolve-numbers}
+use Rattle.meaning_laws.specs.Numbers.{UnfoldNumbers, close-numbers, resolve-numbers}
 use Rattle.table_declared.specs.PassedLaws.{params-few}
 use Rattle.form_normal.specs.LeftLaws.{held, Told, Answered, AnsweredOf, left-words, place-words}
 use Rattle.form_normal.specs.HeldLaws.{Sign, Own, Held, post-held, renamed-kept}

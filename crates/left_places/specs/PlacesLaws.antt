@@ -17,7 +17,7 @@ use Rattle.sheet.specs.OutputLaws.{Whole}
 use Rattle.model.specs.Cty.{Cty, size}
 use Rattle.meaning.specs.Program.{type-line}
 use Rattle.meaning.specs.Output.{Written, last, emit, Lines}
-use Rattle.meaning.specs.Laws.Output.{grows-args, grows-types, emit-adds}
+use Rattle.meaning_laws.specs.Output.{grows-args, grows-types, emit-adds}
 use Rattle.form_laws.specs.Nodes.{Node, post, count-args}
 use Rattle.form_laws.specs.NodesLaws.{length-post, emit-args, emit-types}
 use Rattle.left_emitter.specs.Lines.{arg-row}

@@ -15,8 +15,8 @@ use Rattle.model.specs.Run.{lay, layout-of-decl, left-at, left-program, run, re
 use Rattle.model_laws.specs.Resolve.{Resolved, LeftTypes, left-types}
 use Rattle.meaning.specs.Program.{program}
 use Rattle.meaning.specs.Rows.{row7}
-use Rattle.meaning.specs.Laws.Output.{nothing, types-of, total-bound, program-adds}
-use Rattle.meaning.specs.Laws.Numbers.{Numbered, weights, run-count, run-types, program-full, weights-program}
+use Rattle.meaning_laws.specs.Output.{nothing, types-of, total-bound, program-adds}
+use Rattle.meaning_laws.specs.Numbers.{Numbered, weights, run-count, run-types, program-full, weights-program}
 use Rattle.answer.specs.Laws.Left.{program-matches}
 use Rattle.table_declared.specs.Passed.{Passed}
 use Rattle.table_declared.specs.PassedLaws.{decls-few, fields-few}

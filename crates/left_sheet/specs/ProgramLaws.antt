@@ -17,8 +17,8 @@ use Rattle.model_laws.specs.Run.{run-lefts}
 use Rattle.model_laws.specs.Lists.{table-cong}
 use Rattle.meaning.specs.Program.{program, dtype-of}
 use Rattle.meaning.specs.Output.{Written, decl-lines, program-lines}
-use Rattle.meaning.specs.Laws.Output.{grows-args, grows-types, program-adds, program-append-written, program-append-lines}
-use Rattle.meaning.specs.Laws.Program.{length-program}
+use Rattle.meaning_laws.specs.Output.{grows-args, grows-types, program-adds, program-append-written, program-append-lines}
+use Rattle.meaning_laws.specs.Program.{length-program}
 use Rattle.table_access.specs.Tables.{decls-of}
 use Rattle.table_declared.specs.DeclLaws.{dtype-is}
 use Rattle.keep_ctors.specs.KeptLaws.{params-lines}

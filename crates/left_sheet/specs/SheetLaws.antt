@@ -21,7 +21,7 @@ use Rattle.model.specs.Decl.{Dtype}
 use Rattle.model.specs.Run.{run, left-program}
 use Rattle.meaning.specs.Program.{name-line, type-line, is, select, program}
 use Rattle.meaning.specs.Output.{Lines, program-lines, left-lines}
-use Rattle.meaning.specs.Laws.Output.{nothing, program-adds, Sized, fits-sized, encode-sized, every-select, left-sized, left-bytes}
+use Rattle.meaning_laws.specs.Output.{nothing, program-adds, Sized, fits-sized, encode-sized, every-select, left-sized, left-bytes}
 use Rattle.answer.specs.Answer.{left-sheet, after}
 use Rattle.rows_header.specs.OrderLaws.{name-letter, name-before, count-of-le}
 use Rattle.table_access.specs.OfSheet.{OfSheet, program-same, sheet-ordered}

@@ -14,7 +14,7 @@ use Rattle.sheet.specs.Line.{Line}
 use Rattle.sheet.specs.ListLaws.{every-append, contrary}
 use Rattle.model.specs.Cty.{Cty, size}
 use Rattle.meaning.specs.Program.{field-line}
-use Rattle.meaning.specs.Laws.Output.{emit-adds, nothing}
+use Rattle.meaning_laws.specs.Output.{emit-adds, nothing}
 use Rattle.row4_limits.specs.Limits.{start}
 use Rattle.table_access.specs.Tables.{decls-of, first-of}
 use Rattle.resolve_kids.specs.ParamsLaws.{count-before-le}

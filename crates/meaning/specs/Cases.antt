@@ -4,18 +4,20 @@ use mathlib.Core.Path.{refl}
 use mathlib.Core.List.{List, [], _∷_, _++_, map}
 use mathlib.Core.Bool.{Bool, true, false}
 use Prim.Native.Nat.{ℕ, suc, _+_}
+use lib.Dec.{eqb}
 use lib.ListN.{length}
 use Rattle.number_columns.specs.Column.{step, scan, read}
 use Rattle.sheet.specs.Format.{Format}
-use Rattle.sheet.specs.Line.{Line, named, row, cell}
+use Rattle.sheet.specs.Line.{Line, bad, named, row, cell}
 use Rattle.sheet.specs.Sheet.{first, lineAt}
 use Rattle.model.specs.Cty.{Cty, TUnit, TAny, TExn, TVar, TInt, TFloat, TConst, TArrow, TBuf, TRef, TInline, walk, uninline}
 use Rattle.model.specs.Decl.{TAbstract, TAbbrev, TRecord, TVariant, Dtype, ctors-of, layout-number, L-erased, L-struct, L-abbrev, L-opaque, TypeInfo, Decl, table, member, close, close-field, close-body, close-fields}
+use Rattle.model.specs.Erasure.{cty-erased}
 use Rattle.model.specs.Layout.{kept, ctor-layout, first-kept, newtype-of-ctor, newtype-of, collapse}
 use Rattle.model.specs.Cases.{Case, _gives_, Passed, list, app, tuple, field, ctor, decl, import, laid, newt, verdict}
 use Rattle.meaning.specs.Program.{select, before, groups, list-of, tree, trees-after, trees, field-of, ctor-of, body-of, dtype-of, keeps, keeps-of, ctor-layouts-by, layout-by, info-of, decl-of, program}
 use Rattle.meaning.specs.Rows.{raw, raws, announced, due-header, due, due-after, row3, params-after, row4, zeros-from, is-width, is-list, good-type, good-head, good-numbers, row5, equal, repeats, row6, last-head, kept-after, good-verdict, good-verdicts, row7}
-use Rattle.meaning.specs.Output.{fill-keeps, fill-verdict, all-slots, fill, fill-all, verdict-lines, put, emit, field-lines, ctor-lines, decl-frame, decl-lines, program-lines, left-lines}
+use Rattle.meaning.specs.Output.{fill-keeps, fill-verdict, all-slots, fill, fill-all, verdict-lines, verdict-line-of, put, emit, field-lines, ctor-lines, decl-frame, decl-lines, program-lines, left-lines}
 
 -- ---- how a sheet is written
 -- Lines by their letters, with the numbers that the letter has; names are spelled a, b, c ..
@@ -66,6 +68,11 @@ declared = program
 unfoldable pub verdicts : List Line → List TypeInfo → List Line
 unfolding verdict-lines before groups fill-all fill fill-keeps fill-verdict all-slots layout-number
 verdicts = verdict-lines
+
+-- the same of one line, in a declaration that begins with line h and is a struct with a record number; of names 7 alone is erased
+unfoldable pub told : Line → Line → Line
+unfolding verdict-line-of cty-erased layout-number
+told h l = verdict-line-of (λ n. eqb n 7) (TUnit ∷ int ∷ app 7 [] ∷ app 8 [] ∷ []) (verdict false (L-struct []) [] true) h l
 
 unfoldable pub left : List Line → List Dtype → List Line
 unfolding left-lines program-lines decl-lines decl-frame ctor-lines field-lines emit put select
@@ -480,6 +487,33 @@ verdict-cases =
 pub verdicts-filled : Passed verdict-cases
 unfolding verdict-cases
 verdicts-filled = refl
+
+unfoldable pub told-cases : List (Case Line)
+unfolding told list
+told-cases =
+    -- a line of the header, which no declaration has, and an import's lines: as they are
+    told bad (N 0) gives N 0
+    ∷ told (I 9 0 2 0 2) (I 9 0 2 0 2) gives I 9 0 2 0 2
+    ∷ told (I 9 0 2 0 2) (F 30 0 1) gives F 30 0 1
+    ∷ told (I 9 0 2 0 2) (F 31 1 0) gives F 31 1 0
+    ∷ told (I 9 0 2 0 2) (Vn 0 1 0) gives Vn 0 1 0
+    -- a local declaration's D line
+    ∷ told (D 9 2 3 1 2) (D 9 2 3 1 2) gives I 9 2 3 1 2
+    -- its P and C lines
+    ∷ told (D 9 2 3 1 2) (P 5) gives P 5
+    ∷ told (D 9 2 3 1 2) (C 20 4) gives C 20 4
+    -- its F lines: of the types unit and 7, erased, and of int and 8, kept
+    ∷ told (D 9 2 3 1 2) (F 30 0 0) gives F 30 0 0
+    ∷ told (D 9 2 3 1 2) (F 31 1 0) gives F 31 1 1
+    ∷ told (D 9 2 3 1 2) (F 32 2 0) gives F 32 2 0
+    ∷ told (D 9 2 3 1 2) (F 33 3 0) gives F 33 3 1
+    -- its V line
+    ∷ told (D 9 2 3 1 2) V0 gives Vn 0 2 1
+    ∷ []
+
+pub lines-told : Passed told-cases
+unfolding told-cases
+lines-told = refl
 
 unfoldable pub left-cases : List (Case (List Line))
 unfolding left list

@@ -2,4 +2,3 @@ pub mod Program
 pub mod Rows
 pub mod Output
 pub mod Cases
-pub mod Laws

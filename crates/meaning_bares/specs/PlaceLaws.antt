@@ -11,7 +11,7 @@ use Rattle.sheet.specs.Sheet.{first, count, lines, row2}
 use Rattle.sheet.specs.FirstLaws.{first-congr}
 use Rattle.sheet.specs.SheetLaws.{length-lines, line-good}
 use Rattle.meaning.specs.Rows.{raws, row3, row4, row5, row7}
-use Rattle.meaning.specs.Laws.Rows.{row3-raws}
+use Rattle.meaning_laws.specs.Rows.{row3-raws}
 use Rattle.walk_cells.specs.Cells.{bare}
 use Rattle.meaning_bares.specs.RowLaws.{row3-bare, row4-bare, row5-bare, row7-bare}
 

@@ -7,7 +7,7 @@ use native.Mathlib.Omega.{arith}
 use lib.Dec.{eqb, leb, ltb}
 use lib.ListN.{length, take, length-map}
 use borrow.Author.Tests.{ltb-true, ltb-false}
-use Rattle.meaning.specs.Laws.Rows.{row3-inside, row3-past}
+use Rattle.meaning_laws.specs.Rows.{row3-inside, row3-past}
 use Rattle.number_columns.specs.Column.{pick, _⇒_∥_}
 use Rattle.sheet.specs.Format.{Format}
 use Rattle.sheet.specs.Sheet.{first}

@@ -18,7 +18,7 @@ use Rattle.model.specs.Decl.{member, position}
 use Rattle.model.specs.Layout.{positions}
 use Rattle.meaning.specs.Program.{type-line, program}
 use Rattle.meaning.specs.Rows.{count-of}
-use Rattle.meaning.specs.Laws.Program.{length-program}
+use Rattle.meaning_laws.specs.Program.{length-program}
 use Rattle.table_declared.specs.Passed.{Passed}
 use Rattle.table_access.specs.Tables.{decls-of}
 use Rattle.set_bits.specs.Bits.{digit, has, inserted, cleared, united}

@@ -17,7 +17,7 @@ use Rattle.model.specs.Cty.{Cty, Ctys, TUnit, TAny, TExn, TVar, TInt, TFloat, T
 use Rattle.meaning.specs.Program.{name-line, arg-line, type-line, is, select, list-of, tree, trees-after, trees}
 use Rattle.meaning.specs.Rows.{count-of, count-before, line-at, some-below, zeros-from, is-list, good-type, good-numbers, row5}
 use Rattle.model_laws.specs.Lists.{getD-map}
-use Rattle.meaning.specs.Laws.Written.{trees-after-later}
+use Rattle.meaning_laws.specs.Written.{trees-after-later}
 use Rattle.table_declared.specs.Passed.{Passed}
 use Rattle.table_access.specs.Tables.{nth}
 use Rattle.resolve_outcomes.specs.Answer.{parts, plain, listed}

@@ -11,7 +11,7 @@ use Rattle.number_columns.specs.Column.{pick}
 use Rattle.sheet.specs.Line.{Line, number}
 use Rattle.meaning.specs.Program.{param-line, is, select}
 use Rattle.meaning.specs.Rows.{count-of, count-before}
-use Rattle.meaning.specs.Laws.Program.{select-append}
+use Rattle.meaning_laws.specs.Program.{select-append}
 use Rattle.table_access.specs.Tables.{nth, first-of}
 use Rattle.resolve_outcomes.specs.Outcome.{one, argument}
 use Rattle.resolve_outcomes.specs.Scratch.{part}

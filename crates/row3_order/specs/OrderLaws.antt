@@ -20,7 +20,7 @@ use Rattle.row3_order.specs.DueLaws.{due-name, due-arg, due-type}
 use Rattle.rows_runs.specs.declared.Runs.{Runs}
 use Rattle.rows_runs.specs.RunsLaws.{upward, Spans}
 use Rattle.row3_order.specs.StepLaws.{due-after-suc}
-use Rattle.meaning.specs.Laws.Rows.{row3-inside, row3-past}
+use Rattle.meaning_laws.specs.Rows.{row3-inside, row3-past}
 
 -- ---- row 3 of a list of lines
 module _ (ls : List Line) where

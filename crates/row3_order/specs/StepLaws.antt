@@ -23,8 +23,8 @@ use Rattle.meaning.specs.Rows.{
   last-head,
   kept-after,
 }
-use Rattle.meaning.specs.Laws.Program.{select-append}
-use Rattle.meaning.specs.Laws.Rows.{due-after-append, last-head-append, kept-after-append}
+use Rattle.meaning_laws.specs.Program.{select-append}
+use Rattle.meaning_laws.specs.Rows.{due-after-append, last-head-append, kept-after-append}
 
 -- ---- how many lines of a letter
 one : (x : ℕ) (l : Line) → count-of x (l ∷ []) ≡ pick (is x l) 1 0

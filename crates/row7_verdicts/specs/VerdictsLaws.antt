@@ -20,7 +20,7 @@ use Rattle.rows_header.specs.Header.{Headed}
 use Rattle.rows_header.specs.OrderLaws.{from-le, before-from}
 use Rattle.row7_verdicts.specs.declared.Decl.{Decl}
 use Rattle.row7_verdicts.specs.Verdicts.{good-with, good-line, Bit, kept-at, decl-at, most-keep, declared-verdict}
-use Rattle.meaning.specs.Laws.Rows.{last-head-append, kept-after-append}
+use Rattle.meaning_laws.specs.Rows.{last-head-append, kept-after-append}
 use Rattle.row7_verdicts.specs.VerdictLines.{no-verdict}
 
 -- ---- one line more

@@ -26,7 +26,7 @@ use Rattle.model_laws.specs.Resolve.{Unfolds}
 use Rattle.model_locality.specs.Laws.Fuel.{NoReturn, rank-of, ranked}
 use Rattle.meaning.specs.Program.{type-line, program}
 use Rattle.meaning.specs.Rows.{count-of}
-use Rattle.meaning.specs.Laws.Program.{length-program}
+use Rattle.meaning_laws.specs.Program.{length-program}
 use Rattle.table_declared.specs.PassedLaws.{distinct-names}
 use Rattle.table_declared.specs.Passed.{Passed}
 use Rattle.table_access.specs.Tables.{decls-of, TableOf}

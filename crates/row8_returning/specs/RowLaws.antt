@@ -9,7 +9,7 @@ use Rattle.sheet.specs.FirstLaws.{first-congr}
 use Rattle.model.specs.Reach.{cyclic}
 use Rattle.model.specs.Run.{layouts-of, unfold-next, returns}
 use Rattle.meaning.specs.Program.{program}
-use Rattle.meaning.specs.Laws.Program.{length-program}
+use Rattle.meaning_laws.specs.Program.{length-program}
 use Rattle.answer.specs.declared.Refusal.the-variants.{Accepted, Refused}
 use Rattle.answer.specs.Answer.{Row, refusal}
 use Rattle.row4_limits.specs.Limits.{start}

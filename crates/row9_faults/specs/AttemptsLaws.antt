@@ -18,7 +18,7 @@ use Rattle.model.specs.Resolve.{Result, ok, fault, spent, resolve-checked}
 use Rattle.model.specs.Run.{lay, fault-code, decl-fault}
 use Rattle.model_laws.specs.Resolve.{Unspent}
 use Rattle.meaning.specs.Program.{program}
-use Rattle.meaning.specs.Laws.Program.{length-program}
+use Rattle.meaning_laws.specs.Program.{length-program}
 use Rattle.table_declared.specs.PassedLaws.{decls-within}
 use Rattle.model_locality.specs.Laws.Fuel.{NoReturn, fuel-unspent}
 use Rattle.table_access.specs.Tables.{decls-of}

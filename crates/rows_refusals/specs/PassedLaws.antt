@@ -29,7 +29,7 @@ use Rattle.rows_refusals.specs.declared.Checked.{Checked}
 use Rattle.rows_refusals.specs.Rows.{refused-as, with-counts, checked-of, Passes-rows, Checks}
 use Rattle.rows_refusals.specs.CellLaws.{counts-cells}
 use Rattle.rows_refusals.specs.RowsLaws.{never, accepted-rows, checked-accepted}
-use Rattle.meaning.specs.Laws.Output.{number-fits}
+use Rattle.meaning_laws.specs.Output.{number-fits}
 
 -- ---- numbers of six columns
 number-small : (l : Line) → Fits 6 l → (k : ℕ) → number l k < 1000000

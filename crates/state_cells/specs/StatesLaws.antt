@@ -16,7 +16,7 @@ use Rattle.model.specs.Decl.{Field, CtorLayout, close, Layout, L-erased, L-newt
 use Rattle.model.specs.Run.{field-types, resolves, layout-of-decl}
 use Rattle.meaning.specs.Program.{type-line, ctor-line, field-line, program}
 use Rattle.meaning.specs.Rows.{count-of}
-use Rattle.meaning.specs.Laws.Output.{types-of-fields, types-of-ctors}
+use Rattle.meaning_laws.specs.Output.{types-of-fields, types-of-ctors}
 use Rattle.table_declared.specs.Passed.{Passed}
 use Rattle.table_access.specs.Tables.{decls-of, first-of}
 use Rattle.table_declared.specs.DeclLaws.{whole-at}

@@ -18,7 +18,7 @@ use Rattle.model.specs.Run.{layouts-of, layout-of-decl}
 use Rattle.model_laws.specs.Lists.{getD-table, getD-table-past}
 use Rattle.meaning.specs.Program.{type-line, dtype-of, program}
 use Rattle.meaning.specs.Rows.{count-of}
-use Rattle.meaning.specs.Laws.Program.{length-program, body-number}
+use Rattle.meaning_laws.specs.Program.{length-program, body-number}
 use Rattle.table_declared.specs.Passed.{Passed}
 use Rattle.table_access.specs.Tables.{head-line, decls-of}
 use Rattle.table_declared.specs.DeclLaws.{dtype-is}

@@ -22,8 +22,8 @@ use Rattle.model.specs.Run.{layouts-of, layout-of-decl}
 use Rattle.model_laws.specs.Layout.{getD-layouts}
 use Rattle.meaning.specs.Program.{import-line, verdict-line, is, is-head, select, before, Group, groups, trees, dtype-of, abbreviated, layout-by, info-of, verdict-of, program}
 use Rattle.meaning.specs.Rows.{line-at, heads-before, last-head, kept-after, one-ctor, good-verdict, row7}
-use Rattle.meaning.specs.Laws.Program.{none-before, select-append, select-none, select-yes, flat, before-flat, length-program, body-number, body-of-number, close-number, Whole}
-use Rattle.meaning.specs.Laws.Rows.{last-head-append, last-head-none}
+use Rattle.meaning_laws.specs.Program.{none-before, select-append, select-none, select-yes, flat, before-flat, length-program, body-number, body-of-number, close-number, Whole}
+use Rattle.meaning_laws.specs.Rows.{last-head-append, last-head-none}
 use Rattle.row4_limits.specs.Limits.{start}
 use Rattle.row7_verdicts.specs.Verdicts.{good-line}
 use Rattle.row7_verdicts.specs.VerdictsLaws.{row7-line}

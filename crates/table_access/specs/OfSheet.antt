@@ -15,7 +15,7 @@ use Rattle.meaning_bares.specs.ProgramLaws.{map-bare, program-bare}
 use Rattle.meaning_bares.specs.RowLaws.{count-bare, row3-bare, row4-bare, row5-bare, row7-bare, repeats-bare}
 use Rattle.meaning.specs.Program.{is, program}
 use Rattle.meaning.specs.Rows.{line-at, count-of, row3, row4, row5, row7}
-use Rattle.meaning.specs.Laws.Output.{number-fits}
+use Rattle.meaning_laws.specs.Output.{number-fits}
 use Rattle.rows_header.specs.OrderLaws.{Ordered}
 use Rattle.row4_limits.specs.Limits.{start}
 use Rattle.table_declared.specs.Passed.{Bounded, Passed}

@@ -20,8 +20,8 @@ use Rattle.model.specs.Decl.{here, imported, Decl, no-decl, dtype-at, origin-at
 use Rattle.meaning.specs.Program.{name-line, arg-line, type-line, import-line, verdict-line, is, is-head, select, before, Group, groups, trees, dtype-of, info-of, verdict-of, decl-of, program}
 use Rattle.meaning.specs.Rows.{line-at, count-of, count-before, heads-before, due, due-header, due-after, row3}
 use Rattle.model_laws.specs.Lists.{getD-map}
-use Rattle.meaning.specs.Laws.Program.{None, Starts, select-append, select-none, select-yes, none-before, flat, before-flat, AllGrouped, grouped, starts-flat, heads, heads-none, head-cases, length-groups, group-at, program-groups, Whole, AllWhole}
-use Rattle.meaning.specs.Laws.Rows.{Ends, is-header, is-header-line, row3-ends, ends-prefix, ends-whole}
+use Rattle.meaning_laws.specs.Program.{None, Starts, select-append, select-none, select-yes, none-before, flat, before-flat, AllGrouped, grouped, starts-flat, heads, heads-none, head-cases, length-groups, group-at, program-groups, Whole, AllWhole}
+use Rattle.meaning_laws.specs.Rows.{Ends, is-header, is-header-line, row3-ends, ends-prefix, ends-whole}
 use Rattle.row3_order.specs.StepLaws.{count-before-step, heads-before-step}
 use Rattle.row4_limits.specs.Limits.{start}
 use Rattle.row4_limits.specs.LimitsLaws.{start-at, start-past, start-within, start-head, start-counts}

@@ -17,7 +17,7 @@ use Rattle.meaning.specs.Program.{name-line, type-line, local-line, import-line
 use Rattle.meaning.specs.Rows.{line-at, count-of, count-before, heads-before, good-head, good-numbers}
 use Rattle.model_laws.specs.Names.{position-name, position-distinct}
 use Rattle.model_laws.specs.Rounds.{cases-eq}
-use Rattle.meaning.specs.Laws.Program.{head-cases, heads-before-lt, length-program}
+use Rattle.meaning_laws.specs.Program.{head-cases, heads-before-lt, length-program}
 use Rattle.rows_header.specs.Header.{Lettered}
 use Rattle.row3_order.specs.StepLaws.{count-before-step, heads-before-step, count-before-le, heads-before-le}
 use Rattle.row4_limits.specs.Limits.{start}

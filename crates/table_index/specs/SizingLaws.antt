@@ -14,7 +14,7 @@ use Rattle.meaning.specs.declared.Due.{Due}
 use Rattle.meaning.specs.declared.Due.the-variants.{Header, Within, Broken}
 use Rattle.meaning.specs.Program.{name-line, arg-line, type-line, param-line, ctor-line, field-line, verdict-line, select}
 use Rattle.meaning.specs.Rows.{count-of, due, due-header, due-after}
-use Rattle.meaning.specs.Laws.Rows.{is-header}
+use Rattle.meaning_laws.specs.Rows.{is-header}
 use Rattle.rows_header.specs.OrderLaws.{header-le, count-of-le}
 use Rattle.row4_limits.specs.Limits.{start, counts-of}
 use Rattle.row4_limits.specs.LimitsLaws.{start-past, Kind, kind, a-name, an-arg, a-type, a-local, an-import, a-param, a-ctor, a-field, another}

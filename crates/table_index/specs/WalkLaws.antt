@@ -14,7 +14,7 @@ use Rattle.model.specs.Decl.{position}
 use Rattle.meaning.specs.Program.{name-line, arg-line, type-line, local-line, import-line, param-line, ctor-line, field-line, is, select, program}
 use Rattle.meaning.specs.Rows.{line-at, count-of, count-before, heads-before}
 use Rattle.model_laws.specs.Names.{position-le}
-use Rattle.meaning.specs.Laws.Program.{length-program}
+use Rattle.meaning_laws.specs.Program.{length-program}
 use Rattle.rows_header.specs.Header as head
 use Rattle.rows_header.specs.OrderLaws.{header-cases, header-letter, header-le}
 use Rattle.row3_order.specs.StepLaws.{count-before-step}

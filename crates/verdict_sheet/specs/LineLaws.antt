@@ -21,7 +21,7 @@ use Rattle.model_laws.specs.Run.{local-info}
 use Rattle.meaning.specs.Program.{local-line, import-line, field-line, is, is-head, select, type-at, trees, program}
 use Rattle.meaning.specs.Rows.{line-at, count-of, count-before, heads-before, some-below, zeros-from, good-numbers, last-head, head-of, good-verdicts, row7}
 use Rattle.meaning.specs.Output.{verdict-line-of}
-use Rattle.meaning.specs.Laws.Verdict.{verdict-line-at}
+use Rattle.meaning_laws.specs.Verdict.{verdict-line-at}
 use Rattle.row3_order.specs.StepLaws.{heads-before-suc, heads-before-mono, count-before-mono, count-before-suc, last-head-suc}
 use Rattle.row4_limits.specs.Limits.{start}
 use Rattle.row4_limits.specs.LimitsLaws.{start-counts}

@@ -21,7 +21,7 @@ use Rattle.model.specs.Run.{layouts-of, layout-of-decl, left-at, record-of}
 use Rattle.model_laws.specs.Layout.{getD-layouts}
 use Rattle.meaning.specs.Program.{field-line, import-line, is, type-at, trees, program}
 use Rattle.meaning.specs.Rows.{line-at, count-of, count-before}
-use Rattle.meaning.specs.Laws.Program.{length-program}
+use Rattle.meaning_laws.specs.Program.{length-program}
 use Rattle.answer.specs.Answer.{verdict-sheet, after}
 use Rattle.row3_order.specs.StepLaws.{count-before-suc}
 use Rattle.row4_limits.specs.Limits.{start}

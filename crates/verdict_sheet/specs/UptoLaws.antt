@@ -17,8 +17,8 @@ use Rattle.sheet.specs.ListLaws.{neither, every-append, every-left, every-right
 use Rattle.model.specs.Run.{run}
 use Rattle.meaning.specs.Program.{program}
 use Rattle.meaning.specs.Rows.{line-at}
-use Rattle.meaning.specs.Laws.Program.{length-verdict-lines, told-groups, run-told}
-use Rattle.meaning.specs.Laws.Output.{ten, verdict-fits}
+use Rattle.meaning_laws.specs.Program.{length-verdict-lines, told-groups, run-told}
+use Rattle.meaning_laws.specs.Output.{ten, verdict-fits}
 use Rattle.answer.specs.Answer.{verdict-sheet, after}
 use Rattle.verdict_sheet.specs.Upto.{verdicts, upto, Sheet}
 use Rattle.verdict_sheet.specs.LineLaws.{fits}

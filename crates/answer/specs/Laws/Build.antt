@@ -25,9 +25,9 @@ use Rattle.meaning.specs.Output.{fill-all, verdict-lines, left-lines}
 use Rattle.answer.specs.Answer.{row8, row9-10, verdict-sheet, left-sheet, Clear, Passes}
 use Rattle.answer.specs.Cut.{Sheets, build, Whole}
 use Rattle.model.specs.Names.{Distinct, undeclared}
-use Rattle.meaning.specs.Laws.Program.{AllWhole, None, Starts, select-append, told-groups, run-told, verdict-lines-append, none-left, none-right, none-append}
-use Rattle.meaning.specs.Laws.Rows.{ends-whole, Ends, row3-ends, ends-row3, row3-raws, NoHeader, no-header, row5-prefix}
-use Rattle.meaning.specs.Laws.Output.{Sized, fits-sized, left-bytes-prefix, ten, verdict-fits, verdict-bytes, verdict-round}
+use Rattle.meaning_laws.specs.Program.{AllWhole, None, Starts, select-append, told-groups, run-told, verdict-lines-append, none-left, none-right, none-append}
+use Rattle.meaning_laws.specs.Rows.{ends-whole, Ends, row3-ends, ends-row3, row3-raws, NoHeader, no-header, row5-prefix}
+use Rattle.meaning_laws.specs.Output.{Sized, fits-sized, left-bytes-prefix, ten, verdict-fits, verdict-bytes, verdict-round}
 use Rattle.answer.specs.Laws.Answer.{sheets, passes-build, build-passes, build-equal}
 use Rattle.answer.specs.Laws.Pass.{clear-heads, heads-clear, own-imports}
 use Rattle.model_locality.specs.Laws.Pinning.{prefix-lefts, Apart, prefix-program, prefix-infos}

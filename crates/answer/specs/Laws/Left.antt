@@ -30,13 +30,13 @@ use Rattle.meaning.specs.Output.{left-lines}
 use Rattle.answer.specs.Answer.{row8, row9-10, left-sheet, Clear, Passes}
 use Rattle.answer.specs.Laws.Pass.{clear-heads}
 use Rattle.model_locality.specs.Laws.Fuel.{NoReturn}
-use Rattle.meaning.specs.Laws.Written.{left-program-read}
-use Rattle.meaning.specs.Laws.Numbers.{sheet-round, left-sheet-normal}
-use Rattle.meaning.specs.Laws.Program.{None, heads, head-cases, length-program, program-at, HeadAt, head-at, body-number, body-of-number, close-number}
+use Rattle.meaning_laws.specs.Written.{left-program-read}
+use Rattle.meaning_laws.specs.Numbers.{sheet-round, left-sheet-normal}
+use Rattle.meaning_laws.specs.Program.{None, heads, head-cases, length-program, program-at, HeadAt, head-at, body-number, body-of-number, close-number}
 use Rattle.model_laws.specs.Resolve.{StructMatches, OpaqueMatches, Matches, layout-matches, Normal, Resolved, decl-resolved, LeftTypes, left-types}
 use Rattle.model_laws.specs.Layout.{getD-layouts}
 use Rattle.answer.specs.Laws.Build.{row1-small}
-use Rattle.meaning.specs.Laws.Rows.{last-head-append, last-head-none}
+use Rattle.meaning_laws.specs.Rows.{last-head-append, last-head-none}
 
 -- ---- an import's layout goes with its body
 by-matches : (n : ℕ) (b : Body) (ls : List Line) → 2 ≤ body-number b → StructMatches b (ctor-layouts-by (ctors-of n b) (keeps-of b ls))

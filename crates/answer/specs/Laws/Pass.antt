@@ -29,8 +29,8 @@ use Rattle.meaning.specs.Program.{
 }
 use Rattle.meaning.specs.Rows.{line-at, heads-before, equal, repeats, row6}
 use Rattle.model.specs.Names.{dtype-names, Distinct, Among, layout-names, OwnImports}
-use Rattle.meaning.specs.Laws.Program.{length-program, heads-before-program, program-at, HeadAt, head-at}
-use Rattle.meaning.specs.Laws.Imports.{info-own}
+use Rattle.meaning_laws.specs.Program.{length-program, heads-before-program, program-at, HeadAt, head-at}
+use Rattle.meaning_laws.specs.Imports.{info-own}
 use Rattle.answer.specs.Answer.{at-head, Clear}
 
 -- ---- rows at declarations

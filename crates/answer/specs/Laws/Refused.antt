@@ -20,7 +20,7 @@ use Rattle.model.specs.Resolve.{resolve-checked}
 use Rattle.model_laws.specs.Resolve.{Unspent, fault-row}
 use Rattle.model_locality.specs.Laws.Fuel.{NoReturn, fuel-unspent}
 use Rattle.meaning.specs.Program.{is-head, program}
-use Rattle.meaning.specs.Laws.Program.{length-program}
+use Rattle.meaning_laws.specs.Program.{length-program}
 use Rattle.meaning.specs.Rows.{line-at, heads-before, row4}
 use Rattle.answer.specs.declared.Refusal.{Refusal}
 use Rattle.answer.specs.declared.Refusal.the-variants.{Accepted, Refused}

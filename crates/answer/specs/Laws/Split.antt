@@ -40,8 +40,8 @@ use Rattle.meaning.specs.Rows.{line-at, raw, heads-before, row5, row6}
 use Rattle.model.specs.Names.{dtype-names, Declared, undeclared, Distinct}
 use Rattle.model_laws.specs.Names.{position-name, position-first, position-append-left, position-append-right, undeclared-of, declared-cases, not-declared}
 use Rattle.answer.specs.Cut.{Sheets, Faultless, build, builds, join, Whole, Declarations, program-names, Cut}
-use Rattle.meaning.specs.Laws.Program.{none-append, Starts, None, select-append, program-append, groups-append, groups-none, length-program, HeadAt, head-at, heads-before-program, none-left, none-right}
-use Rattle.meaning.specs.Laws.Rows.{Ends, raw-rawly, ends-prefix, NoHeader, no-header}
+use Rattle.meaning_laws.specs.Program.{none-append, Starts, None, select-append, program-append, groups-append, groups-none, length-program, HeadAt, head-at, heads-before-program, none-left, none-right}
+use Rattle.meaning_laws.specs.Rows.{Ends, raw-rawly, ends-prefix, NoHeader, no-header}
 use Rattle.answer.specs.Answer.{verdict-sheet, Passes, Clear}
 use Rattle.answer.specs.Laws.Pass.{name-at, distinct-program}
 use Rattle.model_locality.specs.Laws.Pinning.{Apart, distinct-undeclared}

@@ -40,9 +40,9 @@ use Rattle.meaning.specs.Program.{
   decl-of,
   program,
 }
-use Rattle.meaning.specs.Laws.Program.{None, none-append, select-append, select-none, before-none, groups-none, flat, Grouped, AllGrouped, groups-header, before-after, groups-after}
+use Rattle.meaning_laws.specs.Program.{None, none-append, select-append, select-none, before-none, groups-none, flat, Grouped, AllGrouped, groups-header, before-after, groups-after}
 use Rattle.meaning.specs.Output.{Written, put, last, Members, listed, first-arg, emit, emits, Lines, field-lines, ctor-lines, decl-frame, decl-lines, program-lines, left-lines}
-use Rattle.meaning.specs.Laws.Output.{Grows, grows-refl, grows-put, grows-listed, grows-trans, emit-adds, emits-adds, field-adds, ctor-adds, program-adds, select-letter, nothing}
+use Rattle.meaning_laws.specs.Output.{Grows, grows-refl, grows-put, grows-listed, grows-trans, emit-adds, emits-adds, field-adds, ctor-adds, program-adds, select-letter, nothing}
 
 -- ---- types
 -- a list that begins with another

@@ -113,7 +113,7 @@ use Rattle.meaning.specs.Rows.{
   good-verdicts,
   row7,
 }
-use Rattle.meaning.specs.Laws.Program.{
+use Rattle.meaning_laws.specs.Program.{
   None,
   none-left,
   Starts,

@@ -19,10 +19,10 @@ use Rattle.model_laws.specs.Run.{getD-infos, length-infos, local-info}
 use Rattle.model.specs.Layout.{slots, ctor-layouts}
 use Rattle.model_laws.specs.Erasure.{close-erased}
 use Rattle.model_laws.specs.Lists.{getD-map}
 use Rattle.meaning.specs.Program.{local-line, import-line, field-line, ctor-line, verdict-line, is, is-head, select, before, Group, groups, type-at, field-of, ctor-of, body-of, dtype-of, decl-of, trees, program}
 use Rattle.meaning.specs.Rows.{line-at, heads-before, last-head, head-of}
 use Rattle.meaning.specs.Output.{fill-keeps, fill-verdict, all-slots, verdict-lines, verdict-line-of}
-use Rattle.meaning.specs.Laws.Program.{None, flat, AllGrouped, Grouped, grouped, before-flat, none-before, Whole, AllWhole, concat, slots-of, all-slots-concat, close-ctor, fill-rest, filled, fills, kept-line, tell, fill-verdict-map, fill-keeps-field, fill-keeps-other, verdict-lines-flat, select-append, select-yes, select-no, heads, heads-head, heads-other, heads-none, length-groups, length-program}
+use Rattle.meaning_laws.specs.Program.{None, flat, AllGrouped, Grouped, grouped, before-flat, none-before, Whole, AllWhole, concat, slots-of, all-slots-concat, close-ctor, fill-rest, filled, fills, kept-line, tell, fill-verdict-map, fill-keeps-field, fill-keeps-other, verdict-lines-flat, select-append, select-yes, select-no, heads, heads-head, heads-other, heads-none, length-groups, length-program}
 
 local-not-import : (l : Line) → is local-line l ≡ true → is import-line l ≡ false
 local-not-import l e = rw (eqb-true (letter l) 68 e)

@@ -122,14 +122,14 @@ use Rattle.meaning.specs.Program.{
   decl-of,
   program,
 }
 use Rattle.meaning.specs.Rows.{count-of}
-use Rattle.meaning.specs.Laws.Program.{select-append, flat, before-flat, heads, length-groups}
+use Rattle.meaning_laws.specs.Program.{select-append, flat, before-flat, heads, length-groups}
 use Rattle.meaning.specs.Output.{left-lines}
 use Rattle.model_laws.specs.Cty.{all-names}
 use Rattle.model_laws.specs.Resolve.{Stays, Normal, Fields, Ctors, BodyTypes, LeftTypes, Left}
 use Rattle.model_laws.specs.Layout.{getD-candidates, getD-layouts, getD-layouts-past}
 use Rattle.model_laws.specs.Run.{run-lefts}
-use Rattle.meaning.specs.Laws.Output.{types-of-fields, types-of-ctors, types-of-body, types-of, TypeNumbers, TypesNumbers, FieldNumbers, CtorNumbers, BodyNumbers, DtypeNumbers, total, total-bound, ProgramFits, every-select, number-fits, left-fits, NamesIn, left-names, columns-positive}
+use Rattle.meaning_laws.specs.Output.{types-of-fields, types-of-ctors, types-of-body, types-of, TypeNumbers, TypesNumbers, FieldNumbers, CtorNumbers, BodyNumbers, DtypeNumbers, total, total-bound, ProgramFits, every-select, number-fits, left-fits, NamesIn, left-names, columns-positive}
 use Rattle.model_laws.specs.Lists.{length-table, getD-table, getD-table-past}
 use Rattle.model_laws.specs.Names.{declared-cases}
 
