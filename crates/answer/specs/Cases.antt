@@ -1,5 +1,5 @@
 -- The twelve starred cases (*): what the definitions answer to these sheets, in one table under one
--- claim; every code with its place; further sheets; and a sheet built in units. Assumes nothing.
+-- claim; every code with its place; further sheets; a sheet built in units, and calls in turn. Assumes nothing.
 use mathlib.Core.Path.{_≡_, refl}
 use mathlib.Core.List.{List, [], _∷_, _++_, map}
 use mathlib.Core.Bool.{Bool, not}
@@ -27,8 +27,8 @@ use Rattle.meaning.specs.Output.{fill-keeps, fill-verdict, all-slots, fill, fil
 use Rattle.model.specs.Names.{body-names, dtype-names}
 use Rattle.model.specs.Cases as C
 use Rattle.model.specs.Cases.{_gives_, Passed}
-use Rattle.answer.specs.Answer.{Answer, row8, fault-at, row9-10, verdict-sheet, left-sheet, sheet-rows, program-rows, output-rows, refusal, answered, answer, after}
-use Rattle.answer.specs.Cut.{Sheets, sheets-of, builds, join, Whole, program-names}
+use Rattle.answer.specs.Answer.{Answer, row8, fault-at, row9-10, verdict-sheet, left-sheet, sheet-rows, program-rows, output-rows, refusal, answered, answer, after, Given, called}
+use Rattle.answer.specs.Cut.{Sheets, sheets-of, builds, join, Whole, program-names, Call, handed-on, InTurn, last-call, AllAccept, Wrote}
 
 -- ---- cases
 -- The lines that a case tells: all of the program's output, or line R, the V lines of the verdict
@@ -456,14 +456,11 @@ told-of sheet = answers sheet [] 999 999
 abbrev pub short : List String
 short = "N     0a" ∷ "D     0     0     3     0     0" ∷ "V     0     0     0     0     0" ∷ []
 
-abbrev pub short-told : List String
-short-told =
-    "R     0     0     2     0     0"
-    ∷ "N     0a"
-    ∷ "I     0     0     3     0     0"
-    ∷ "V     1     0     0     0     0"
-    ∷ "N     0a"
-    ∷ []
+abbrev pub short-verdict : List String
+short-verdict = "N     0a" ∷ "I     0     0     3     0     0" ∷ "V     1     0     0     0     0" ∷ []
+
+abbrev pub short-left : List String
+short-left = "N     0a" ∷ []
 
 -- the header of two declarations: `a`, of four nodes, and `b = a exn`, with an argument too many
 abbrev pub for-two : List String
@@ -583,7 +580,7 @@ code-cases =
     ∷ answers short [] 95 32 gives refuses 11 96
     ∷ answers short [] 95 31 gives refuses 11 96
     ∷ answers short [] 96 31 gives refuses 12 32
-    ∷ answers short [] 96 32 gives accepts short-told
+    ∷ answers short [] 96 32 gives accepts ("R     0     0     2     0     0" ∷ short-verdict ++ short-left)
     ∷ []
 
 -- Each code at its place.
@@ -596,6 +593,42 @@ codes-given = refl
 pub outputs-after : after (1 ∷ 2 ∷ []) (6 ∷ 7 ∷ 8 ∷ 9 ∷ []) ≡ 1 ∷ 2 ∷ 8 ∷ 9 ∷ []
 outputs-after = refl
 
+-- outputs that hold sevens
+abbrev pub sevens : ℕ → List ℕ
+sevens n = table (λ i. 7) n
+
+-- what a call for `short` gives, with outputs of v and l bytes
+unfoldable pub short-call : ℕ → ℕ → Given
+unfolding given called
+short-call v l = called small (joined (map bytes short)) (sevens v) (sevens l)
+
+unfoldable pub call-cases : List (C.Case Given)
+unfolding short-call
+call-cases =
+    -- the verdict sheet goes to the verdict output, the left sheet to the left one; bytes past them stay
+    short-call 98 33
+    gives record {
+      code = 0;
+      place = 0;
+      rounds = 2;
+      verdict-output = joined (map bytes short-verdict) ++ (7 ∷ 7 ∷ []);
+      left-output = joined (map bytes short-left) ++ (7 ∷ []);
+    }
+    -- a refusal: all bytes stay
+    ∷ short-call 2 1
+    gives record {
+      code = 11;
+      place = 96;
+      rounds = 0;
+      verdict-output = 7 ∷ 7 ∷ [];
+      left-output = 7 ∷ [];
+    }
+    ∷ []
+
+pub calls-give : Passed call-cases
+unfolding call-cases
+calls-give = refl
+
 -- ---- units
 -- units built in turn over these N and Y lines
 abbrev pub header : List String
@@ -605,20 +638,21 @@ unfoldable pub built : List String → List (List String) → Option Sheets
 unfolding given builds sheets-of
 built u us = builds base 999 999 (joined (map bytes header)) (joined (map bytes u)) (map (λ ls. joined (map bytes ls)) us)
 
-unfoldable pub sheets : List String → List String → Option Sheets
+unfoldable pub sheets : List String → List String → Sheets
 unfolding codes pad joined
-sheets verdict left = some (record { verdict = joined (map bytes verdict); left = joined (map bytes left) })
+sheets verdict left = record { verdict = joined (map bytes verdict); left = joined (map bytes left) }
 
--- `b = a`, a unit
-abbrev pub second : List String
-second = "D     1     0     1     0     1" ∷ "V     0     0     0     0     0" ∷ []
+-- a unit that declares a newtype, and one that unfolds it: `b = a`
+abbrev pub unit-a : List String
+unit-a = "D     0     0     2     0     1" ∷ "F     2     0     0     0     0" ∷ "V     0     0     0     0     0" ∷ []
 
-unfoldable pub unit-cases : List (C.Case (Option Sheets))
-unfolding built sheets
-unit-cases =
-    -- the first unit declares a newtype, which the second unfolds
-    built ("D     0     0     2     0     1" ∷ "F     2     0     0     0     0" ∷ "V     0     0     0     0     0" ∷ []) (second ∷ [])
-    gives sheets
+abbrev pub unit-b : List String
+unit-b = "D     1     0     1     0     1" ∷ "V     0     0     0     0     0" ∷ []
+
+-- what both give, built in turn
+abbrev pub both : Sheets
+both =
+    sheets
     (header
     ++ ("I     0     0     2     0     1"
     ∷ "F     2     0     1     0     0"
@@ -636,15 +670,41 @@ unit-cases =
     ∷ "D     1     0     1     0     1"
     ∷ "V     0     0     0     0     0"
     ∷ [])
+
+unfoldable pub unit-cases : List (C.Case (Option Sheets))
+unfolding built sheets
+unit-cases =
+    built unit-a (unit-b ∷ []) gives some both
     -- the first unit is refused, and with it all
-    ∷ built ("D     0     0     0     0     0" ∷ "V     0     0     1     0     0" ∷ []) (second ∷ []) gives none
+    ∷ built ("D     0     0     0     0     0" ∷ "V     0     0     1     0     0" ∷ []) (unit-b ∷ []) gives none
     ∷ []
 
 pub units-built : Passed unit-cases
 unfolding unit-cases
 units-built = refl
 
--- the words of the cut: units joined, whole lines, the names of a program
+-- ---- calls in turn
+-- a call for a sheet of these lines, with outputs of 130 sevens, more than its sheets need
+abbrev pub call : List String → Call small
+call ls =
+    let b : List ℕ = joined (map bytes ls) in
+    record { sheet = b; verdict = sevens 130; left = sevens 130; gave = called small b (sevens 130) (sevens 130); is-called = refl }
+
+-- The units are the declaration of `short` and one of no lines. The first call hands its verdict sheet on, without
+-- the sevens past it.
+pub calls-in-turn : InTurn small 130 130 (bytes "N     0a") (joined (map bytes ("D     0     0     3     0     0" ∷ "V     0     0     0     0     0" ∷ []))) ([] ∷ []) (call short) (call short-verdict ∷ [])
+unfolding given called
+calls-in-turn = (record { sheet-is = refl; verdict-room = refl; left-room = refl }, record { sheet-is = refl; verdict-room = refl; left-room = refl })
+
+pub calls-accept : AllAccept (call short) (call short-verdict ∷ [])
+unfolding given called
+calls-accept = (refl, refl)
+
+pub last-wrote : Wrote (last-call (call short) (call short-verdict ∷ [])) (sheets short-verdict short-left)
+unfolding given called sheets
+last-wrote = record { verdict-holds = refl; left-holds = refl }
+
+-- ---- the words of the cut: units joined, whole lines, the names of a program
 pub units-joined : join ((1 ∷ 2 ∷ []) ∷ [] ∷ (3 ∷ []) ∷ []) ≡ 1 ∷ 2 ∷ 3 ∷ []
 unfolding join
 units-joined = refl

@@ -1,4 +1,3 @@
 pub mod Answer
 pub mod Cut
 pub mod Cases
-pub mod Laws

@@ -14,7 +14,7 @@ use Rattle.meaning.specs.Program.{program}
 use Rattle.answer.specs.declared.Refusal.{Refusal}
 use Rattle.answer.specs.declared.Refusal.the-variants.{Accepted, Refused}
 use Rattle.answer.specs.Answer.{Row, line-row, whole-row, row8, row9-10, fault-at, sheet-rows, program-rows, input-refusal, output-rows, rows, refusal, verdict-sheet, left-sheet, Answer, answered, answer, after, called}
-use Rattle.answer.specs.Laws.Answer.{or-later, refusal-append}
+use Rattle.answer_laws.specs.Answer.{or-later, refusal-append}
 use Rattle.answer_built.specs.declared.Built.{Built}
 use Rattle.answer_built.specs.Built.{refused-as, Gives}
 

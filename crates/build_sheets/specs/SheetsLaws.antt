@@ -20,8 +20,8 @@ use Rattle.meaning.specs.Rows.{count-of}
 use Rattle.meaning_laws.specs.Output.{Sized, fits-sized, left-bytes, left-length, program-adds}
 use Rattle.answer.specs.Answer.{left-sheet, verdict-sheet, input-rows, input-refusal, output-rows, refusal, answered, answer, Passes}
 use Rattle.answer.specs.declared.Refusal.the-variants.{Accepted}
-use Rattle.answer.specs.Laws.Build.{verdict-sheet-length}
-use Rattle.answer.specs.Laws.Left.{pass-fit}
+use Rattle.answer_laws.specs.Build.{verdict-sheet-length}
+use Rattle.answer_laws.specs.Left.{pass-fit}
 use Rattle.table_access.specs.Tables.{decls-of, lines-in}
 use Rattle.table_access.specs.OfSheet.{OfSheet, program-same, count-same}
 use Rattle.form_normal.specs.Ranks.{Formed}
@@ -29,7 +29,7 @@ use Rattle.left_laws.specs.declared.Count.{Count}
 use Rattle.left_laws.specs.Lefts.{left-written, Counted}
 use Rattle.left_laws.specs.RoomLaws.{never-short}
 use Rattle.answer.specs.declared.Refusal.{Refusal}
-use Rattle.answer.specs.Laws.Answer.{clear-accepted, or-later, refusal-append, accepted-passes}
+use Rattle.answer_laws.specs.Answer.{clear-accepted, or-later, refusal-append, accepted-passes}
 use Rattle.answer_built.specs.declared.Built.{Built}
 use Rattle.answer_built.specs.declared.Tried.{Tried}
 use Rattle.answer_built.specs.Built.{refused-as, Gives, Tries}

@@ -27,7 +27,7 @@ use Rattle.meaning.specs.Output.{verdict-line-of}
 use Rattle.answer.specs.Answer.{answer, rows, Passes, Refuses}
 use Rattle.answer.specs.Cut.{Sheets, build, builds, Cut, Call, Over, InTurn, last-call, AllAccept, Wrote}
 use Rattle.sheet.specs.FormatLaws.{base-ample}
-use Rattle.answer.specs.Laws.Pass.{own-imports}
+use Rattle.answer_laws.specs.Pass.{own-imports}
 use Rattle.claims.specs.Claims.{Accepts, decls, marks, erased, Least, Rounds, LocalVerdict, Unspent, OfSource, Unchanged, Holds, Same, FirstUnits}
 use Rattle.claims.specs.Claims as claims
 

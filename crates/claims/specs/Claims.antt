@@ -50,12 +50,12 @@ use Rattle.model_laws.specs.Run.{getD-infos, local-info, import-info, import-la
 use Rattle.model_locality.specs.Laws.Locality.{marks-local, layouts-local, info-local, left-local, fault-local, returns-local}
 use Rattle.model_locality.specs.Laws.Fuel.{fuel-same}
 use Rattle.model_locality.specs.Laws.Rename.{Injective, rename-decls, SameRenamed, locality-renamed}
-use Rattle.answer.specs.Laws.Answer.{sheets, build-passes, accepted-passes, passes-accepted, Nothing, refused-nothing, after-length, after-past}
-use Rattle.answer.specs.Laws.Left.{pass-no-return, pass-resolved, few-decls, left-sheet-names}
-use Rattle.answer.specs.Laws.Build.{Split, split-steps, split-nothing, prefix-verdict, prefix-left-table, pass-whole, verdict-sheet-length, verdict-sheet-lines, passes-whole}
-use Rattle.answer.specs.Laws.Refused.{answer-refuses}
-use Rattle.answer.specs.Laws.Calls.{cut-accepts, cut-wrote}
-use Rattle.answer.specs.Laws.Split.{joined-parts, cut-splits, cut-first, cut-builds, passes-faultless}
+use Rattle.answer_laws.specs.Answer.{sheets, build-passes, accepted-passes, passes-accepted, Nothing, refused-nothing, after-length, after-past}
+use Rattle.answer_laws.specs.Left.{pass-no-return, pass-resolved, few-decls, left-sheet-names}
+use Rattle.answer_laws.specs.Build.{Split, split-steps, split-nothing, prefix-verdict, prefix-left-table, pass-whole, verdict-sheet-length, verdict-sheet-lines, passes-whole}
+use Rattle.answer_laws.specs.Refused.{answer-refuses}
+use Rattle.answer_laws.specs.Calls.{cut-accepts, cut-wrote}
+use Rattle.answer_laws.specs.Split.{joined-parts, cut-splits, cut-first, cut-builds, passes-faultless}
 use Rattle.claims.specs.Unerased.{unerased}
 use Rattle.claims.specs.ClaimsLaws.{
   true-of,

@@ -15,8 +15,8 @@ use Rattle.model.specs.Run.{run}
 use Rattle.meaning.specs.Program.{program}
 use Rattle.answer.specs.Answer.{Answer, verdict-sheet, left-sheet, answered, answer}
 use Rattle.answer.specs.Cut.{Sheets, build}
-use Rattle.answer.specs.Laws.Answer.{sheets, passes-build, build-passes, accepted-passes, passes-answer}
-use Rattle.answer.specs.Laws.Build.{Split, split-steps}
+use Rattle.answer_laws.specs.Answer.{sheets, passes-build, build-passes, accepted-passes, passes-answer}
+use Rattle.answer_laws.specs.Build.{Split, split-steps}
 use Rattle.claims.specs.Unerased.{unerased}
 
 pub true-of : (b : Bool) → T b → b ≡ true

@@ -17,7 +17,7 @@ use Rattle.meaning.specs.Program.{program}
 use Rattle.meaning.specs.Rows.{row7}
 use Rattle.meaning_laws.specs.Output.{nothing, types-of, total-bound, program-adds}
 use Rattle.meaning_laws.specs.Numbers.{Numbered, weights, run-count, run-types, program-full, weights-program}
-use Rattle.answer.specs.Laws.Left.{program-matches}
+use Rattle.answer_laws.specs.Left.{program-matches}
 use Rattle.table_declared.specs.Passed.{Passed}
 use Rattle.table_declared.specs.PassedLaws.{decls-few, fields-few}
 use Rattle.left_laws.specs.Lefts.{left-written}

@@ -27,8 +27,8 @@ use Rattle.table_access.specs.Tables.{decls-of}
 use Rattle.sheet.specs.ListLaws.{Every}
 use Rattle.model_locality.specs.Laws.Fuel.{NoReturn}
 use Rattle.model_laws.specs.Resolve.{Resolved}
-use Rattle.answer.specs.Laws.Left.{lines-no-return, lines-resolved}
-use Rattle.answer.specs.Laws.Answer.{accepted-clear}
+use Rattle.answer_laws.specs.Left.{lines-no-return, lines-resolved}
+use Rattle.answer_laws.specs.Answer.{accepted-clear}
 
 -- a row by the first number i at which its test holds, and whether that is below its bound
 row-told : (row : Row) (rs : List Row) (i : ℕ) (c : Bool) → first (row .test) (row .bound) ≡ i → ltb i (row .bound) ≡ c → refusal (row ∷ rs) ≡ pick c (Refused (row .code i) (row .place i)) (refusal rs)

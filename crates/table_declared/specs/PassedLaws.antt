@@ -18,7 +18,7 @@ use Rattle.model_laws.specs.Names.{position-le}
 use Rattle.meaning.specs.Program.{name-line, arg-line, type-line, param-line, ctor-line, field-line, is, program}
 use Rattle.meaning.specs.Rows.{line-at, count-of, count-before}
 use Rattle.meaning_laws.specs.Program.{length-program}
-use Rattle.answer.specs.Laws.Pass.{distinct-heads}
+use Rattle.answer_laws.specs.Pass.{distinct-heads}
 use Rattle.meaning_bares.specs.RowLaws.{renumbers, repeats-number}
 use Rattle.rows_header.specs.OrderLaws.{Ordered, ordered-of, arg-at, type-before, count-of-le}
 use Rattle.row3_order.specs.StepLaws.{count-before-step, count-before-mono}

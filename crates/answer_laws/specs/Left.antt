@@ -27,15 +27,15 @@ use Rattle.model.specs.Run.{left-program, layouts-of, run, returns, resolves, d
 use Rattle.meaning.specs.Program.{name-line, arg-line, type-line, local-line, param-line, ctor-line, field-line, verdict-line, import-line, is, is-head, select, before, Group, keeps-of, ctor-layouts-by, abbreviated, layout-by, info-of, verdict-of, trees, dtype-of, decl-of, program}
 use Rattle.meaning.specs.Rows.{line-at, count-of, count-before, heads-before, params-after, row4, last-head, head-of, kept-after, one-ctor, good-verdict, good-verdicts, row7}
 use Rattle.meaning.specs.Output.{left-lines}
 use Rattle.answer.specs.Answer.{row8, row9-10, left-sheet, Clear, Passes}
-use Rattle.answer.specs.Laws.Pass.{clear-heads}
+use Rattle.answer_laws.specs.Pass.{clear-heads}
 use Rattle.model_locality.specs.Laws.Fuel.{NoReturn}
 use Rattle.meaning_laws.specs.Written.{left-program-read}
 use Rattle.meaning_laws.specs.Numbers.{sheet-round, left-sheet-normal}
 use Rattle.meaning_laws.specs.Program.{None, heads, head-cases, length-program, program-at, HeadAt, head-at, body-number, body-of-number, close-number}
 use Rattle.model_laws.specs.Resolve.{StructMatches, OpaqueMatches, Matches, layout-matches, Normal, Resolved, decl-resolved, LeftTypes, left-types}
 use Rattle.model_laws.specs.Layout.{getD-layouts}
-use Rattle.answer.specs.Laws.Build.{row1-small}
+use Rattle.answer_laws.specs.Build.{row1-small}
 use Rattle.meaning_laws.specs.Rows.{last-head-append, last-head-none}
 
 -- ---- an import's layout goes with its body

@@ -22,12 +22,12 @@ use Rattle.model_locality.specs.Laws.Fuel.{NoReturn, fuel-unspent}
 use Rattle.meaning.specs.Program.{is-head, program}
 use Rattle.meaning_laws.specs.Program.{length-program}
 use Rattle.meaning.specs.Rows.{line-at, heads-before, row4}
 use Rattle.answer.specs.declared.Refusal.{Refusal}
 use Rattle.answer.specs.declared.Refusal.the-variants.{Accepted, Refused}
 use Rattle.answer.specs.Answer.{Row, Clear, Refuses, row8, fault-at, row9-10, sheet-rows, program-rows, output-rows, rows, refusal, answered, answer}
-use Rattle.answer.specs.Laws.Answer.{first-clear, AllClear, accepted-clear, or-later, refusal-append, head-test}
-use Rattle.answer.specs.Laws.Pass.{clear-heads}
-use Rattle.answer.specs.Laws.Left.{decls-limit}
+use Rattle.answer_laws.specs.Answer.{first-clear, AllClear, accepted-clear, or-later, refusal-append, head-test}
+use Rattle.answer_laws.specs.Pass.{clear-heads}
+use Rattle.answer_laws.specs.Left.{decls-limit}
 
 -- ---- the row of a refusal
 abbrev pub RefusesAs : List Row → Refusal → Type 0

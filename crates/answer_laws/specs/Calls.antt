@@ -8,12 +8,12 @@ use native.Mathlib.Omega.{arith}
 use lib.ListN.{length, take, drop}
 use lib.Seq.{take-append-seam}
 use Rattle.sheet.specs.Format.{Format}
 use Rattle.answer.specs.declared.Refusal.the-variants.{Accepted}
 use Rattle.answer.specs.Answer.{Answer, answer, answered, after, Passes, Given, called}
 use Rattle.answer.specs.Cut.{Sheets, build, builds, Cut, Call, handed-on, Over, InTurn, last-call, AllAccept, Wrote}
-use Rattle.answer.specs.Laws.Answer.{sheets, passes-build, build-passes, accepted-passes, passes-accepted, passes-answer}
-use Rattle.answer.specs.Laws.Build.{verdict-sheet-length}
-use Rattle.answer.specs.Laws.Split.{cut-builds}
+use Rattle.answer_laws.specs.Answer.{sheets, passes-build, build-passes, accepted-passes, passes-accepted, passes-answer}
+use Rattle.answer_laws.specs.Build.{verdict-sheet-length}
+use Rattle.answer_laws.specs.Split.{cut-builds}
 
 module _ (f : Format) (v l : ℕ) (pos : 0 < f .columns) where
   -- one call

@@ -26,7 +26,7 @@ use native.Mathlib.Nat.{zero-div, zero-mod}
 use lib.Dec.{eqb}
 use lib.ListN.{length, getD, length-append, List·getD-append}
 use mathlib.Core.Option.{Option, none, some}
-use Rattle.answer.specs.Laws.Answer.{passes-build, build-passes, sheets}
+use Rattle.answer_laws.specs.Answer.{passes-build, build-passes, sheets}
 use Rattle.sheet.specs.Format.{Format, lineBytes}
 use Rattle.sheet.specs.Line.{Line, bad, isBad, letter, number}
 use Rattle.sheet.specs.Sheet.{count, line, linesFrom, lines, row2}
@@ -39,15 +39,15 @@ use Rattle.meaning.specs.Program.{arg-line, type-line, is-head, select, groups,
 use Rattle.meaning.specs.Rows.{line-at, raw, heads-before, row5, row6}
 use Rattle.model.specs.Names.{dtype-names, Declared, undeclared, Distinct}
 use Rattle.model_laws.specs.Names.{position-name, position-first, position-append-left, position-append-right, undeclared-of, declared-cases, not-declared}
 use Rattle.answer.specs.Cut.{Sheets, Faultless, build, builds, join, Whole, Declarations, program-names, Cut}
 use Rattle.meaning_laws.specs.Program.{none-append, Starts, None, select-append, program-append, groups-append, groups-none, length-program, HeadAt, head-at, heads-before-program, none-left, none-right}
 use Rattle.meaning_laws.specs.Rows.{Ends, raw-rawly, ends-prefix, NoHeader, no-header}
 use Rattle.answer.specs.Answer.{verdict-sheet, Passes, Clear}
-use Rattle.answer.specs.Laws.Pass.{name-at, distinct-program}
+use Rattle.answer_laws.specs.Pass.{name-at, distinct-program}
 use Rattle.model_locality.specs.Laws.Pinning.{Apart, distinct-undeclared}
-use Rattle.answer.specs.Laws.Step.{same-rows, SameRows, verdicts, later, program-parts}
-use Rattle.answer.specs.Laws.Build.{pass-whole, verdict-lines-behind, passes-sound, Sound, pass-no-bad, whole-length, whole-append, NoBad, no-bad-pass, Split, split-steps}
-use Rattle.answer.specs.Laws.Cut.{Splits, chain}
+use Rattle.answer_laws.specs.Step.{same-rows, SameRows, verdicts, later, program-parts}
+use Rattle.answer_laws.specs.Build.{pass-whole, verdict-lines-behind, passes-sound, Sound, pass-no-bad, whole-length, whole-append, NoBad, no-bad-pass, Split, split-steps}
+use Rattle.answer_laws.specs.Cut.{Splits, chain}
 
 -- ---- declared names, by the lines where declarations begin
 pub record HeadNamed (ls : List Line) (n : ℕ) : Type 0 where

@@ -22,16 +22,16 @@ use Rattle.meaning.specs.Program.{name-line, is-head, select, groups, program}
 use Rattle.meaning.specs.Rows.{row5, row6}
 use Rattle.model.specs.Run.{left-program, run, layouts-of, somes, returns, decl-fault}
 use Rattle.meaning.specs.Output.{fill-all, verdict-lines, left-lines}
 use Rattle.answer.specs.Answer.{row8, row9-10, verdict-sheet, left-sheet, Clear, Passes}
 use Rattle.answer.specs.Cut.{Sheets, build, Whole}
 use Rattle.model.specs.Names.{Distinct, undeclared}
 use Rattle.meaning_laws.specs.Program.{AllWhole, None, Starts, select-append, told-groups, run-told, verdict-lines-append, none-left, none-right, none-append}
 use Rattle.meaning_laws.specs.Rows.{ends-whole, Ends, row3-ends, ends-row3, row3-raws, NoHeader, no-header, row5-prefix}
 use Rattle.meaning_laws.specs.Output.{Sized, fits-sized, left-bytes-prefix, ten, verdict-fits, verdict-bytes, verdict-round}
-use Rattle.answer.specs.Laws.Answer.{sheets, passes-build, build-passes, build-equal}
-use Rattle.answer.specs.Laws.Pass.{clear-heads, heads-clear, own-imports}
+use Rattle.answer_laws.specs.Answer.{sheets, passes-build, build-passes, build-equal}
+use Rattle.answer_laws.specs.Pass.{clear-heads, heads-clear, own-imports}
 use Rattle.model_locality.specs.Laws.Pinning.{prefix-lefts, Apart, prefix-program, prefix-infos}
-use Rattle.answer.specs.Laws.Step.{
+use Rattle.answer_laws.specs.Step.{
   Checks,
   later,
   whole-parts,
@@ -44,7 +44,7 @@ use Rattle.answer.specs.Laws.Step.{
   verdict-lines-import,
   left-lines-import,
 }
-use Rattle.answer.specs.Laws.Cut.{Steps}
+use Rattle.answer_laws.specs.Cut.{Steps}
 
 -- ---- bytes and lines
 pub whole-length : (w : ℕ) (b : List ℕ) → Whole w b → length b ≡ lineBytes w * count w b

@@ -18,8 +18,8 @@ use Rattle.meaning.specs.Output.{verdict-lines, left-lines}
 use Rattle.model.specs.Names.{Distinct, pins, OwnImports}
 use Rattle.meaning_laws.specs.Program.{Starts, program-append, AllEnded, AllTold, length-verdict-lines, told-groups, run-told, program-cut, verdict-lines-cut, left-lines-cut}
 use Rattle.meaning_laws.specs.Rows.{Ends, row3-ends, ends-row3, ends-prefix, ends-whole, ended-row5, row3-verdict, row4-verdict, row5-verdict, row6-verdict, row7-cut, NoHeader, no-header, row4-prefix, row5-prefix, row6-prefix, row7-prefix}
 use Rattle.answer.specs.Answer.{Clear}
-use Rattle.answer.specs.Laws.Pass.{distinct-program, own-imports}
+use Rattle.answer_laws.specs.Pass.{distinct-program, own-imports}
 use Rattle.model_locality.specs.Laws.Pinning.{Apart, prefix-fault, prefix-returns, first-length, prefix-infos, imported-lefts, imported-infos, imported-fault, imported-returns}
 
 -- ---- rows 3 to 10 on lines
