@@ -30,7 +30,7 @@ use Rattle.meaning_laws.specs.Rows.{ends-whole, Ends, row3-ends, ends-row3, row
 use Rattle.meaning_laws.specs.Output.{Sized, fits-sized, left-bytes-prefix, ten, verdict-fits, verdict-bytes, verdict-round}
 use Rattle.answer_laws.specs.Answer.{sheets, passes-build, build-passes, build-equal}
 use Rattle.answer_laws.specs.Pass.{clear-heads, heads-clear, own-imports}
-use Rattle.model_locality.specs.Laws.Pinning.{prefix-lefts, Apart, prefix-program, prefix-infos}
+use Rattle.model_laws.specs.Pinning.{prefix-lefts, Apart, prefix-program, prefix-infos}
 use Rattle.answer_laws.specs.Step.{
   Checks,
   later,

@@ -29,7 +29,7 @@ use Rattle.meaning.specs.Rows.{line-at, count-of, count-before, heads-before, p
 use Rattle.meaning.specs.Output.{left-lines}
 use Rattle.answer.specs.Answer.{row8, row9-10, left-sheet, Clear, Passes}
 use Rattle.answer_laws.specs.Pass.{clear-heads}
-use Rattle.model_locality.specs.Laws.Fuel.{NoReturn}
+use Rattle.model_laws.specs.Fuel.{NoReturn}
 use Rattle.meaning_laws.specs.Written.{left-program-read}
 use Rattle.meaning_laws.specs.Numbers.{sheet-round, left-sheet-normal}
 use Rattle.meaning_laws.specs.Program.{None, heads, head-cases, length-program, program-at, HeadAt, head-at, body-number, body-of-number, close-number}

@@ -18,7 +18,7 @@ use Rattle.model.specs.Decl.{Decl}
 use Rattle.model.specs.Run.{lay, layouts-of, layout-of-decl, resolves, returns, decl-fault}
 use Rattle.model.specs.Resolve.{resolve-checked}
 use Rattle.model_laws.specs.Resolve.{Unspent, fault-row}
-use Rattle.model_locality.specs.Laws.Fuel.{NoReturn, fuel-unspent}
+use Rattle.model_laws.specs.Fuel.{NoReturn, fuel-unspent}
 use Rattle.meaning.specs.Program.{is-head, program}
 use Rattle.meaning_laws.specs.Program.{length-program}
 use Rattle.meaning.specs.Rows.{line-at, heads-before, row4}

@@ -44,7 +44,7 @@ use Rattle.meaning_laws.specs.Program.{none-append, Starts, None, select-append
 use Rattle.meaning_laws.specs.Rows.{Ends, raw-rawly, ends-prefix, NoHeader, no-header}
 use Rattle.answer.specs.Answer.{verdict-sheet, Passes, Clear}
 use Rattle.answer_laws.specs.Pass.{name-at, distinct-program}
-use Rattle.model_locality.specs.Laws.Pinning.{Apart, distinct-undeclared}
+use Rattle.model_laws.specs.Pinning.{Apart, distinct-undeclared}
 use Rattle.answer_laws.specs.Step.{same-rows, SameRows, verdicts, later, program-parts}
 use Rattle.answer_laws.specs.Build.{pass-whole, verdict-lines-behind, passes-sound, Sound, pass-no-bad, whole-length, whole-append, NoBad, no-bad-pass, Split, split-steps}
 use Rattle.answer_laws.specs.Cut.{Splits, chain}

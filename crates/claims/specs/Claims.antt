@@ -47,9 +47,9 @@ use Rattle.model_laws.specs.Erasure.{erasure-solves, erasure-least, erasure-mad
 use Rattle.model_laws.specs.Layout as layouts
 use Rattle.model_laws.specs.Cty.{every-mem}
 use Rattle.model_laws.specs.Run.{getD-infos, local-info, import-info, import-layout}
-use Rattle.model_locality.specs.Laws.Locality.{marks-local, layouts-local, info-local, left-local, fault-local, returns-local}
-use Rattle.model_locality.specs.Laws.Fuel.{fuel-same}
-use Rattle.model_locality.specs.Laws.Rename.{Injective, rename-decls, SameRenamed, locality-renamed}
+use Rattle.model_laws.specs.Locality.{marks-local, layouts-local, info-local, left-local, fault-local, returns-local}
+use Rattle.model_laws.specs.Fuel.{fuel-same}
+use Rattle.model_laws.specs.Rename.{Injective, rename-decls, SameRenamed, locality-renamed}
 use Rattle.answer_laws.specs.Answer.{sheets, build-passes, accepted-passes, passes-accepted, Nothing, refused-nothing, after-length, after-past}
 use Rattle.answer_laws.specs.Left.{pass-no-return, pass-resolved, few-decls, left-sheet-names}
 use Rattle.answer_laws.specs.Build.{Split, split-steps, split-nothing, prefix-verdict, prefix-left-table, pass-whole, verdict-sheet-length, verdict-sheet-lines, passes-whole}

@@ -59,7 +59,7 @@ use Rattle.model.specs.Resolve.{Unfold, gone, newtype, abbreviation, stays, unf
 use Rattle.model.specs.Run.{layouts-of, lay, layout-of-decl}
 use Rattle.model_laws.specs.Cty.{Each, Any, all-of, close-each}
 use Rattle.model_laws.specs.Layout.{getD-layouts, getD-candidates}
-use Rattle.model_locality.specs.Laws.Locality.{lay-declared, lay-foreign}
+use Rattle.model_laws.specs.Locality.{lay-declared, lay-foreign}
 use Rattle.model_laws.specs.Names.{declared-cases}
 use Rattle.model_laws.specs.Resolve.{Fields, Kept, Ctors, BodyTypes}
 use Rattle.form_laws.specs.FormLaws.{BodyBound, Bound}

@@ -20,7 +20,7 @@ use Rattle.model_laws.specs.Resolve.{Resolved}
 use Rattle.meaning.specs.Program.{program, type-line, param-line}
 use Rattle.meaning.specs.Rows.{count-of}
 use Rattle.meaning_laws.specs.Program.{length-program}
-use Rattle.model_locality.specs.Laws.Fuel.{rank-of, ranked}
+use Rattle.model_laws.specs.Fuel.{rank-of, ranked}
 use Rattle.row4_limits.specs.Limits.{start}
 use Rattle.table_declared.specs.Passed.{Passed}
 use Rattle.table_access.specs.Tables.{decls-of, first-of}

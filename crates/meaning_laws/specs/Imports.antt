@@ -9,7 +9,7 @@ use Rattle.model.specs.Decl.{Ctor, Body, TAbstract, TAbbrev, TRecord, TVariant,
 use Rattle.model.specs.Layout.{ctor-layout, newtype-of, collapse}
 use Rattle.model.specs.Names.{ctors-names, body-names, dtype-names, Among, cls-names, layout-names}
 use Rattle.model_laws.specs.Names.{among-append, kept-names, ctors-own}
-use Rattle.model_locality.specs.Laws.Own.{Own, option-weaken, newtype-own, collapse-own}
+use Rattle.model_laws.specs.Own.{Own, option-weaken, newtype-own, collapse-own}
 use Rattle.meaning.specs.Program.{keeps-of, ctor-layouts-by, abbreviated, layout-by, info-of}
 
 pub cls-by : (cs : List Ctor) (bss : List (List Bool)) → Among (cls-names (ctor-layouts-by cs bss)) (ctors-names cs)

@@ -7,3 +7,8 @@ pub mod Reach
 pub mod Layout
 pub mod Resolve
 pub mod Run
+pub mod Own
+pub mod Locality
+pub mod Rename
+pub mod Pinning
+pub mod Fuel

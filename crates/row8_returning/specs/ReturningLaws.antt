@@ -23,7 +23,7 @@ use Rattle.model_laws.specs.Cty.{names-all, close-names}
 use Rattle.model_laws.specs.Layout.{names-in-iff, unfold-below}
 use Rattle.model_laws.specs.Names.{position-distinct}
 use Rattle.model_laws.specs.Resolve.{Unfolds}
-use Rattle.model_locality.specs.Laws.Fuel.{NoReturn, rank-of, ranked}
+use Rattle.model_laws.specs.Fuel.{NoReturn, rank-of, ranked}
 use Rattle.meaning.specs.Program.{type-line, program}
 use Rattle.meaning.specs.Rows.{count-of}
 use Rattle.meaning_laws.specs.Program.{length-program}

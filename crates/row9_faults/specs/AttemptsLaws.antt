@@ -20,7 +20,7 @@ use Rattle.model_laws.specs.Resolve.{Unspent}
 use Rattle.meaning.specs.Program.{program}
 use Rattle.meaning_laws.specs.Program.{length-program}
 use Rattle.table_declared.specs.PassedLaws.{decls-within}
-use Rattle.model_locality.specs.Laws.Fuel.{NoReturn, fuel-unspent}
+use Rattle.model_laws.specs.Fuel.{NoReturn, fuel-unspent}
 use Rattle.table_access.specs.Tables.{decls-of}
 use Rattle.resolve_kids.specs.Nodes.{type-of}
 use Rattle.resolve_kids.specs.Params.{params-of}

@@ -25,7 +25,7 @@ use Rattle.row4_limits.specs.Limits.{start}
 use Rattle.row4_limits.specs.LimitsLaws.{start-past, start-within, start-head, start-counts}
 use Rattle.table_access.specs.Tables.{decls-of}
 use Rattle.sheet.specs.ListLaws.{Every}
-use Rattle.model_locality.specs.Laws.Fuel.{NoReturn}
+use Rattle.model_laws.specs.Fuel.{NoReturn}
 use Rattle.model_laws.specs.Resolve.{Resolved}
 use Rattle.answer_laws.specs.Left.{lines-no-return, lines-resolved}
 use Rattle.answer_laws.specs.Answer.{accepted-clear}

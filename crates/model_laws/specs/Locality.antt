@@ -18,14 +18,14 @@ use Rattle.model.specs.Layout.{steps, type-names, ctor-layouts, candidate, drop
 use Rattle.model.specs.Resolve.{unfolded, Unfold, gone, newtype, abbreviation, stays, unfold-body, unfold-dtype, unfold-of, unfolds, unfold-name, resolve}
 use Rattle.model.specs.Run.{rw-decl, record-of, info, layouts-of, unfold-next, returns, resolves, decl-fault, lay, layout-of-decl, left-at, info-at}
 use Rattle.model.specs.Names.{OwnImports, fields-names, dtype-names, body-names, Declared, Agree, Among, cls-names, layout-names}
 use Rattle.model_laws.specs.Names.{agree-sym, declared-cases, agree-foreign}
 use Rattle.model_laws.specs.Erasure.{erasure-local, ctor-layouts-local}
 use Rattle.model_laws.specs.Reach.{cyclic-iff, reach-loop}
 use Rattle.model_laws.specs.Layout.{getD-layouts, getD-candidates, layout-same, Alike, Places, places-only, Placed, names-in-iff, unfold-below}
 use Rattle.model_laws.specs.Cty.{All, names-all, all-names}
 use Rattle.model_laws.specs.Resolve.{BodyAll, Fields, Kept, kept-field-types, rw-decl-local, decl-fault-local}
-use Rattle.model_locality.specs.Laws.Own.{layout-own}
+use Rattle.model_laws.specs.Own.{layout-own}
 use Rattle.model_laws.specs.Lists.{getD-table, getD-table-past}
 
 pub layouts-own : (ds : List Decl) → OwnImports ds → (i : ℕ) → i < length ds → Among (layout-names (layout-of-decl ds i)) (dtype-names (dtype-at ds i))
 unfolding layouts-of layout-of

@@ -29,12 +29,12 @@ use Rattle.model.specs.Erasure.{marked, rule, rule-of, erasure-fixpoint}
 use Rattle.model.specs.Layout.{ctor-layouts, dropped, layout-of, compute-layouts, candidates-of}
 use Rattle.model.specs.Run.{left-program, info, layouts-of, somes, run, returns, decl-fault, layout-of-decl, left-at, info-at}
 use Rattle.model.specs.Names.{dtype-names, Declared, undeclared, Distinct, Agree, Pin, pins, OwnImports}
 use Rattle.model_laws.specs.Names.{position-name, position-distinct, position-declared, position-append-left, agree-prefix, undeclared-of, position-same, not-declared}
 use Rattle.model_laws.specs.Erasure.{erasure-solves, erasure-pinned}
 use Rattle.model_laws.specs.Layout.{Placed, layout-at, pinned-layouts, getD-layouts}
 use Rattle.model_laws.specs.Run.{run-lefts, run-infos, getD-infos, length-infos, left-same, lefts-same, fault-same, returns-same}
-use Rattle.model_locality.specs.Laws.Locality.{info-local, left-local, fault-local, returns-local}
+use Rattle.model_laws.specs.Locality.{info-local, left-local, fault-local, returns-local}
 use Rattle.model_laws.specs.Lists.{length-table, getD-table, table-cong}
 
 -- ---- pinned programs
 pub pin-length : (ds : List Decl) (tis : List TypeInfo) → length tis ≡ length ds → length (pins ds tis) ≡ length ds

@@ -99,10 +99,10 @@ use Rattle.model.specs.Layout.{layouts-of-ctors, slots, kept, ctor-layout, ctor
 use Rattle.model.specs.Reach.{cyclic}
 use Rattle.model.specs.Run.{with-body, all-in, collapsed-abbrev, resolved-field, resolved-ctor, struct-body, rw-decl, record-body, record-verdict, record-of, info, layouts-of, Ran, run, unfold-next, returns, field-types, resolves, fault-code, decl-fault, lay, layout-of-decl, left-at, info-at}
 use Rattle.model.specs.Names.{fields-names, ctors-names, body-names, dtype-names, Declared, Agree, Among, cls-names, layout-names, OwnImports}
 use Rattle.model_laws.specs.Layout.{candidate-at, layout-at}
-use Rattle.model_locality.specs.Laws.Locality.{marks-local, layouts-local, left-local, fault-local, info-local, returns-local}
+use Rattle.model_laws.specs.Locality.{marks-local, layouts-local, left-local, fault-local, info-local, returns-local}
 use Rattle.model_laws.specs.Run.{run-lefts, run-infos}
 use Rattle.model_laws.specs.Lists.{getD-map, table-cong}
 
 -- ---- lists
 -- two ways round through two maps

@@ -14,12 +14,12 @@ use Rattle.model.specs.Reach.{Reach}
 use Rattle.model.specs.Resolve.{unfolded, Unfold, gone, newtype, abbreviation, stays, unfold-name, resolve, resolve-checked}
 use Rattle.model.specs.Run.{layouts-of, unfold-next, returns, lay}
 use Rattle.model.specs.Names.{Declared}
 use Rattle.model_laws.specs.Reach.{cyclic-complete, rank, rank-less, rank-bound}
 use Rattle.model_laws.specs.Layout.{names-in-iff, unfold-below}
 use Rattle.model_laws.specs.Cty.{All, names-all}
 use Rattle.model_laws.specs.Resolve.{Unspent, Unfolds, BodyAll, Under, Ranked, resolve-more, checked-unspent, checked-more}
-use Rattle.model_locality.specs.Laws.Locality.{lay-foreign}
+use Rattle.model_laws.specs.Locality.{lay-foreign}
 use Rattle.model_laws.specs.Names.{declared-cases}
 
 -- no unfolded name returns to itself: row 8
 abbrev pub NoReturn : List Decl → Type 0

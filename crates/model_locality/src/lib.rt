@@ -1,1 +1,0 @@
-// What a type's layout depends on.
