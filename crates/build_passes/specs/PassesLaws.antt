@@ -11,8 +11,8 @@ use Rattle.meaning.specs.Rows.{count-of}
 use Rattle.sheet.specs.Format.{base}
 use Rattle.table_declared.specs.Passed.{Bounded}
 use Rattle.table_access.specs.Tables.{decls-of}
-use Rattle.erasure_rounds.specs.declared.erasure.Erasure.{Erasure}
-use Rattle.erasure_rounds.specs.Fixpoint.{Fixpoint}
+use Rattle.erasure_laws.specs.declared.erasure.Erasure.{Erasure}
+use Rattle.erasure_laws.specs.Fixpoint.{Fixpoint}
 use Rattle.keep_fields.specs.Keeps.{Erased, Slotted}
 use Rattle.collapse_candidates.specs.Candidates.{Ruled}
 use Rattle.build_passes.specs.Passes.{Room, Lent}

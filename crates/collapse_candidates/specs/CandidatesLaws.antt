@@ -35,7 +35,7 @@ use Rattle.collapse_newtypes.specs.declared.Only.{Only}
 use Rattle.collapse_newtypes.specs.declared.Only.the-variants.{Field, Nothing}
 use Rattle.collapse_newtypes.specs.Newtypes.{only-told}
 use Rattle.collapse_candidates.specs.Candidates.{candidate-of, Sole, no-field, number-of, field-told, body-told, Body, Candidate, Partly, Candidates}
-use Rattle.erasure_bodies.specs.BodiesLaws as bodies
+use Rattle.erasure_laws.specs.BodiesLaws as bodies
 
 -- ---- declaration d
 module _ (ls : List Line) (d : ℕ) (h : d < decls-of ls) where

@@ -18,7 +18,7 @@ use Rattle.table_declared.specs.TypeLaws.{good-inline, good-type-at, type-tree}
 use Rattle.resolve_kids.specs.Nodes.{type-of, kind-of, y-line}
 use Rattle.keep_ctors.specs.Kept.{field-type}
 use Rattle.collapse_candidates.specs.Payloads.{Payload}
-use Rattle.erasure_bodies.specs.BodiesLaws as bodies
+use Rattle.erasure_laws.specs.BodiesLaws as bodies
 
 -- ---- closing
 -- An outer `TInline` goes before the parameters are looked at or after.

@@ -27,7 +27,7 @@ use Rattle.table_access.specs.Tables.{head-line, decls-of, first-of}
 use Rattle.table_declared.specs.DeclLaws.{first-next, group-is, line-inside, line-of-head, whole-at}
 use Rattle.table_declared.specs.LineLaws.{stands, good-line}
 use Rattle.resolve_kids.specs.Params.{params-of}
-use Rattle.erasure_bodies.specs.BodiesLaws.{first-le}
+use Rattle.erasure_laws.specs.BodiesLaws.{first-le}
 use Rattle.keep_fields.specs.Keeps.{slots-at, Slotted}
 use Rattle.keep_ctors.specs.Kept.{ctors-at, kept-ctor, body-kind, body-last, field-at, ctor-name, ctor-fields, fields-by, ctors-by, ctors-kept}
 use Rattle.keep_ctors.specs.KeptLaws.{fields-in, slots-are, kept-record, kept-variant, ctors-are, count-bare, count-variant, total-record, total-variant}

@@ -8,8 +8,8 @@ ghost use Rattle.meaning.specs.Program as program;
 ghost use Rattle.meaning.specs.Rows as rows;
 ghost use Rattle.table_access.specs.Tables as tables;
 ghost use Rattle.erasure_marks.specs.Marks as marks;
-ghost use Rattle.erasure_rounds.specs.Rounds as rounds;
-ghost use Rattle.erasure_rounds.specs.Fixpoint as fixpoint;
+ghost use Rattle.erasure_laws.specs.Rounds as rounds;
+ghost use Rattle.erasure_laws.specs.Fixpoint as fixpoint;
 
 fn bit(b: bool) -> u8
     ensures { λ r. ⌜ r ≡ decls.bit b ⌝ }

@@ -1,10 +1,10 @@
 // Erasure: `erasure_fixpoint` over the table of a sheet that passed rows 1 to 7, and `cty_erased` of every type under it.
 mod first_marks;
 
-use erasure_rounds::erasure::Erasure;
+use erasure_laws::erasure::Erasure;
 ghost use Rattle.sheet.specs.Format.{base};
 ghost use Rattle.table_access.specs.Tables as tables;
-ghost use Rattle.erasure_rounds.specs.Fixpoint as fixpoint;
+ghost use Rattle.erasure_laws.specs.Fixpoint as fixpoint;
 
 const TYPES: usize = 1024;
 

@@ -1,13 +1,13 @@
 // The fields of a declaration, in erasure. Marks only ever become 1, so a declaration's first kept field only moves on: it is kept
 // for the next time, with the type that the declaration waits for.
-use erasure_bodies::Field;
-use erasure_bodies::Ruled;
+use erasure_laws::Field;
+use erasure_laws::Ruled;
 ghost use mathlib.Core.Path.{_≡_};
 ghost use Prim.Native.Nat.{_≤_, _<_};
 ghost use lib.ListN.{length};
 ghost use Rattle.table_access.specs.Tables as tables;
 ghost use Rattle.erasure_marks.specs.Marks as marks;
-ghost use Rattle.erasure_bodies.specs.Bodies as bodies;
+ghost use Rattle.erasure_laws.specs.Bodies as bodies;
 
 fn higher(a: usize, b: usize) -> usize
     ensures { λ r. ⌜ bodies.Higher a b r ⌝ }

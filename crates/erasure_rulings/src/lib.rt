@@ -2,14 +2,14 @@
 mod kept_fields;
 mod ways;
 
-use erasure_bodies::Ruled;
+use erasure_laws::Ruled;
 ghost use mathlib.Core.Path.{_≡_};
 ghost use mathlib.Core.Bool.{false};
 ghost use Prim.Native.Nat.{_<_};
 ghost use Rattle.meaning.specs.Program as program;
 ghost use Rattle.meaning.specs.Rows as rows;
 ghost use Rattle.table_access.specs.Tables as tables;
-ghost use Rattle.erasure_bodies.specs.Bodies as bodies;
+ghost use Rattle.erasure_laws.specs.Bodies as bodies;
 
 // The type that declaration d abbreviates is erased.
 fn abbrev_erased(

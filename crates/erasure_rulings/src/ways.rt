@@ -4,7 +4,7 @@ ghost use mathlib.Core.Bool.{false};
 ghost use Prim.Native.Nat.{_<_};
 ghost use Rattle.meaning.specs.Program as program;
 ghost use Rattle.table_access.specs.Tables as tables;
-ghost use Rattle.erasure_bodies.specs.Bodies as bodies;
+ghost use Rattle.erasure_laws.specs.Bodies as bodies;
 
 // It is erased, or kept, whatever is marked; it is erased as its type is, or as its fields are.
 const ERASED: usize = 0;

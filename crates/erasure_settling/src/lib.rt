@@ -3,7 +3,7 @@ mod sweeps;
 mod updates;
 
 ghost use Rattle.table_access.specs.Tables as tables;
-ghost use Rattle.erasure_rounds.specs.Rounds as rounds;
+ghost use Rattle.erasure_laws.specs.Rounds as rounds;
 
 // Rounds until one erases nothing; then the marks of all types.
 pub fn settle(

@@ -1,8 +1,8 @@
 // A round of erasure: each declaration sees what the round has set so far.
-use erasure_rounds::Round;
+use erasure_laws::Round;
 ghost use Prim.Native.Nat.{_<_};
 ghost use Rattle.table_access.specs.Tables as tables;
-ghost use Rattle.erasure_rounds.specs.Rounds as rounds;
+ghost use Rattle.erasure_laws.specs.Rounds as rounds;
 
 // One round over the declarations, each of which sees what the round has set so far.
 pub fn sweep(

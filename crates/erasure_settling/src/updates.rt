@@ -1,10 +1,10 @@
 // A declaration in a round of erasure.
 mod standing;
 
-use erasure_rounds::Round;
+use erasure_laws::Round;
 ghost use Prim.Native.Nat.{_≤_, _<_};
 ghost use Rattle.table_access.specs.Tables as tables;
-ghost use Rattle.erasure_rounds.specs.Rounds as rounds;
+ghost use Rattle.erasure_laws.specs.Rounds as rounds;
 
 fn lower(a: usize, b: usize) -> usize
     ensures { λ r. ⌜ (r ≤ a) × (r ≤ b) ⌝ }

@@ -15,7 +15,7 @@ use Rattle.meaning.specs.Program.{type-line, field-line, import-line, is, progr
 use Rattle.meaning.specs.Rows.{count-of}
 use Rattle.table_access.specs.Tables.{nth, head-line, decls-of, first-of}
 use Rattle.erasure_marks.specs.Marks.{type-erased}
-use Rattle.erasure_bodies.specs.Bodies.{field-type}
+use Rattle.erasure_laws.specs.Bodies.{field-type}
 
 -- the slots of a declaration's constructors: by its types, and an import's by its lines
 unfoldable pub slots-of : (ℕ → Bool) → Dtype → Origin → List Bool

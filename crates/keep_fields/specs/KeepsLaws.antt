@@ -26,8 +26,8 @@ use Rattle.table_access.specs.Tables.{nth, group, head-line, decls-of, first-of
 use Rattle.table_declared.specs.DeclLaws.{first-next, nth-in, dtype-is, origin-local, origin-import, whole-at}
 use Rattle.table_declared.specs.BodyLaws.{close-erased, closed, fields-of, ctor-fields}
 use Rattle.erasure_marks.specs.Marks.{type-erased}
-use Rattle.erasure_bodies.specs.Bodies.{field-type}
-use Rattle.erasure_bodies.specs.BodiesLaws.{first-rises}
+use Rattle.erasure_laws.specs.Bodies.{field-type}
+use Rattle.erasure_laws.specs.BodiesLaws.{first-rises}
 use Rattle.keep_fields.specs.Keeps.{slots-of, slots-at, erased-at, Erased, field-kept, Kept, Slotted}
 
 -- ---- slots of lines

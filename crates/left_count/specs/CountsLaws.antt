@@ -25,7 +25,7 @@ use Rattle.table_declared.specs.Passed.{Passed}
 use Rattle.row4_limits.specs.Limits.{start}
 use Rattle.table_access.specs.Tables.{head-line, decls-of, first-of}
 use Rattle.table_declared.specs.DeclLaws.{whole-at, first-next}
-use Rattle.erasure_bodies.specs.BodiesLaws.{first-le}
+use Rattle.erasure_laws.specs.BodiesLaws.{first-le}
 use Rattle.resolve_kids.specs.Params.{params-from, params-of}
 use Rattle.resolve_kids.specs.ParamsLaws.{count-before-le}
 use Rattle.keep_ctors.specs.Kept.{body-kind, body-last}

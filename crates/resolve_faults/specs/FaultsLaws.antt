@@ -17,7 +17,7 @@ use Rattle.meaning.specs.Program.{field-line}
 use Rattle.meaning.specs.Rows.{count-of}
 use Rattle.table_access.specs.Tables.{decls-of, first-of}
 use Rattle.keep_ctors.specs.Kept.{body-kind, body-last, field-type}
-use Rattle.erasure_bodies.specs.BodiesLaws.{field-types, last-types, first-le}
+use Rattle.erasure_laws.specs.BodiesLaws.{field-types, last-types, first-le}
 use Rattle.resolve_outcomes.specs.Laws.Fuel.{Leads}
 use Rattle.resolve_outcomes.specs.Laws.Answer.{answer-value}
 use Rattle.resolve_memory.specs.Slots.{Slots}

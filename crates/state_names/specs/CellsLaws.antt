@@ -22,7 +22,7 @@ use Rattle.meaning_laws.specs.Program.{length-program, body-number}
 use Rattle.table_declared.specs.Passed.{Passed}
 use Rattle.table_access.specs.Tables.{head-line, decls-of}
 use Rattle.table_declared.specs.DeclLaws.{dtype-is}
-use Rattle.erasure_bodies.specs.BodiesLaws.{last-types}
+use Rattle.erasure_laws.specs.BodiesLaws.{last-types}
 use Rattle.resolve_kids.specs.Nodes.{type-of}
 use Rattle.resolve_kids.specs.Params.{params-of}
 use Rattle.keep_ctors.specs.Kept.{body-kind, body-last, field-type}

@@ -7,7 +7,7 @@ use borrow.Author.Needs.{needs}
 use Rattle.meaning.specs.Program.{field-line}
 use Rattle.table_declared.specs.PassedLaws.{decls-few}
 use Rattle.table_access.specs.Tables.{first-of, lines-in}
-use Rattle.erasure_bodies.specs.BodiesLaws.{first-rises, first-le}
+use Rattle.erasure_laws.specs.BodiesLaws.{first-rises, first-le}
 use Rattle.collapse_newtypes.specs.NewtypesLaws.{told-none, told-one}
 use Rattle.collapse_newtypes.proofs.only_kept.Statement.{statement}
 use Rattle.collapse_newtypes.proofs.only_kept.Tie as tie

@@ -4,7 +4,7 @@ use native.Mathlib.Omega.{arith}
 use borrow.Author.Needs.{needs}
 use Rattle.sheet.specs.Format.{base}
 use Rattle.table_declared.specs.PassedLaws.{decls-within, types-within}
-use Rattle.erasure_rounds.specs.FixpointLaws.{fresh-of, fixpoint-of}
+use Rattle.erasure_laws.specs.FixpointLaws.{fresh-of, fixpoint-of}
 use Rattle.erasure_fixpoint.proofs.erasure_fixpoint.Statement.{statement}
 use Rattle.table_access.specs.Tables.{lines-in}
 use Rattle.erasure_fixpoint.proofs.erasure_fixpoint.Tie as tie

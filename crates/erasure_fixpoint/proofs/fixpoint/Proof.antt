@@ -1,6 +1,6 @@
 -- `erasure_fixpoint::fixpoint` meets its contract: the rounds start from imports at their verdict. Assumes nothing.
 use borrow.Author.Needs.{needs}
-use Rattle.erasure_rounds.specs.FixpointLaws.{fresh-running, fixed-of}
+use Rattle.erasure_laws.specs.FixpointLaws.{fresh-running, fixed-of}
 use Rattle.erasure_fixpoint.proofs.fixpoint.Statement.{statement}
 use Rattle.table_access.specs.Tables.{lines-in}
 use Rattle.erasure_fixpoint.proofs.fixpoint.Tie as tie

@@ -2,7 +2,7 @@
 use native.Mathlib.Omega.{arith}
 use borrow.Author.Needs.{needs}
 use Rattle.table_declared.specs.PassedLaws.{types-few}
-use Rattle.erasure_bodies.specs.BodiesLaws.{type-kept, type-gone}
+use Rattle.erasure_laws.specs.BodiesLaws.{type-kept, type-gone}
 use Rattle.erasure_rulings.proofs.abbrev_erased.Statement.{statement}
 use Rattle.table_access.specs.Tables.{lines-in}
 use Rattle.erasure_rulings.proofs.abbrev_erased.Tie as tie

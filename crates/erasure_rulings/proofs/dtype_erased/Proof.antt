@@ -2,7 +2,7 @@
 use mathlib.Core.Bool.{true, false}
 use borrow.Author.Needs.{needs}
 use Rattle.erasure_marks.specs.Marks.{marks-of}
-use Rattle.erasure_bodies.specs.BodiesLaws.{way-rest, settled-now}
+use Rattle.erasure_laws.specs.BodiesLaws.{way-rest, settled-now}
 use Rattle.erasure_rulings.proofs.dtype_erased.Statement.{statement}
 use Rattle.table_access.specs.Tables.{lines-in}
 use Rattle.erasure_rulings.proofs.dtype_erased.Tie as tie

@@ -8,8 +8,8 @@ use Rattle.model_laws.specs.Lists.{trues}
 use Rattle.table_declared.specs.PassedLaws.{decls-few}
 use Rattle.table_access.specs.Tables.{decls-of, lines-in}
 use Rattle.erasure_marks.specs.Marks.{marks-of}
-use Rattle.erasure_rounds.specs.Rounds.{Running, ends-in}
-use Rattle.erasure_rounds.specs.RoundsLaws.{settle-last, settle-more, marks-few}
+use Rattle.erasure_laws.specs.Rounds.{Running, ends-in}
+use Rattle.erasure_laws.specs.RoundsLaws.{settle-last, settle-more, marks-few}
 use Rattle.erasure_settling.proofs.settle.Statement.{statement}
 use Rattle.erasure_settling.proofs.settle.Tie as tie
 

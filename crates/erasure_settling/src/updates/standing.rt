@@ -3,7 +3,7 @@ ghost use mathlib.Core.Path.{_≡_};
 ghost use Prim.Native.Nat.{_≤_, _<_};
 ghost use lib.ListN.{length};
 ghost use Rattle.table_access.specs.Tables as tables;
-ghost use Rattle.erasure_rounds.specs.Rounds as rounds;
+ghost use Rattle.erasure_laws.specs.Rounds as rounds;
 
 // Declaration d stays as it is: an erased one does, an import has its verdict, and one that waits for a kept type is kept.
 pub fn stands(t: &[u32], decl: &[u8], node: &[u8], wait: &[u16], d: usize, right: usize) -> bool

@@ -1,7 +1,7 @@
 -- `keep_fields::is_kept` meets its contract, by the letter of the declaration. Assumes nothing.
 use native.Mathlib.Omega.{arith}
 use borrow.Author.Needs.{needs}
-use Rattle.erasure_bodies.specs.BodiesLaws.{field-types}
+use Rattle.erasure_laws.specs.BodiesLaws.{field-types}
 use Rattle.keep_fields.specs.KeepsLaws.{kept-local}
 use Rattle.keep_fields.proofs.is_kept.Statement.{statement}
 use Rattle.table_access.specs.Tables.{lines-in}

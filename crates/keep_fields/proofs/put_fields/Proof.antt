@@ -10,7 +10,7 @@ use Rattle.model.specs.Decl.{bit}
 use Rattle.meaning.specs.Program.{field-line, import-line, is}
 use Rattle.table_declared.specs.PassedLaws.{decls-few}
 use Rattle.table_access.specs.Tables.{head-line, first-of, lines-in}
-use Rattle.erasure_bodies.specs.BodiesLaws.{first-rises, first-le}
+use Rattle.erasure_laws.specs.BodiesLaws.{first-rises, first-le}
 use Rattle.keep_fields.specs.Keeps.{field-kept}
 use Rattle.keep_fields.specs.KeepsLaws.{Partly, partly-none, partly-next, partly-all}
 use Rattle.keep_fields.proofs.put_fields.Statement.{statement}

@@ -7,7 +7,7 @@ use borrow.Author.Needs.{needs}
 use Rattle.meaning.specs.Program.{type-line}
 use Rattle.meaning.specs.Rows.{count-of}
 use Rattle.table_declared.specs.PassedLaws.{types-few}
-use Rattle.erasure_rounds.specs.FixpointLaws.{UsedFrom, used-none, used-next, used-all}
+use Rattle.erasure_laws.specs.FixpointLaws.{UsedFrom, used-none, used-next, used-all}
 use Rattle.erasure_fixpoint.proofs.first_marks.first_uses.Statement.{statement}
 use Rattle.table_access.specs.Tables.{lines-in}
 use Rattle.erasure_fixpoint.proofs.first_marks.first_uses.Tie as tie

@@ -3,7 +3,7 @@ use mathlib.Core.Path.{_≡_, sym, _∙_}
 use borrow.Author.Needs.{needs}
 use borrow.Author.Tests.{ne-eqb}
 use Rattle.erasure_marks.specs.Marks.{part}
-use Rattle.erasure_rounds.specs.FixpointLaws.{name-of-app}
+use Rattle.erasure_laws.specs.FixpointLaws.{name-of-app}
 use Rattle.erasure_fixpoint.proofs.first_marks.named.Statement.{statement}
 use Rattle.table_access.specs.Tables.{lines-in}
 use Rattle.erasure_fixpoint.proofs.first_marks.named.Tie as tie

@@ -8,7 +8,7 @@ use Rattle.model.specs.Decl.{origin-at, bit}
 use Rattle.model.specs.Erasure.{start-of}
 use Rattle.meaning.specs.Program.{program}
 use Rattle.table_access.specs.Tables.{decls-of, lines-in}
-use Rattle.erasure_rounds.specs.FixpointLaws.{start-next, start-marks}
+use Rattle.erasure_laws.specs.FixpointLaws.{start-next, start-marks}
 use Rattle.erasure_fixpoint.proofs.first_marks.start.Statement.{statement}
 use Rattle.erasure_fixpoint.proofs.first_marks.start.Tie as tie
 

@@ -3,7 +3,7 @@ use mathlib.Core.Path.{ap, sym, _∙_}
 use Prim.Native.Nat.{ℕ}
 use lib.Dec.{eqb}
 use borrow.Author.Needs.{needs}
-use Rattle.erasure_rounds.specs.FixpointLaws.{starts-import, starts-local}
+use Rattle.erasure_laws.specs.FixpointLaws.{starts-import, starts-local}
 use Rattle.erasure_fixpoint.proofs.first_marks.starts_erased.Statement.{statement}
 use Rattle.table_access.specs.Tables.{lines-in}
 use Rattle.erasure_fixpoint.proofs.first_marks.starts_erased.Tie as tie

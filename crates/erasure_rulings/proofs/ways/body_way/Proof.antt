@@ -1,7 +1,7 @@
 -- `ways::body_way` meets its contract, by the body kind. Assumes nothing.
 use mathlib.Core.Path.{sym, _∙_}
 use borrow.Author.Needs.{needs}
-use Rattle.erasure_bodies.specs.BodiesLaws.{last-types, by-abbrev, by-record, by-abstract, way-kept, way-type, way-fields}
+use Rattle.erasure_laws.specs.BodiesLaws.{last-types, by-abbrev, by-record, by-abstract, way-kept, way-type, way-fields}
 use Rattle.erasure_rulings.proofs.ways.body_way.Statement.{statement}
 use Rattle.table_access.specs.Tables.{lines-in}
 use Rattle.erasure_rulings.proofs.ways.body_way.Tie as tie

@@ -1,7 +1,7 @@
 -- `ways::variant_way` meets its contract, by the count of constructors. Assumes nothing.
 use mathlib.Core.Path.{sym, _∙_}
 use borrow.Author.Needs.{needs}
-use Rattle.erasure_bodies.specs.BodiesLaws.{by-none, by-one, by-several, way-erased, way-kept, way-fields}
+use Rattle.erasure_laws.specs.BodiesLaws.{by-none, by-one, by-several, way-erased, way-kept, way-fields}
 use Rattle.erasure_rulings.proofs.ways.variant_way.Statement.{statement}
 use Rattle.table_access.specs.Tables.{lines-in}
 use Rattle.erasure_rulings.proofs.ways.variant_way.Tie as tie

@@ -1,6 +1,6 @@
 -- `ways::way` meets its contract, by the flags and the body. Assumes nothing.
 use borrow.Author.Needs.{needs}
-use Rattle.erasure_bodies.specs.BodiesLaws.{by-flag, by-realized, by-body, way-erased, way-kept}
+use Rattle.erasure_laws.specs.BodiesLaws.{by-flag, by-realized, by-body, way-erased, way-kept}
 use Rattle.erasure_rulings.proofs.ways.way.Statement.{statement}
 use Rattle.table_access.specs.Tables.{lines-in}
 use Rattle.erasure_rulings.proofs.ways.way.Tie as tie

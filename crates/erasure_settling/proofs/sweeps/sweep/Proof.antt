@@ -12,8 +12,8 @@ use Rattle.model_laws.specs.Rounds.{trues-le}
 use Rattle.table_declared.specs.PassedLaws.{decls-few}
 use Rattle.table_access.specs.Tables.{decls-of, lines-in}
 use Rattle.erasure_marks.specs.Marks.{marks-of}
-use Rattle.erasure_rounds.specs.Rounds.{Running}
-use Rattle.erasure_rounds.specs.RoundsLaws.{sweep-next, sweep-end, sweep-begin}
+use Rattle.erasure_laws.specs.Rounds.{Running}
+use Rattle.erasure_laws.specs.RoundsLaws.{sweep-next, sweep-end, sweep-begin}
 use Rattle.erasure_settling.proofs.sweeps.sweep.Statement.{statement}
 use Rattle.erasure_settling.proofs.sweeps.sweep.Tie as tie
 

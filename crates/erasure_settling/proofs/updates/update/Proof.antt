@@ -3,7 +3,7 @@ use mathlib.Core.Path.{sym, _∙_}
 use native.Mathlib.Omega.{arith}
 use borrow.Author.Needs.{needs}
 use Rattle.table_declared.specs.PassedLaws.{decls-few}
-use Rattle.erasure_rounds.specs.RoundsLaws.{stays, running-with, updated-still, updated-erased, mark-unset}
+use Rattle.erasure_laws.specs.RoundsLaws.{stays, running-with, updated-still, updated-erased, mark-unset}
 use Rattle.erasure_settling.proofs.updates.update.Statement.{statement}
 use Rattle.table_access.specs.Tables.{lines-in}
 use Rattle.erasure_settling.proofs.updates.update.Tie as tie

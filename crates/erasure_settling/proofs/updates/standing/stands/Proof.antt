@@ -2,7 +2,7 @@
 use mathlib.Core.Logic.{inl, inr}
 use native.Mathlib.Omega.{arith}
 use borrow.Author.Needs.{needs}
-use Rattle.erasure_rounds.specs.RoundsLaws.{stands-still, stands-import}
+use Rattle.erasure_laws.specs.RoundsLaws.{stands-still, stands-import}
 use Rattle.erasure_settling.proofs.updates.standing.stands.Statement.{statement}
 use Rattle.table_access.specs.Tables.{lines-in}
 use Rattle.erasure_settling.proofs.updates.standing.stands.Tie as tie

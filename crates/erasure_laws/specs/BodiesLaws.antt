@@ -26,8 +26,8 @@ use Rattle.table_declared.specs.DeclLaws.{line-inside, line-of-head, group-is, 
 use Rattle.table_declared.specs.BodyLaws.{close-erased, closed, fields-all, fields-some, length-groups-of, fields-of, ctor-fields}
 use Rattle.erasure_marks.specs.Marks.{marks-of, type-erased, Marks}
 use Rattle.erasure_marks.specs.MarksLaws.{bit-zero, bit-set}
-use Rattle.erasure_bodies.specs.declared.Field.{Field}
-use Rattle.erasure_bodies.specs.Bodies.{Higher, kind-of, last-of, field-type, Below, decl-erased, Erased, ByFields, ByType, ByBody, Way, Found, Places, State, Ruling}
+use Rattle.erasure_laws.specs.declared.Field.{Field}
+use Rattle.erasure_laws.specs.Bodies.{Higher, kind-of, last-of, field-type, Below, decl-erased, Erased, ByFields, ByType, ByBody, Way, Found, Places, State, Ruling}
 
 -- ---- fields
 -- a field's type is a type

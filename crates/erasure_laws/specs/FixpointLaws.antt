@@ -22,8 +22,8 @@ use Rattle.table_declared.specs.TypeLaws.{good-app, good-type-at}
 use Rattle.table_declared.specs.DeclLaws.{origin-local, origin-import, verdict-is}
 use Rattle.erasure_marks.specs.Marks.{part, marks-of, type-erased}
 use Rattle.erasure_marks.specs.MarksLaws.{bit-one, marks-at}
-use Rattle.erasure_rounds.specs.Rounds.{Uses, Running, Ended}
-use Rattle.erasure_rounds.specs.Fixpoint.{named, Fresh, Fixed, Fixpoint}
+use Rattle.erasure_laws.specs.Rounds.{Uses, Running, Ended}
+use Rattle.erasure_laws.specs.Fixpoint.{named, Fresh, Fixed, Fixpoint}
 
 -- the name of a `TApp` is a name
 pub name-of-app : (ls : List Line) → Passed ls → (y : ℕ) → y < count-of type-line ls → part ls y 0 ≡ 8 → part ls y 1 < count-of name-line ls

@@ -14,8 +14,8 @@ use Rattle.model_laws.specs.Lists.{trues}
 use Rattle.model_laws.specs.Rounds.{Le, Sound}
 use Rattle.table_access.specs.Tables.{decls-of, head-line}
 use Rattle.erasure_marks.specs.Marks.{part, marks-of, type-erased}
-use Rattle.erasure_bodies.specs.Bodies.{State}
-use Rattle.erasure_rounds.specs.declared.Round.{Round}
+use Rattle.erasure_laws.specs.Bodies.{State}
+use Rattle.erasure_laws.specs.declared.Round.{Round}
 
 -- no type below used[d] names declaration d
 pub record Uses (ls : List Line) (used : List ℕ) : Type 0 where

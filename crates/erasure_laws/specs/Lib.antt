@@ -1,3 +1,5 @@
+pub mod Bodies
+pub mod BodiesLaws
 pub mod Rounds
 pub mod RoundsLaws
 pub mod Fixpoint

@@ -11,8 +11,8 @@ use Rattle.meaning.specs.Program.{type-line, param-line, field-line, select, tr
 use Rattle.meaning.specs.Rows.{count-of}
 use Rattle.table_access.specs.Tables.{nth, group, head-line, decls-of, first-of}
 use Rattle.erasure_marks.specs.Marks.{marks-of, type-erased, Marks}
-use Rattle.erasure_bodies.specs.declared.Ruled.{Ruled}
-use Rattle.erasure_bodies.specs.declared.Field.{Field}
+use Rattle.erasure_laws.specs.declared.Ruled.{Ruled}
+use Rattle.erasure_laws.specs.declared.Field.{Field}
 
 pub record Higher (a b r : ℕ) : Type 0 where
   pub left : a ≤ r

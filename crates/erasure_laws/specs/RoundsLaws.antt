@@ -26,8 +26,8 @@ use Rattle.table_declared.specs.TypeLaws.{good-arrow, good-tuple, good-inline, 
 use Rattle.table_declared.specs.DeclLaws.{origin-import}
 use Rattle.erasure_marks.specs.Marks.{part, arg-of, marks-of, type-erased}
 use Rattle.erasure_marks.specs.MarksLaws.{arg-is, bit-zero, marks-at, erased-unit, erased-arrow, erased-app, erased-inline, erased-other, tuple-same}
-use Rattle.erasure_bodies.specs.Bodies.{field-type, State}
-use Rattle.erasure_rounds.specs.Rounds.{Running, Still, Stands, Updated}
+use Rattle.erasure_laws.specs.Bodies.{field-type, State}
+use Rattle.erasure_laws.specs.Rounds.{Running, Still, Stands, Updated}
 
 -- ---- how many marks there are
 pub marks-few : (ls : List Line) (decl : List ℕ) → length decl ≡ decls-of ls → trues (marks-of decl) ≤ decls-of ls

@@ -12,7 +12,7 @@ use Rattle.meaning.specs.Program.{type-line, program}
 use Rattle.meaning.specs.Rows.{count-of}
 use Rattle.table_access.specs.Tables.{decls-of}
 use Rattle.erasure_marks.specs.Marks.{part, marks-of, type-erased}
-use Rattle.erasure_rounds.specs.declared.erasure.Erasure.{Erasure}
+use Rattle.erasure_laws.specs.declared.erasure.Erasure.{Erasure}
 
 -- the declaration that type y names, the number of declarations where it names none
 abbrev pub named : List Line → ℕ → ℕ
