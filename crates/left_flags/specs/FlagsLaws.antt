@@ -27,8 +27,8 @@ use Rattle.mention_sets.specs.NamesLaws.{member-append, member-iff}
 use Rattle.table_access.specs.Tables.{nth, decls-of}
 use Rattle.resolve_kids.specs.Params.{params-from, params-of}
 use Rattle.resolve_kids.specs.Nodes.{type-of}
-use Rattle.keep_ctors.specs.KeptLaws.{params-are}
-use Rattle.state_cells.specs.States.{state, body-of, unfold-at, closed, Shape}
+use Rattle.keep_laws.specs.KeptLaws.{params-are}
+use Rattle.keep_laws.specs.States.{state, body-of, unfold-at, closed, Shape}
 use Rattle.form_laws.specs.Nodes.{Node, node, post, posts}
 use Rattle.form_laws.specs.Forms.{place, renamed}
 use Rattle.form_nodes.specs.Words.{node-of}

@@ -18,7 +18,7 @@ use Rattle.table_access.specs.Tables.{decls-of, TableOf}
 use Rattle.resolve_kids.specs.Nodes.{type-of}
 use Rattle.resolve_kids.specs.Params.{params-of}
 use Rattle.keep_fields.specs.Keeps.{Slotted}
-use Rattle.state_cells.specs.States.{Open, resolves-of, Settled}
+use Rattle.keep_laws.specs.States.{Open, resolves-of, Settled}
 use Rattle.form_normal.specs.Tables.{Table}
 use Rattle.left_laws.specs.declared.Count.{Count}
 

@@ -28,9 +28,9 @@ use Rattle.resolve_kids.specs.Nodes.{type-of}
 use Rattle.resolve_kids.specs.Params.{params-of, params-from}
 use Rattle.resolve_kids.specs.ParamsLaws.{count-before-le}
 use Rattle.keep_fields.specs.Keeps.{Slotted}
-use Rattle.keep_ctors.specs.Kept.{body-kind}
-use Rattle.state_cells.specs.States.{state, body-of, unfold-at, lay-of, Open, closed, Shape, resolves-of, Settled}
-use Rattle.state_cells.specs.StatesLaws.{resolves-are, resolves-below}
+use Rattle.keep_laws.specs.Kept.{body-kind}
+use Rattle.keep_laws.specs.States.{state, body-of, unfold-at, lay-of, Open, closed, Shape, resolves-of, Settled}
+use Rattle.keep_laws.specs.StatesLaws.{resolves-are, resolves-below}
 use Rattle.form_laws.specs.Nodes.{post}
 use Rattle.form_laws.specs.NodesLaws.{length-post}
 use Rattle.form_laws.specs.Forms.{place, renamed}

@@ -4,7 +4,7 @@ use Prim.Native.Nat.{ℕ, _+_, _-_, _≤_}
 use lib.ListN.{length}
 use Rattle.meaning.specs.Program.{ctor-line}
 use Rattle.meaning.specs.Output.{ctor-lines}
-use Rattle.keep_ctors.specs.KeptLaws.{fields-in}
+use Rattle.keep_laws.specs.KeptLaws.{fields-in}
 use Rattle.left_places.specs.Places.{Writes}
 use Rattle.left_ctors.specs.Ctors.{left-ctors}
 use Rattle.rows_header.specs.OrderLaws.{count-of-le}

@@ -1,1 +1,0 @@
-// What becomes of each declaration, in cells: the definitions are in specs/.
