@@ -80,7 +80,7 @@ fn checked(s: &[u8], t: &mut [u32], v: &mut [u8], l: &mut [u8]) -> Built
 pub fn build(s: &[u8], v: &mut [u8], l: &mut [u8]) -> Built
     ensures { λ r. ⌜ Gives (now (s .entry)) (now (v .entry)) (now (l .entry)) r (now (v .exit)) (now (l .exit)) ⌝ }
 {
-    if walk_decode::format::row1(s) {
+    if walk_cells::format::row1(s) {
         return answer_built::refused(1, 0);
     }
     if s.len() <= TINY {

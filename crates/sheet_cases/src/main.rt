@@ -80,7 +80,7 @@ fn put_lines(s: &[u8]) {
 fn put_sheet(s: &[u8])
     requires { ⌜ length (now s) ≤ 1024 ⌝ }
 {
-    if walk_decode::format::row1(s) {
+    if walk_cells::format::row1(s) {
         put(b"row 1\n");
     }
     put(b"row 2 at");

@@ -1,4 +1,6 @@
 // The letters and numbers of lines that were decoded into cells, six to a line.
+pub mod format;
+
 ghost use mathlib.Core.Path.{_≡_};
 ghost use Prim.Native.Nat.{_/_, _<_};
 ghost use lib.ListN.{length, getD};
