@@ -13,7 +13,8 @@ use Rattle.row4_limits.specs.declared.Counts.{Counts}
 use Rattle.row4_limits.specs.Limits.{counts-of}
 use Rattle.table_declared.specs.Passed.{Bounded, Passed}
 use Rattle.table_access.specs.declared.Sizes.{Sizes}
-use Rattle.table_index.specs.Index.{Ready, behind, lines-behind}
+use Rattle.table_sizes.specs.Sizing.{behind, lines-behind}
+use Rattle.table_index.specs.Index.{Ready}
 
 -- None of rows 1 to 7 applies.
 pub record Accepts (b : List ℕ) : Type 0 where

@@ -24,9 +24,8 @@ use Rattle.rows_refusals.specs.Rows.{with-counts, checked-of, Checks}
 use Rattle.rows_refusals.specs.RowsLaws.{checked-accepted}
 use Rattle.table_access.specs.declared.Sizes.{Sizes}
 use Rattle.table_access.specs.Tables.{sizes-of, cell-count, lines-in, Tabled}
-use Rattle.table_index.specs.Index.{behind, lines-behind}
-use Rattle.table_index.specs.Sizing.{Counted}
-use Rattle.table_index.specs.SizingLaws.{count-all, cells-few}
+use Rattle.table_sizes.specs.Sizing.{behind, lines-behind, Counted}
+use Rattle.table_sizes.specs.SizingLaws.{count-all, cells-few}
 use Rattle.answer_built.specs.declared.Built.{Built}
 use Rattle.answer_built.specs.Built.{refused-as, Gives, given}
 use Rattle.answer_built.specs.BuiltLaws.{rows-sheet, gives-refused}

@@ -55,8 +55,8 @@ fn passed(s: &[u8], t: &mut [u32], c: Counts, v: &mut [u8], l: &mut [u8]) -> Bui
     ensures { λ r. ⌜ Gives (now (s .entry)) (now (v .entry)) (now (l .entry)) r (now (v .exit)) (now (l .exit)) ⌝ }
 {
     let n = s.len() / LINE;
-    let z = table_index::sizes(t, n, c.names, c.args, c.types, c.decls, c.ctors, c.fields);
-    let m = table_index::cells(z);
+    let z = table_sizes::sizes(t, n, c.names, c.args, c.types, c.decls, c.ctors, c.fields);
+    let m = table_sizes::cells(z);
     lined(s, z, &mut t[0..m], v, l)
 }
 

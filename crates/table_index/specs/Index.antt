@@ -3,10 +3,9 @@ use mathlib.Core.Path.{_≡_}
 use mathlib.Core.List.{List, [], _∷_}
 use Prim.Native.Nat.{ℕ, _+_, _*_, _≤_, _<_}
 use lib.Dec.{ltb}
-use lib.ListN.{length, getD, take, drop}
+use lib.ListN.{length, getD}
 use Rattle.number_columns.specs.Column.{pick}
 use Rattle.sheet.specs.Line.{Line}
-use Rattle.walk_cells.specs.Cells.{lines-of}
 use Rattle.model.specs.Decl.{position}
 use Rattle.meaning.specs.Program.{name-line, param-line, ctor-line, field-line, program}
 use Rattle.meaning.specs.Rows.{count-of, count-before, heads-before}
@@ -14,18 +13,12 @@ use Rattle.rows_header.specs.Header.{header}
 use Rattle.table_declared.specs.Passed.{Passed}
 use Rattle.table_access.specs.declared.Sizes.{Sizes}
 use Rattle.table_access.specs.Tables.{decls-of, sizes-of, at-begins, at-params, at-ctors, at-fields, at-names, cell-count, cells-of}
+use Rattle.table_sizes.specs.Sizing.{lines-behind}
+use Rattle.table_sizes.specs.Filling.{Agree}
 use Rattle.table_index.specs.declared.Seen.{Seen}
-use Rattle.table_index.specs.Filling.{Agree}
 
 -- ---- before the walk
--- n lines whose cells stand behind the room for the header
-abbrev pub behind : ℕ → List ℕ → List Line
-behind n t = lines-of (take (6 * n) (drop 11 t))
-
-abbrev pub lines-behind : Sizes → List ℕ → List Line
-lines-behind z t = behind (z .lines) t
-
--- they passed rows 1 to 7, are of these sizes, and there is room for the table
+-- the lines behind the room for the header passed rows 1 to 7, are of these sizes, and there is room for the table
 pub record Ready (z : Sizes) (t : List ℕ) : Type 0 where
   pub passed : Passed (lines-behind z t)
   pub sizes : z ≡ sizes-of (lines-behind z t)

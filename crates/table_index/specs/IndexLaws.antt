@@ -28,9 +28,9 @@ use Rattle.table_declared.specs.DeclLaws.{dtype-is}
 use Rattle.table_declared.specs.PassedLaws.{place-counted, head-place, distinct-names}
 use Rattle.table_access.specs.Tables.{place-of, decls-of, sizes-of, at-begins, at-params, at-ctors, at-fields, at-names, number-cell, begin-row, header, cells-of, Within}
 use Rattle.table_access.specs.CellsLaws.{Holds, header-cell, line-letter, line-number, begin-cell, param-cell, ctor-cell, field-cell, name-cell}
+use Rattle.table_sizes.specs.Filling.{Put, all, Agree, Kept, Toward}
+use Rattle.table_sizes.specs.FillingLaws.{put-none, put-next, put-one, put-toward, section-step}
 use Rattle.table_index.specs.declared.Seen.{Seen}
-use Rattle.table_index.specs.Filling.{Put, all, Agree, Kept, Toward}
-use Rattle.table_index.specs.FillingLaws.{put-one, put-toward, section-step}
 use Rattle.table_index.specs.Index.{seen-before, begin-of, Fits, named, Headed, Filled, Reached}
 
 -- ---- letters
@@ -51,6 +51,16 @@ no-head l e k = false-true (sym e ∙ k)
 times : (c : Bool) (j k : ℕ) → k ≡ pick c (j + 1) j → k * 4 ≡ pick c (j * 4 + 4) (j * 4)
 times true j k e = omega arith
 times false j k e = omega arith
+
+-- ---- where a declaration begins
+pub begin-put : (t : List ℕ) (at i : ℕ) (c : Seen) → at + 4 ≤ length t
+    → Put t (set (set (set (set t at i) (at + 1) (c .params)) (at + 2) (c .ctors)) (at + 3) (c .fields)) at 4 (begin-of i c)
+begin-put t at i c h =
+    let z : at + 0 ≡ at = omega arith in
+    let p0 : Put t (set t at i) at 1 (begin-of i c) = rw z at (put-next t t at 0 (begin-of i c) i (omega arith) refl (put-none t at (begin-of i c))) in
+    let p1 : Put t (set (set t at i) (at + 1) (c .params)) at 2 (begin-of i c) = put-next t (set t at i) at 1 (begin-of i c) (c .params) (omega (arith, p0 .sized)) refl p0 in
+    let p2 : Put t (set (set (set t at i) (at + 1) (c .params)) (at + 2) (c .ctors)) at 3 (begin-of i c) = put-next t (set (set t at i) (at + 1) (c .params)) at 2 (begin-of i c) (c .ctors) (omega (arith, p1 .sized)) refl p1 in
+    put-next t (set (set (set t at i) (at + 1) (c .params)) (at + 2) (c .ctors)) at 3 (begin-of i c) (c .fields) (omega (arith, p2 .sized)) refl p2
 
 -- ---- a table with the header and the cells of the lines
 module _ (ls : List Line) (t : List ℕ) (H : Headed ls t) where

@@ -14,7 +14,8 @@ use Rattle.walk_cells.specs.CellsLaws.{lines-cells, length-cells}
 use Rattle.table_access.specs.declared.Sizes.{Sizes}
 use Rattle.table_access.specs.Tables.{sizes-of, at-begins, cell-count, header, sections, cells-of, lines-in}
 use Rattle.table_access.specs.CellsLaws.{offset, joined-get, cells-length, header-cell}
-use Rattle.table_index.specs.Index.{lines-behind, Ready, Headed}
+use Rattle.table_sizes.specs.Sizing.{lines-behind}
+use Rattle.table_index.specs.Index.{Ready, Headed}
 
 -- ---- cells and lines
 pub cells-lines : (n : ℕ) (t : List ℕ) → length t ≡ 6 * n → cells (lines-of t) ≡ t

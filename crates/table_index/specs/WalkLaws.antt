@@ -25,11 +25,12 @@ use Rattle.table_declared.specs.PassedLaws.{ordered}
 use Rattle.table_access.specs.declared.Sizes.{Sizes}
 use Rattle.table_access.specs.Tables.{decls-of, sizes-of, at-begins, at-params, at-ctors, at-fields, at-names, cell-count, header, cells-of, lines-in, Tabled}
 use Rattle.table_access.specs.CellsLaws.{cells-length, name-cell}
+use Rattle.table_sizes.specs.Sizing.{lines-behind}
+use Rattle.table_sizes.specs.SizingLaws.{cells-few}
+use Rattle.table_sizes.specs.Filling.{Put, all, Agree, Toward}
+use Rattle.table_sizes.specs.FillingLaws.{agree-join}
 use Rattle.table_index.specs.declared.Seen.{Seen}
-use Rattle.table_index.specs.Filling.{Put, all, Agree, Toward}
-use Rattle.table_index.specs.FillingLaws.{agree-join}
-use Rattle.table_index.specs.Index.{lines-behind, Ready, seen-before, begin-of, Fits, named, Headed, Filled, Reached, Begun}
-use Rattle.table_index.specs.SizingLaws.{cells-few}
+use Rattle.table_index.specs.Index.{Ready, seen-before, begin-of, Fits, named, Headed, Filled, Reached, Begun}
 use Rattle.table_index.specs.LinesLaws.{same-lines, lines-behind-are, headed-of}
 use Rattle.table_index.specs.IndexLaws.{begins-value, names-value, seen-fits, begin-toward, begin-fits}
 

@@ -1,30 +1,23 @@
 // The header and the index of a table, behind lines whose cells already stand in it: one walk over the declarations' lines.
-use table_access::AT_ARGS;
 use table_access::AT_BEGINS;
 use table_access::AT_CTORS;
 use table_access::AT_FIELDS;
 use table_access::AT_NAMES;
 use table_access::AT_PARAMS;
-use table_access::AT_TYPES;
-use table_access::DECLS;
 use table_access::HEADER;
-use table_access::LINES;
-use table_access::NAMES;
 use table_access::Sizes;
-use table_access::TYPES;
 ghost use mathlib.Core.Path.{_≡_};
-ghost use mathlib.Core.List.{_++_};
 ghost use mathlib.Core.Bool.{true};
 ghost use Prim.Native.Nat.{suc, _+_, _*_, _≤_, _<_};
-ghost use lib.ListN.{length, getD, set, drop};
+ghost use lib.ListN.{length, getD, set};
 ghost use Rattle.number_columns.specs.Column.{pick};
 ghost use Rattle.sheet.specs.Line.{letter};
 ghost use Rattle.meaning.specs.Program as program;
 ghost use Rattle.meaning.specs.Rows as rows;
 ghost use Rattle.rows_header.specs.Header as header;
 ghost use Rattle.table_access.specs.Tables as tables;
-ghost use Rattle.table_index.specs.Sizing as sizing;
-ghost use Rattle.table_index.specs.Filling as filling;
+ghost use Rattle.table_sizes.specs.Sizing as sizing;
+ghost use Rattle.table_sizes.specs.Filling as filling;
 ghost use Rattle.table_index.specs.Index as index;
 
 // How many declarations and how many P, C and F lines stand before a line.
@@ -33,76 +26,6 @@ struct Seen {
     params: usize,
     ctors: usize,
     fields: usize,
-}
-
-// How many lines there are of each kind, given what is counted for the limits: the others are V lines, one for each declaration, and P lines.
-pub fn sizes(
-    t: &[u32],
-    lines: usize,
-    names: usize,
-    args: usize,
-    types: usize,
-    decls: usize,
-    ctors: usize,
-    fields: usize,
-) -> Sizes
-    requires { ⌜ sizing.Counted (index.behind lines (now t)) lines names args types decls ctors fields ⌝ }
-    ensures { λ r. ⌜ r ≡ tables.sizes-of (index.behind lines (now (t .entry))) ⌝ }
-{
-    let params = lines - (names + args + types + decls * 2 + ctors + fields);
-    Sizes {
-        lines,
-        names,
-        args,
-        types,
-        decls,
-        params,
-        ctors,
-        fields,
-    }
-}
-
-// How many cells the table has.
-pub fn cells(z: Sizes) -> usize
-    requires { ⌜ tables.cell-count z < 262144 ⌝ }
-    ensures { λ r. ⌜ r ≡ tables.cell-count z ⌝ }
-{
-    HEADER + 6 * z.lines + (z.decls + 1) * 4 + z.params + z.ctors + z.fields + z.names
-}
-
-fn put_header(z: Sizes, t: &mut [u32])
-    requires { ⌜ (tables.cell-count z < 262144) × (z .names + z .args + z .types ≤ z .lines) ⌝ }
-    requires { ⌜ length (now t) ≡ tables.cell-count z ⌝ }
-    ensures { λ _. ⌜ now (t .exit) ≡ tables.header z ++ drop 11 (now (t .entry)) ⌝ }
-{
-    let begins = HEADER + 6 * z.lines;
-    let params = begins + (z.decls + 1) * 4;
-    let ctors = params + z.params;
-    let fields = ctors + z.ctors;
-    let names = fields + z.fields;
-    t[TYPES] = z.types as u32;
-    t[DECLS] = z.decls as u32;
-    t[NAMES] = z.names as u32;
-    t[LINES] = z.lines as u32;
-    t[AT_ARGS] = (HEADER + 1 + 6 * z.names) as u32;
-    t[AT_TYPES] = (HEADER + 1 + 6 * (z.names + z.args)) as u32;
-    t[AT_BEGINS] = begins as u32;
-    t[AT_PARAMS] = params as u32;
-    t[AT_CTORS] = ctors as u32;
-    t[AT_FIELDS] = fields as u32;
-    t[AT_NAMES] = names as u32;
-}
-
-// The n cells from `at` on are all v.
-fn put_all(at: usize, n: usize, v: u32, t: &mut [u32])
-    requires { ⌜ at + n ≤ length (now t) ⌝ }
-    ensures { λ _. ⌜ filling.Put (now (t .entry)) (now (t .exit)) at n (filling.all v) ⌝ }
-{
-    let mut k = 0;
-    while k < n {
-        t[at + k] = v;
-        k += 1;
-    }
 }
 
 // Where declaration c.decls begins, at line i.
@@ -230,13 +153,13 @@ fn put_lines(from: usize, n: usize, t: &mut [u32])
 // Fills the header and the index, behind lines whose cells already stand in the table.
 pub fn fill(z: Sizes, t: &mut [u32])
     requires { ⌜ index.Ready z (now t) ⌝ }
-    ensures { λ _. ⌜ tables.Tabled (now (t .exit)) × (tables.lines-in (now (t .exit)) ≡ index.lines-behind z (now (t .entry))) ⌝ }
+    ensures { λ _. ⌜ tables.Tabled (now (t .exit)) × (tables.lines-in (now (t .exit)) ≡ sizing.lines-behind z (now (t .entry))) ⌝ }
 {
     let names = z.names;
     let from = names + z.args + z.types;
     let lines = z.lines;
-    put_header(z, t);
+    table_sizes::put_header(z, t);
     let at = t[AT_NAMES] as usize;
-    put_all(at, names, z.decls as u32, t);
+    table_sizes::put_all(at, names, z.decls as u32, t);
     put_lines(from, lines, t);
 }

@@ -3,7 +3,7 @@ use Prim.Native.Nat.{_+_, _*_}
 use native.Mathlib.Omega.{arith}
 use lib.ListN.{getD, length-set}
 use borrow.Author.Needs.{needs}
-use Rattle.table_index.specs.FillingLaws.{begin-put}
+use Rattle.table_index.specs.IndexLaws.{begin-put}
 use Rattle.table_index.proofs.put_begin.Statement.{statement}
 use Rattle.table_index.proofs.put_begin.Tie as tie
 

@@ -12,9 +12,7 @@ use Rattle.number_columns.specs.Column.{pick}
 use Rattle.model_laws.specs.Rounds.{cases-eq}
 use Rattle.table_access.specs.declared.Sizes.{Sizes}
 use Rattle.table_access.specs.Tables.{cell-count, header}
-use Rattle.table_index.specs.declared.Seen.{Seen}
-use Rattle.table_index.specs.Filling.{Put, all, Agree, Kept, Toward}
-use Rattle.table_index.specs.Index.{begin-of}
+use Rattle.table_sizes.specs.Filling.{Put, all, Agree, Kept, Toward}
 
 -- ---- cell after cell
 pub put-none : (t : List ℕ) (at : ℕ) (v : ℕ → ℕ) → Put t t at 0 v
@@ -88,13 +86,3 @@ module _ (z : Sizes) (h : (cell-count z < 262144) × (z .names + z .args + z .ty
 pub header-put : (z : Sizes) (t : List ℕ) → 11 ≤ length t → sets t 0 (header z) ≡ header z ++ drop 11 t
 unfolding header
 header-put z t h = sets-eq (header z) t 0 h
-
--- ---- where a declaration begins
-pub begin-put : (t : List ℕ) (at i : ℕ) (c : Seen) → at + 4 ≤ length t
-    → Put t (set (set (set (set t at i) (at + 1) (c .params)) (at + 2) (c .ctors)) (at + 3) (c .fields)) at 4 (begin-of i c)
-begin-put t at i c h =
-    let z : at + 0 ≡ at = omega arith in
-    let p0 : Put t (set t at i) at 1 (begin-of i c) = rw z at (put-next t t at 0 (begin-of i c) i (omega arith) refl (put-none t at (begin-of i c))) in
-    let p1 : Put t (set (set t at i) (at + 1) (c .params)) at 2 (begin-of i c) = put-next t (set t at i) at 1 (begin-of i c) (c .params) (omega (arith, p0 .sized)) refl p0 in
-    let p2 : Put t (set (set (set t at i) (at + 1) (c .params)) (at + 2) (c .ctors)) at 3 (begin-of i c) = put-next t (set (set t at i) (at + 1) (c .params)) at 2 (begin-of i c) (c .ctors) (omega (arith, p1 .sized)) refl p1 in
-    put-next t (set (set (set t at i) (at + 1) (c .params)) (at + 2) (c .ctors)) at 3 (begin-of i c) (c .fields) (omega (arith, p2 .sized)) refl p2

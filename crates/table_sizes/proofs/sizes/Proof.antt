@@ -1,9 +1,9 @@
--- `table_index::sizes` meets its contract: the lines that are left are P lines. Assumes nothing.
+-- `table_sizes::sizes` meets its contract: the lines that are left are P lines. Assumes nothing.
 use native.Mathlib.Omega.{arith}
-use Rattle.table_index.specs.Index.{behind}
-use Rattle.table_index.specs.SizingLaws.{count-all, sizes-whole}
-use Rattle.table_index.proofs.sizes.Statement.{statement}
-use Rattle.table_index.proofs.sizes.Tie as tie
+use Rattle.table_sizes.specs.Sizing.{behind}
+use Rattle.table_sizes.specs.SizingLaws.{count-all, sizes-whole}
+use Rattle.table_sizes.proofs.sizes.Statement.{statement}
+use Rattle.table_sizes.proofs.sizes.Tie as tie
 
 add-params : tie.Need-add-params
 add-params c = let k = c .pre in omega (arith, count-all (behind (c .args .lines) (c .args .t .now)) (k .passed), k .passed .bounded .few, k .lines-are, k .names-are, k .args-are, k .types-are, k .decls-are, k .ctors-are, k .fields-are)

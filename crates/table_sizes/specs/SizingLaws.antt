@@ -22,7 +22,7 @@ use Rattle.table_declared.specs.Passed.{Passed}
 use Rattle.table_declared.specs.PassedLaws.{decls-few, lines-few}
 use Rattle.table_declared.specs.DeclLaws.{ends-lines, verdicts-first}
 use Rattle.table_access.specs.Tables.{decls-of, sizes-of, cell-count}
-use Rattle.table_index.specs.Sizing.{Counted}
+use Rattle.table_sizes.specs.Sizing.{Counted}
 
 -- ---- nine letters
 broken-stays : (ls : List Line) → is-header (due-after Broken ls) ≡ false

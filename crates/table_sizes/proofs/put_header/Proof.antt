@@ -1,4 +1,4 @@
--- `table_index::put_header` meets its contract, cell after cell. Assumes nothing.
+-- `table_sizes::put_header` meets its contract, cell after cell. Assumes nothing.
 use Prim.Native.Nat.{_+_}
 use native.Mathlib.Omega.{arith}
 use lib.ListN.{take}
@@ -6,9 +6,9 @@ use lib.Seq.{length-sets, lt-length-sets}
 use mir.Syntax.{w32, w64}
 use borrow.Author.Needs.{needs, fits-under}
 use Rattle.table_access.specs.Tables.{header}
-use Rattle.table_index.specs.FillingLaws.{places-small, header-small, header-put}
-use Rattle.table_index.proofs.put_header.Statement.{statement}
-use Rattle.table_index.proofs.put_header.Tie as tie
+use Rattle.table_sizes.specs.FillingLaws.{places-small, header-small, header-put}
+use Rattle.table_sizes.proofs.put_header.Statement.{statement}
+use Rattle.table_sizes.proofs.put_header.Tie as tie
 
 cast-t : tie.Need-cast-t
 unfolding header

@@ -1,13 +1,13 @@
--- `table_index::put_all` meets its contract, cell after cell. Assumes nothing.
+-- `table_sizes::put_all` meets its contract, cell after cell. Assumes nothing.
 use mathlib.Core.Path.{_≡_, refl}
 use Prim.Native.Nat.{_+_, _-_, _≤_}
 use native.Mathlib.Omega.{arith}
 use lib.ListN.{length}
 use borrow.Author.Needs.{needs}
-use Rattle.table_index.specs.Filling.{Put, all}
-use Rattle.table_index.specs.FillingLaws.{put-none, put-next}
-use Rattle.table_index.proofs.put_all.Statement.{statement}
-use Rattle.table_index.proofs.put_all.Tie as tie
+use Rattle.table_sizes.specs.Filling.{Put, all}
+use Rattle.table_sizes.specs.FillingLaws.{put-none, put-next}
+use Rattle.table_sizes.proofs.put_all.Statement.{statement}
+use Rattle.table_sizes.proofs.put_all.Tie as tie
 
 abbrev Inv-loop : tie.InvT-loop
 Inv-loop at n v t₀ k₀ t k = (k ≤ n) × Put t₀ t at k (all v) × (at + n ≤ length t₀)

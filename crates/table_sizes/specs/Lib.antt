@@ -1,0 +1,4 @@
+pub mod Sizing
+pub mod SizingLaws
+pub mod Filling
+pub mod FillingLaws
