@@ -1,6 +1,4 @@
 // Row 8: whether an unfolded name returns to itself, by what is reached through the bodies of unfolded declarations.
-mod ranks;
-
 ghost use mathlib.Core.Path.{_≡_};
 ghost use Prim.Native.Nat.{_+_, _*_, _≤_, _<_};
 ghost use lib.ListN.{length};
@@ -61,5 +59,5 @@ pub fn returning(
     let types = table_access::types(t);
     mention_edges::edges(sets, words, types, bodies, steps);
     let n = table_access::decls(t);
-    ranks::ranks(steps, words, n, rank)
+    set_ranks::ranks(steps, words, n, rank)
 }

@@ -4,10 +4,10 @@ use Prim.Native.Nat.{_-_, _≤_}
 use native.Mathlib.Omega.{arith}
 use lib.ListN.{length}
 use borrow.Author.Needs.{needs}
-use Rattle.row8_returning.specs.Closure.{Through}
-use Rattle.row8_returning.specs.ClosureLaws.{through-none, through-pass, rows-long}
-use Rattle.row8_returning.proofs.ranks.closure.through.Statement.{statement}
-use Rattle.row8_returning.proofs.ranks.closure.through.Tie as tie
+use Rattle.set_ranks.specs.Closure.{Through}
+use Rattle.set_ranks.specs.ClosureLaws.{through-none, through-pass, rows-long}
+use Rattle.set_ranks.proofs.closure.through.Statement.{statement}
+use Rattle.set_ranks.proofs.closure.through.Tie as tie
 
 abbrev Inv-loop : tie.InvT-loop
 Inv-loop rows₀ words n k i₀ rows i = (i ≤ n) × Through n words k i rows₀ rows

@@ -1,13 +1,13 @@
--- `row8_returning::ranks::count` meets its contract: no row before k has its own node, and their ones are counted. Assumes nothing.
+-- `set_ranks::count` meets its contract: no row before k has its own node, and their ones are counted. Assumes nothing.
 use mathlib.Core.Path.{_≡_, refl, sym, _∙_}
 use Prim.Native.Nat.{_-_, _*_, _≤_}
 use native.Mathlib.Omega.{arith}
 use lib.ListN.{length}
 use borrow.Author.Needs.{needs}
 use Rattle.set_bits.specs.BitsLaws.{row-room}
-use Rattle.row8_returning.specs.OnesLaws.{Counted, counted-more, counted-found, counted-all}
-use Rattle.row8_returning.proofs.ranks.count.Statement.{statement}
-use Rattle.row8_returning.proofs.ranks.count.Tie as tie
+use Rattle.set_ranks.specs.OnesLaws.{Counted, counted-more, counted-found, counted-all}
+use Rattle.set_ranks.proofs.count.Statement.{statement}
+use Rattle.set_ranks.proofs.count.Tie as tie
 
 abbrev Inv-loop : tie.InvT-loop
 Inv-loop rows words n rank₀ k₀ rank k = Counted words n rows rank₀ k rank

@@ -7,7 +7,7 @@ ghost use lib.ListN.{length};
 ghost use Rattle.set_search.specs.Search.{Steps};
 ghost use Rattle.set_search.specs.Search as search;
 ghost use Rattle.set_search.specs.Loops.{First};
-ghost use Rattle.row8_returning.specs.Ones.{ones-of, Ranks};
+ghost use Rattle.set_ranks.specs.Ones.{ones-of, Ranks};
 
 // How many bits of the words at `at` are set.
 pub fn ones(rows: &[u64], at: usize, words: usize) -> usize

@@ -2,8 +2,8 @@
 ghost use mathlib.Core.Path.{_≡_};
 ghost use Prim.Native.Nat.{_+_, _≤_, _<_};
 ghost use Rattle.set_search.specs.Search.{Steps};
-ghost use Rattle.row8_returning.specs.Closure.{Rows, Through};
-ghost use Rattle.row8_returning.specs.Closure as closure;
+ghost use Rattle.set_ranks.specs.Closure.{Rows, Through};
+ghost use Rattle.set_ranks.specs.Closure as closure;
 
 // What row i reaches by way of node k.
 fn pass(rows: &mut [u64], words: usize, n: usize, k: usize, i: usize)

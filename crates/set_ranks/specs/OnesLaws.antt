@@ -25,8 +25,8 @@ use Rattle.set_bits.specs.BitsLaws.{digit-lt}
 use Rattle.set_search.specs.Search.{Steps, steps}
 use Rattle.set_search.specs.SearchLaws.{steps-within}
 use Rattle.set_search.specs.Loops.{First}
-use Rattle.row8_returning.specs.Closure.{Closed}
-use Rattle.row8_returning.specs.Ones.{ones-of, Ranks}
+use Rattle.set_ranks.specs.Closure.{Closed}
+use Rattle.set_ranks.specs.Ones.{ones-of, Ranks}
 
 -- ---- the bits of a word
 -- a test over a row of numbers that goes on after n

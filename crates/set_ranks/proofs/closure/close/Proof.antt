@@ -3,10 +3,10 @@ use mathlib.Core.Path.{_≡_, _∙_}
 use Prim.Native.Nat.{_-_, _≤_}
 use native.Mathlib.Omega.{arith}
 use borrow.Author.Needs.{needs}
-use Rattle.row8_returning.specs.Closure.{ClosedTo}
-use Rattle.row8_returning.specs.ClosureLaws.{closed-none, closed-more, closed-all, rows-long, steps-rows}
-use Rattle.row8_returning.proofs.ranks.closure.close.Statement.{statement}
-use Rattle.row8_returning.proofs.ranks.closure.close.Tie as tie
+use Rattle.set_ranks.specs.Closure.{ClosedTo}
+use Rattle.set_ranks.specs.ClosureLaws.{closed-none, closed-more, closed-all, rows-long, steps-rows}
+use Rattle.set_ranks.proofs.closure.close.Statement.{statement}
+use Rattle.set_ranks.proofs.closure.close.Tie as tie
 
 abbrev Inv-loop : tie.InvT-loop
 Inv-loop rows₀ words n k₀ rows k = (k ≤ n) × ClosedTo k n words rows₀ rows

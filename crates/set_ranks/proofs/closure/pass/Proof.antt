@@ -3,10 +3,10 @@ use mathlib.Core.Path.{_≡_, _∙_, sym}
 use native.Mathlib.Omega.{arith}
 use borrow.Author.Needs.{needs}
 use borrow.Author.Tests.{not-true, not-false}
-use Rattle.row8_returning.specs.Closure.{passed}
-use Rattle.row8_returning.specs.ClosureLaws.{row-inside, rows-apart}
-use Rattle.row8_returning.proofs.ranks.closure.pass.Statement.{statement}
-use Rattle.row8_returning.proofs.ranks.closure.pass.Tie as tie
+use Rattle.set_ranks.specs.Closure.{passed}
+use Rattle.set_ranks.specs.ClosureLaws.{row-inside, rows-apart}
+use Rattle.set_ranks.proofs.closure.pass.Statement.{statement}
+use Rattle.set_ranks.proofs.closure.pass.Tie as tie
 
 mul-has : tie.Need-mul-has
 mul-has c =
