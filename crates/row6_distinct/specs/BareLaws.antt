@@ -17,7 +17,7 @@ use Rattle.meaning_bares.specs.RowLaws.{at-bare, before-bare}
 use Rattle.meaning_bares.specs.RowLaws as rows
 use Rattle.meaning_bares.specs.PlaceLaws.{count-bare, place3, place4, place5}
 use Rattle.rows_header.specs.Header.{header}
-use Rattle.row6_distinct.specs.Spellings as bytes
+use Rattle.row6_spellings.specs.Spellings as bytes
 use Rattle.row6_distinct.specs.Ways.{Ranged, Way, Declared, Parameters, Fields, Constructors, repeated, repeated-any}
 
 -- lines j and i have one name, and are alike in one of the ways, in lines of which ls says who is whose

@@ -17,8 +17,8 @@ use Rattle.meaning.specs.Program.{name-line}
 use Rattle.meaning.specs.Rows.{equal, count-of}
 use Rattle.row4_limits.specs.Limits.{counts-of}
 use Rattle.row4_limits.specs.LimitsLaws.{counts-kept}
-use Rattle.row6_distinct.specs.Spellings.{Ranged, textAt, spelled-before}
-use Rattle.row6_distinct.specs.SomeLaws.{some-none}
+use Rattle.row6_spellings.specs.Spellings.{Ranged, textAt, spelled-before}
+use Rattle.row6_spellings.specs.SomeLaws.{some-none}
 
 -- texts that are equal byte by byte are one list
 equal-true : (a b : List ℕ) → equal a b ≡ true → a ≡ b

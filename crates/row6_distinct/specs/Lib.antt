@@ -1,6 +1,3 @@
-pub mod Spellings
-pub mod SomeLaws
-pub mod SpellingsLaws
 pub mod Keys
 pub mod Ways
 pub mod WaysLaws

@@ -19,8 +19,8 @@ use Rattle.meaning.specs.Rows.{some-below, line-at, count-of, count-before, hea
 use Rattle.rows_header.specs.Header.{Lettered}
 use Rattle.row3_order.specs.StepLaws.{count-before-step, heads-before-step, count-before-mono, heads-before-mono}
 use Rattle.row4_limits.specs.LimitsLaws.{head-cases}
-use Rattle.row6_distinct.specs.Spellings.{respelled}
-use Rattle.row6_distinct.specs.SomeLaws.{some-zero, some-suc, some-congr, some-none, some-or, or-true, or-false, first-or}
+use Rattle.row6_spellings.specs.Spellings.{respelled}
+use Rattle.row6_spellings.specs.SomeLaws.{some-zero, some-suc, some-congr, some-none, some-or, or-true, or-false, first-or}
 use Rattle.row6_distinct.specs.Ways.{Way, Declared, Parameters, Fields, Constructors, alike, repeated, repeated-any, takes, begins, group, stamp, Named, After, groups-after, ctor-marks, field-marks, MembersAfter, HeadAfter}
 use Rattle.row6_distinct.specs.declared.repeats.Groups.{Groups}
 

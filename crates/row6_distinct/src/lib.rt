@@ -1,7 +1,6 @@
 // Row 6: names that are to differ, of a sheet that passed rows 1 to 5.
 mod repeats;
 mod respellings;
-pub mod spellings;
 
 use repeats::Groups;
 use repeats::MEMBERS;
@@ -16,7 +15,7 @@ ghost use Rattle.sheet.specs.Sheet as sheet;
 ghost use Rattle.meaning.specs.Program.{name-line};
 ghost use Rattle.meaning.specs.Rows as rows;
 ghost use Rattle.rows_header.specs.Header.{header};
-ghost use Rattle.row6_distinct.specs.Spellings.{Ranged};
+ghost use Rattle.row6_spellings.specs.Spellings.{Ranged};
 ghost use Rattle.row6_distinct.specs.Ways as ways;
 
 // The first line whose name an earlier line of its group has, or the count of lines; `from` is the

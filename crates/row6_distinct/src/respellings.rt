@@ -5,8 +5,8 @@ ghost use Prim.Native.Nat.{_<_};
 ghost use Rattle.sheet.specs.Sheet as sheet;
 ghost use Rattle.meaning.specs.Program.{name-line};
 ghost use Rattle.meaning.specs.Rows as rows;
-ghost use Rattle.row6_distinct.specs.Spellings.{Ranged, textAt, spelled-before};
-ghost use Rattle.row6_distinct.specs.Spellings as spellings;
+ghost use Rattle.row6_spellings.specs.Spellings.{Ranged, textAt, spelled-before};
+ghost use Rattle.row6_spellings.specs.Spellings as spellings;
 ghost use Rattle.number_columns.specs.Word.{keyOf};
 ghost use Rattle.row6_distinct.specs.Keys.{Last, Befores};
 
@@ -24,11 +24,11 @@ fn spelled_before(s: &[u8], i: usize, last: usize, before: &[u16; 256]) -> bool
     requires { ⌜ Befores (now s) i (now before) ⌝ }
     ensures { λ r. ⌜ r ≡ spelled-before 6 (now (s .entry)) i ⌝ }
 {
-    let own = crate::spellings::text(s, i);
+    let own = row6_spellings::text(s, i);
     let mut c = last;
     while c > 0 {
         let j = c - 1;
-        if crate::spellings::same(crate::spellings::text(s, j), own) {
+        if row6_spellings::same(row6_spellings::text(s, j), own) {
             return true;
         }
         c = wide(before[j]);
@@ -47,7 +47,7 @@ pub fn respelled(s: &[u8], names: usize) -> usize
     let mut before = [0u16; 256];
     let mut i = 0;
     while i < names {
-        let k = number_columns::words::key(crate::spellings::text(s, i));
+        let k = number_columns::words::key(row6_spellings::text(s, i));
         let last = lasts[k];
         if spelled_before(s, i, wide(last), &before) {
             return i;

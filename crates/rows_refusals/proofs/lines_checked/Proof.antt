@@ -14,7 +14,7 @@ use Rattle.row4_limits.specs.declared.Counts.{Counts}
 use Rattle.row4_limits.specs.Limits.{counts-of}
 use Rattle.rows_header.specs.Header.{Counted, header}
 use Rattle.rows_header.specs.OrderLaws.{header-le}
-use Rattle.row6_distinct.specs.Spellings.{Ranged}
+use Rattle.row6_spellings.specs.Spellings.{Ranged}
 use Rattle.rows_refusals.specs.Rows.{refused-as}
 use Rattle.rows_refusals.specs.CellLaws.{count-cells, order-cells, limits-cells, ranges-cells, verdicts-cells, counts-cells}
 use Rattle.rows_refusals.specs.RowsLaws.{none-at, at3, at4, at5, at6, at7, rows-checked}

@@ -10,8 +10,8 @@ use Rattle.sheet.specs.Sheet.{first, count, lines}
 use Rattle.meaning.specs.Program.{name-line}
 use Rattle.meaning.specs.Rows.{count-of}
 use Rattle.sheet.specs.FirstLaws.{first-more, first-found}
-use Rattle.row6_distinct.specs.Spellings.{respelled, textAt}
-use Rattle.row6_distinct.specs.SpellingsLaws.{name-counted, respelled-at, respelled-none}
+use Rattle.row6_spellings.specs.Spellings.{respelled, textAt}
+use Rattle.row6_spellings.specs.SpellingsLaws.{name-counted, respelled-at, respelled-none}
 use Rattle.row6_distinct.specs.Keys.{Last, Lasts, Befores, lasts-none, befores-none, lasts-more, befores-more, textAt-length, names-few}
 use Rattle.row6_distinct.proofs.respellings.respelled.Statement.{statement}
 use Rattle.row6_distinct.proofs.respellings.respelled.Tie as tie

@@ -6,7 +6,7 @@ use lib.ListN.{getD}
 use borrow.Author.Needs.{needs}
 use Rattle.number_columns.specs.Word.{keyOf}
 use Rattle.meaning.specs.Rows.{equal}
-use Rattle.row6_distinct.specs.Spellings.{textAt}
+use Rattle.row6_spellings.specs.Spellings.{textAt}
 use Rattle.row6_distinct.specs.Keys.{Last, Clear, clear-last, clear-next, clear-none, clear-found}
 use Rattle.row6_distinct.proofs.respellings.spelled_before.Statement.{statement}
 use Rattle.row6_distinct.proofs.respellings.spelled_before.Tie as tie

@@ -5,7 +5,7 @@ ghost use mathlib.Core.Path.{_≡_};
 ghost use Prim.Native.Nat.{_<_};
 ghost use Rattle.sheet.specs.Sheet as sheet;
 ghost use Rattle.meaning.specs.Rows as rows;
-ghost use Rattle.row6_distinct.specs.Spellings.{textAt};
+ghost use Rattle.row6_spellings.specs.Spellings.{textAt};
 
 // The bytes of a name's text with the spaces after it.
 const TEXT_BYTES: usize = 24;

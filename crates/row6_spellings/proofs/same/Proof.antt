@@ -1,4 +1,4 @@
--- `row6_distinct::spellings::same` meets its contract: what was passed is equal. Assumes nothing.
+-- `row6_spellings::same` meets its contract: what was passed is equal. Assumes nothing.
 use mathlib.Core.Path.{_≡_, refl, sym, _∙_}
 use Prim.Native.Nat.{_-_, _≤_}
 use native.Mathlib.Omega.{arith}
@@ -6,9 +6,9 @@ use native.Mathlib.Numerals.{add-one}
 use lib.ListN.{length, drop}
 use borrow.Author.Needs.{needs}
 use Rattle.meaning.specs.Rows.{equal}
-use Rattle.row6_distinct.specs.SpellingsLaws.{equal-length, equal-next, equal-differ, equal-end}
-use Rattle.row6_distinct.proofs.spellings.same.Statement.{statement}
-use Rattle.row6_distinct.proofs.spellings.same.Tie as tie
+use Rattle.row6_spellings.specs.SpellingsLaws.{equal-length, equal-next, equal-differ, equal-end}
+use Rattle.row6_spellings.proofs.same.Statement.{statement}
+use Rattle.row6_spellings.proofs.same.Tie as tie
 
 abbrev Inv-loop : tie.InvT-loop
 Inv-loop a b i₀ i = (i ≤ length a) × (length a ≡ length b) × (equal a b ≡ equal (drop i a) (drop i b))

@@ -1,10 +1,10 @@
--- `row6_distinct::spellings::text` meets its contract: the part lent is where line i has its text. Assumes nothing.
+-- `row6_spellings::text` meets its contract: the part lent is where line i has its text. Assumes nothing.
 use mathlib.Core.Path.{sym}
 use native.Mathlib.Nat.{add-sub-cancel-left, mul-comm}
 use borrow.Author.Needs.{needs}
-use Rattle.row6_distinct.specs.SpellingsLaws.{textAt-part}
-use Rattle.row6_distinct.proofs.spellings.text.Statement.{statement}
-use Rattle.row6_distinct.proofs.spellings.text.Tie as tie
+use Rattle.row6_spellings.specs.SpellingsLaws.{textAt-part}
+use Rattle.row6_spellings.proofs.text.Statement.{statement}
+use Rattle.row6_spellings.proofs.text.Tie as tie
 
 returns : tie.Need-returns
 returns c =

@@ -21,8 +21,8 @@ use Rattle.meaning.specs.Rows.{some-below, line-at, count-of, count-before, equ
 use Rattle.sheet.specs.FirstLaws.{none-first, first-none}
 use Rattle.row3_order.specs.StepLaws.{count-before-step, count-before-le, count-before-mono}
 use Rattle.rows_header.specs.OrderLaws.{Ordered, ordered-lines, name-before}
-use Rattle.row6_distinct.specs.Spellings.{Ranged, respelled, textAt, spelled-before}
-use Rattle.row6_distinct.specs.SomeLaws.{some-congr, some-none}
+use Rattle.row6_spellings.specs.Spellings.{Ranged, respelled, textAt, spelled-before}
+use Rattle.row6_spellings.specs.SomeLaws.{some-congr, some-none}
 
 contrary : {A : Type 0} (b : Bool) → b ≡ true → b ≡ false → A
 contrary b t f = let z : _≡_ {A = ℕ} 0 1 = cc in absurd (omega arith)
