@@ -1,6 +1,4 @@
-// Row 4's counts and limits, by the letter of a line; and how many lines of each kind a sheet has.
-pub mod counting;
-
+// Row 4's counts and limits, by the letter of a line.
 ghost use mathlib.Core.Path.{_≡_};
 ghost use Rattle.sheet.specs.Format.{base};
 ghost use Rattle.row4_limits.specs.Limits as limits;

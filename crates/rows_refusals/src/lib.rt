@@ -51,7 +51,7 @@ fn lines_checked(s: &[u8], t: &[u32]) -> Checked
     if misplaced <= n {
         return refused(3, misplaced);
     }
-    let walked = row4_limits::counting::walk(t, front);
+    let walked = row4_counting::walk(t, front);
     let past = walked.past;
     if past < n {
         return refused(4, past);

@@ -16,10 +16,10 @@ use Rattle.sheet.specs.FirstLaws.{first-more}
 use Rattle.meaning.specs.Rows.{line-at, row4}
 use Rattle.rows_runs.specs.declared.Runs.{Runs}
 use Rattle.rows_runs.specs.RunsLaws.{upward, Spans}
 use Rattle.row4_limits.specs.declared.Tally.{Tally}
 use Rattle.row4_limits.specs.Limits.{tally-before, counted, past, counts-of}
 use Rattle.row4_limits.specs.LimitsLaws.{tally-zero, tally-suc, row4-past, counts-whole}
-use Rattle.row4_limits.specs.Walk.{no-runs, kept, headed, declared}
+use Rattle.row4_counting.specs.Walk.{no-runs, kept, headed, declared}
 
 -- row 4 applies to no line before line i, and the lines before it are counted by t
 pub record Counted (f : Format) (ls : List Line) (i : ℕ) (t : Tally) : Type 0 where

@@ -1,4 +1,4 @@
--- `row4_limits::counting::quickly` meets its contract: what is counted before a line is right. Assumes nothing.
+-- `row4_counting::quickly` meets its contract: what is counted before a line is right. Assumes nothing.
 use mathlib.Core.Path.{_≡_}
 use Prim.Native.Nat.{_-_, _≤_}
 use native.Mathlib.Omega.{arith}
@@ -8,10 +8,10 @@ use borrow.Author.Needs.{needs}
 use Rattle.sheet.specs.ListLaws.{false-true}
 use Rattle.walk_cells.specs.Cells.{lines-of}
 use Rattle.walk_cells.specs.CellsLaws.{length-lines-of}
-use Rattle.row4_limits.specs.Quickly.{Right}
-use Rattle.row4_limits.specs.QuicklyLaws.{stepped-right, begun-right, not-begun}
-use Rattle.row4_limits.proofs.counting.quickly.Statement.{statement}
-use Rattle.row4_limits.proofs.counting.quickly.Tie as tie
+use Rattle.row4_counting.specs.Quickly.{Right}
+use Rattle.row4_counting.specs.QuicklyLaws.{stepped-right, begun-right, not-begun}
+use Rattle.row4_counting.proofs.quickly.Statement.{statement}
+use Rattle.row4_counting.proofs.quickly.Tie as tie
 
 abbrev Inv-loop : tie.InvT-loop
 Inv-loop t n q₀ i₀ q i = (i ≤ n) × Right (lines-of t) i q

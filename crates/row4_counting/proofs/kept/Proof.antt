@@ -1,10 +1,10 @@
--- `row4_limits::counting::kept` meets its contract, limit by limit. Assumes nothing.
+-- `row4_counting::kept` meets its contract, limit by limit. Assumes nothing.
 use borrow.Author.Needs.{needs}
 use borrow.Author.Tests.{lt-ltb, le-ltb}
 use Rattle.sheet.specs.Format.{base}
-use Rattle.row4_limits.specs.Walk.{kept}
-use Rattle.row4_limits.proofs.counting.kept.Statement.{statement}
-use Rattle.row4_limits.proofs.counting.kept.Tie as tie
+use Rattle.row4_counting.specs.Walk.{kept}
+use Rattle.row4_counting.proofs.kept.Statement.{statement}
+use Rattle.row4_counting.proofs.kept.Tie as tie
 
 returns : tie.Need-returns
 unfolding kept

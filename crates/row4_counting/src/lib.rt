@@ -1,12 +1,12 @@
 // Row 4, and what the lines of a sheet declare. The counts of the runs at its front are known, so that only the lines after
 // them are looked at one by one. A first walk only counts, and hardly jumps; where some line may be past a limit a second one finds it.
-use crate::ARGS;
-use crate::CTORS;
-use crate::Counts;
-use crate::FIELDS;
-use crate::NAMES;
-use crate::TYPES;
-use crate::Tally;
+use row4_limits::ARGS;
+use row4_limits::CTORS;
+use row4_limits::Counts;
+use row4_limits::FIELDS;
+use row4_limits::NAMES;
+use row4_limits::TYPES;
+use row4_limits::Tally;
 use rows_runs::Runs;
 use walk_cells::CELLS;
 ghost use mathlib.Core.Path.{_≡_};
@@ -19,10 +19,10 @@ ghost use Rattle.sheet.specs.Format.{base};
 ghost use Rattle.sheet.specs.Sheet as sheet;
 ghost use Rattle.rows_runs.specs.RunsLaws.{Spans};
 ghost use Rattle.meaning.specs.Rows as rows;
 ghost use Rattle.row4_limits.specs.Limits as limits;
-ghost use Rattle.row4_limits.specs.Walk as walk;
-ghost use Rattle.row4_limits.specs.WalkLaws.{Begins};
-ghost use Rattle.row4_limits.specs.Quickly as quickly;
+ghost use Rattle.row4_counting.specs.Walk as walk;
+ghost use Rattle.row4_counting.specs.WalkLaws.{Begins};
+ghost use Rattle.row4_counting.specs.Quickly as quickly;
 
 // Sums of letters of no more cells than this fit.
 const LONG: usize = 4294967296;
@@ -115,8 +115,8 @@ fn exact(q: Quick, letter: u32) -> Quick
     ensures { λ r. ⌜ r ≡ quickly.exact q letter ⌝ }
 {
     let before = q.tally;
-    let known = both(q.known, !crate::past(before, letter));
-    let tally = crate::counted(before, letter);
+    let known = both(q.known, !row4_limits::past(before, letter));
+    let tally = row4_limits::counted(before, letter);
     Quick {
         known,
         letters: q.letters,
@@ -226,11 +226,11 @@ fn searched(t: &[u32], front: Runs) -> Walked
     let mut i = front.types;
     while i < n {
         let letter = walk_cells::letter(t, i);
-        if crate::past(tally, letter) {
+        if row4_limits::past(tally, letter) {
             let counts = declared(tally);
             return Walked { past: i, counts };
         }
-        tally = crate::counted(tally, letter);
+        tally = row4_limits::counted(tally, letter);
         i += 1;
     }
     let counts = declared(tally);

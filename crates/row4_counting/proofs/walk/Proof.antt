@@ -1,14 +1,14 @@
--- `row4_limits::counting::walk` meets its contract: the walk that only counts says so where it knows all, and else the other does. Assumes nothing.
+-- `row4_counting::walk` meets its contract: the walk that only counts says so where it knows all, and else the other does. Assumes nothing.
 use mathlib.Core.Path.{_≡_, refl, sym, _∙_}
 use native.Mathlib.Omega.{arith}
 use lib.ListN.{length}
 use Rattle.sheet.specs.Format.{base}
 use Rattle.walk_cells.specs.Cells.{lines-of}
 use Rattle.walk_cells.specs.CellsLaws.{length-lines-of}
-use Rattle.row4_limits.specs.WalkLaws.{Begins, begins, declared-all}
+use Rattle.row4_counting.specs.WalkLaws.{Begins, begins, declared-all}
 use borrow.Author.Needs.{needs}
-use Rattle.row4_limits.proofs.counting.walk.Statement.{statement}
-use Rattle.row4_limits.proofs.counting.walk.Tie as tie
+use Rattle.row4_counting.proofs.walk.Statement.{statement}
+use Rattle.row4_counting.proofs.walk.Tie as tie
 
 -- where both begin
 started : (c : tie.After-kept) → Begins base (lines-of (c .before .before .args .t .now)) (c .kept .result)

@@ -15,14 +15,14 @@ use Rattle.sheet.specs.Line.{Line, letter}
 use Rattle.sheet.specs.ListLaws.{both, false-true}
 use Rattle.sheet.specs.FirstLaws.{first-more}
 use Rattle.meaning.specs.Rows.{line-at, row4}
 use Rattle.row4_limits.specs.declared.Tally.{Tally}
 use Rattle.row4_limits.specs.Limits.{counted, past}
 use Rattle.row4_limits.specs.LimitsLaws.{tally-suc, row4-past}
 use Rattle.rows_runs.specs.declared.Runs.{Runs}
-use Rattle.row4_limits.specs.declared.counting.Quick.{Quick}
-use Rattle.row4_limits.specs.Walk.{headed}
-use Rattle.row4_limits.specs.WalkLaws.{Counted, Begins}
-use Rattle.row4_limits.specs.Quickly.{exact, member, unknown, stepped, Whole, Right}
+use Rattle.row4_counting.specs.declared.Quick.{Quick}
+use Rattle.row4_counting.specs.Walk.{headed}
+use Rattle.row4_counting.specs.WalkLaws.{Counted, Begins}
+use Rattle.row4_counting.specs.Quickly.{exact, member, unknown, stepped, Whole, Right}
 
 module _ (ls : List Line) (i : ℕ) (h : i < length ls) where
   -- a line of this letter that is not past its limit

@@ -1,12 +1,12 @@
--- `row4_limits::counting::member` meets its contract. Assumes nothing.
+-- `row4_counting::member` meets its contract. Assumes nothing.
 use native.Mathlib.Omega.{arith}
 use mathlib.Core.Bool.{Bool, true, false}
 use Prim.Native.Nat.{_≤_}
 use lib.Dec.{ltb}
 use Rattle.number_columns.specs.Column.{pick}
 use borrow.Author.Needs.{needs}
-use Rattle.row4_limits.proofs.counting.member.Statement.{statement}
-use Rattle.row4_limits.proofs.counting.member.Tie as tie
+use Rattle.row4_counting.proofs.member.Statement.{statement}
+use Rattle.row4_counting.proofs.member.Tie as tie
 
 bit : (b : Bool) → pick b 1 0 ≤ 1
 bit true = omega arith

@@ -7,10 +7,10 @@ use lib.Dec.{eqb, ltb}
 use Rattle.number_columns.specs.Column.{pick, _⇒_∥_}
 use Rattle.sheet.specs.Format.{base}
 use Rattle.sheet.specs.Line.{Line}
 use Rattle.row4_limits.specs.declared.Tally.{Tally}
 use Rattle.row4_limits.specs.Limits.{counted, past}
-use Rattle.row4_limits.specs.declared.counting.Quick.{Quick}
-use Rattle.row4_limits.specs.WalkLaws.{Counted}
+use Rattle.row4_counting.specs.declared.Quick.{Quick}
+use Rattle.row4_counting.specs.WalkLaws.{Counted}
 
 -- ---- one line more
 -- a line that is counted by its letter, and tested

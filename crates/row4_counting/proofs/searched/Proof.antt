@@ -1,4 +1,4 @@
--- `row4_limits::counting::searched` meets its contract: the counts are those of the lines passed, and none of these is past a limit. Assumes nothing.
+-- `row4_counting::searched` meets its contract: the counts are those of the lines passed, and none of these is past a limit. Assumes nothing.
 use mathlib.Core.Path.{_≡_, sym, _∙_}
 use Prim.Native.Nat.{_-_, _≤_}
 use native.Mathlib.Omega.{arith}
@@ -10,10 +10,10 @@ use Rattle.sheet.specs.FirstLaws.{first-more, first-found}
 use Rattle.walk_cells.specs.Cells.{lines-of}
 use Rattle.walk_cells.specs.CellsLaws.{length-lines-of}
 use Rattle.meaning.specs.Rows.{row4}
 use Rattle.row4_limits.specs.LimitsLaws.{tally-next, row4-next, small-next}
-use Rattle.row4_limits.specs.WalkLaws.{Counted, declared-all}
-use Rattle.row4_limits.proofs.counting.searched.Statement.{statement}
-use Rattle.row4_limits.proofs.counting.searched.Tie as tie
+use Rattle.row4_counting.specs.WalkLaws.{Counted, declared-all}
+use Rattle.row4_counting.proofs.searched.Statement.{statement}
+use Rattle.row4_counting.proofs.searched.Tie as tie
 
 abbrev Inv-loop : tie.InvT-loop
 Inv-loop t n tally₀ i₀ tally i = (i ≤ n) × Counted base (lines-of t) i tally

@@ -1,7 +1,7 @@
--- `row4_limits::counting::exact` meets its contract. Assumes nothing.
+-- `row4_counting::exact` meets its contract. Assumes nothing.
 use borrow.Author.Needs.{needs}
-use Rattle.row4_limits.proofs.counting.exact.Statement.{statement}
-use Rattle.row4_limits.proofs.counting.exact.Tie as tie
+use Rattle.row4_counting.proofs.exact.Statement.{statement}
+use Rattle.row4_counting.proofs.exact.Tie as tie
 
 returns : tie.Need-returns
 returns c = rw (c .before .both .ensures, c .before .before .past .ensures, c .counted .ensures)

@@ -1,11 +1,11 @@
--- `row4_limits::counting::whole` meets its contract, test by test. Assumes nothing.
+-- `row4_counting::whole` meets its contract, test by test. Assumes nothing.
 use Prim.Native.Nat.{_≤_}
 use native.Mathlib.Omega.{arith}
 use borrow.Author.Tests.{leb-true, not-false}
 use Rattle.sheet.specs.ListLaws.{false-true}
-use Rattle.row4_limits.specs.Quickly.{sum}
-use Rattle.row4_limits.proofs.counting.whole.Statement.{statement}
-use Rattle.row4_limits.proofs.counting.whole.Tie as tie
+use Rattle.row4_counting.specs.Quickly.{sum}
+use Rattle.row4_counting.proofs.whole.Statement.{statement}
+use Rattle.row4_counting.proofs.whole.Tie as tie
 
 returns : tie.Need-returns
 returns c = λ z. false-true z

@@ -1,9 +1,9 @@
--- `row4_limits::counting::stepped` meets its contract, letter by letter. Assumes nothing.
+-- `row4_counting::stepped` meets its contract, letter by letter. Assumes nothing.
 use borrow.Author.Tests.{lt-ltb, le-ltb, ne-eqb}
-use Rattle.row4_limits.specs.Quickly.{stepped}
+use Rattle.row4_counting.specs.Quickly.{stepped}
 use borrow.Author.Needs.{needs}
-use Rattle.row4_limits.proofs.counting.stepped.Statement.{statement}
-use Rattle.row4_limits.proofs.counting.stepped.Tie as tie
+use Rattle.row4_counting.proofs.stepped.Statement.{statement}
+use Rattle.row4_counting.proofs.stepped.Tie as tie
 
 returns : tie.Need-returns
 unfolding stepped

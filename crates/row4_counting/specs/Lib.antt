@@ -1,0 +1,4 @@
+pub mod Quickly
+pub mod QuicklyLaws
+pub mod Walk
+pub mod WalkLaws
