@@ -1,5 +1,4 @@
 // `dtype_erased` of a declaration: by its lines alone, by the type that it abbreviates, or by its fields.
-mod kept_fields;
 mod ways;
 
 use erasure_laws::Ruled;
@@ -69,6 +68,6 @@ pub fn dtype_erased(
             right,
         },
         2 => abbrev_erased(t, decl, node, member, field, wait, d, right),
-        _ => kept_fields::fields_erased(t, decl, node, member, field, wait, d, right),
+        _ => erasure_fields::fields_erased(t, decl, node, member, field, wait, d, right),
     }
 }

@@ -1,4 +1,4 @@
--- `erasure_rulings::kept_fields::first_kept` meets its contract: the fields passed are erased. Assumes nothing.
+-- `erasure_fields::first_kept` meets its contract: the fields passed are erased. Assumes nothing.
 use mathlib.Core.Path.{_≡_, refl, sym, _∙_}
 use mathlib.Core.Bool.{true}
 use Prim.Native.Nat.{ℕ, _-_, _≤_, _<_}
@@ -6,11 +6,11 @@ use native.Mathlib.Omega.{arith}
 use lib.ListN.{length}
 use borrow.Author.Needs.{needs}
 use Rattle.erasure_marks.specs.Marks.{marks-of, type-erased, Marks}
-use Rattle.erasure_laws.specs.Bodies.{field-type}
-use Rattle.erasure_laws.specs.BodiesLaws.{passed-next, mark-kept, mark-erased}
-use Rattle.erasure_rulings.proofs.kept_fields.first_kept.Statement.{statement}
+use Rattle.erasure_bodies.specs.Bodies.{field-type}
+use Rattle.erasure_bodies.specs.BodiesLaws.{passed-next, mark-kept, mark-erased}
+use Rattle.erasure_fields.proofs.first_kept.Statement.{statement}
 use Rattle.table_access.specs.Tables.{lines-in}
-use Rattle.erasure_rulings.proofs.kept_fields.first_kept.Tie as tie
+use Rattle.erasure_fields.proofs.first_kept.Tie as tie
 
 abbrev Inv-loop : tie.InvT-loop
 Inv-loop t decl node₀ member₀ from end right f₀ low₀ node member f low =

@@ -1,4 +1,4 @@
--- `erasure_rulings::kept_fields::fields_erased` meets its contract, by its search. Assumes nothing.
+-- `erasure_fields::fields_erased` meets its contract, by its search. Assumes nothing.
 use mathlib.Core.Path.{_≡_, _∙_}
 use Prim.Native.Nat.{suc}
 use native.Mathlib.Omega.{arith}
@@ -7,9 +7,9 @@ use borrow.Author.Needs.{needs}
 use Rattle.meaning.specs.Program.{field-line}
 use Rattle.table_declared.specs.PassedLaws.{types-few, fields-few}
 use Rattle.table_access.specs.Tables.{first-of, lines-in}
-use Rattle.erasure_laws.specs.BodiesLaws.{first-rises, below-of, field-types, first-le, fields-kept, fields-gone}
-use Rattle.erasure_rulings.proofs.kept_fields.fields_erased.Statement.{statement}
-use Rattle.erasure_rulings.proofs.kept_fields.fields_erased.Tie as tie
+use Rattle.erasure_bodies.specs.BodiesLaws.{first-rises, below-of, field-types, first-le, fields-kept, fields-gone}
+use Rattle.erasure_fields.proofs.fields_erased.Statement.{statement}
+use Rattle.erasure_fields.proofs.fields_erased.Tie as tie
 
 cast-higher : tie.Need-cast-higher
 cast-higher c = let a = c .before .before .before .before .before .before .before .before .before in omega (arith, c .slice-known5 .given (a .args .d))
