@@ -7,7 +7,7 @@ use borrow.Author.Needs.{needs}
 use Rattle.meaning.specs.Program.{field-line}
 use Rattle.table_declared.specs.PassedLaws.{types-few, fields-few}
 use Rattle.table_access.specs.Tables.{first-of, lines-in}
-use Rattle.erasure_bodies.specs.BodiesLaws.{first-rises, below-of, field-types, first-le, fields-kept, fields-gone}
+use Rattle.erasure_laws.specs.BodiesLaws.{first-rises, below-of, field-types, first-le, fields-kept, fields-gone}
 use Rattle.erasure_fields.proofs.fields_erased.Statement.{statement}
 use Rattle.erasure_fields.proofs.fields_erased.Tie as tie
 

@@ -6,8 +6,8 @@ use native.Mathlib.Omega.{arith}
 use lib.ListN.{length}
 use borrow.Author.Needs.{needs}
 use Rattle.erasure_marks.specs.Marks.{marks-of, type-erased, Marks}
-use Rattle.erasure_bodies.specs.Bodies.{field-type}
-use Rattle.erasure_bodies.specs.BodiesLaws.{passed-next, mark-kept, mark-erased}
+use Rattle.erasure_laws.specs.Bodies.{field-type}
+use Rattle.erasure_laws.specs.BodiesLaws.{passed-next, mark-kept, mark-erased}
 use Rattle.erasure_fields.proofs.first_kept.Statement.{statement}
 use Rattle.table_access.specs.Tables.{lines-in}
 use Rattle.erasure_fields.proofs.first_kept.Tie as tie
