@@ -1,0 +1,2 @@
+pub mod Pat
+pub mod Cases

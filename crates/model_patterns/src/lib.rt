@@ -1,0 +1,1 @@
+// How patterns follow the layouts of their types.
