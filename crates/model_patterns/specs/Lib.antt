@@ -1,2 +1,3 @@
 pub mod Pat
 pub mod Cases
+pub mod Laws
