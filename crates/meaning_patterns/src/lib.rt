@@ -1,0 +1,1 @@
+// The lines of a pattern: everything is in specs/.
