@@ -1,0 +1,4 @@
+pub mod Sites
+pub mod SitesLaws
+pub mod Owners
+pub mod OwnersLaws
