@@ -1,0 +1,5 @@
+pub mod Emit
+pub mod EmitLaws
+pub mod LinkedLaws
+pub mod PutLaws
+pub mod StepLaws
