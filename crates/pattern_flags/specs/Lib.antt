@@ -1,0 +1,4 @@
+pub mod Flags
+pub mod FlagsLaws
+pub mod LayoutsLaws
+pub mod MarkedLaws
