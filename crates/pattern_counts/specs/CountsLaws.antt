@@ -17,7 +17,7 @@ use Rattle.meaning.specs.Rows.{line-at}
 use Rattle.meaning_patterns.specs.Patterns.{kind-of, name-of, last-of, previous-of, list-to, pieces, declared-fields, miscounts, row13, good-pattern}
 use Rattle.pattern_rows.specs.LinksLaws.{good-lower, name-within}
 use Rattle.pattern_counts.specs.Counts.{field-mark, Fielded, PartCounts, miscounted}
-use Rattle.pattern_counts.specs.PartsLaws.{parts-step}
+use Rattle.pattern_laws.specs.Pieces.{parts-count}
 
 -- before the first line
 pub parts-none : (qs : List Line) → PartCounts qs 0 (replicate 257 0)
@@ -45,7 +45,7 @@ module _ (names : ℕ) (qs : List Line) (q : ℕ) (w : q < length qs) (r : q < 2
 
       at : (k : ℕ) → k ≤ q + 1 → (b : Bool) → eqb k (q + 1) ≡ b → getD (set ends (q + 1) (getD ends previous 0 + 1)) k 0 ≡ parts (list-to (pieces qs) k)
       at k h true f =
-          rw (eqb-true k (q + 1) f, getD-set-same ends (q + 1) (getD ends previous 0 + 1) 0 (omega (arith, p .size)), p .held previous low, add-one q, parts-step qs q w (good-lower names qs q g .last-lower) (good-lower names qs q g .previous-lower), ← e)
+          rw (eqb-true k (q + 1) f, getD-set-same ends (q + 1) (getD ends previous 0 + 1) 0 (omega (arith, p .size)), p .held previous low, add-one q, parts-count qs q w (good-lower names qs q g .last-lower) (good-lower names qs q g .previous-lower), ← e)
           (add-one (parts (list-to (pieces qs) previous)))
       at k h false f =
           let n = eqb-false k (q + 1) f in

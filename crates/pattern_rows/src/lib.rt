@@ -1,36 +1,14 @@
-// Row 5 of a sheet's Q lines: the numbers of each line of its pattern are in range (FORMAT, section 12). And where the Q lines end.
+// Row 5 of a sheet's Q lines: the numbers of each line of its pattern are in range (FORMAT, section 12).
 mod pattern_lines;
 
 use pattern_lines::LINKS;
 use walk_cells::CELLS;
 ghost use mathlib.Core.Path.{_≡_};
-ghost use mathlib.Core.Bool.{not};
 ghost use Prim.Native.Nat.{_≤_};
 ghost use lib.ListN.{length};
 ghost use Rattle.walk_cells.specs.Cells.{lines-of};
 ghost use Rattle.sheet.specs.Sheet.{first};
-ghost use Rattle.meaning.specs.Program.{is};
-ghost use Rattle.meaning.specs.Rows.{line-at};
-ghost use Rattle.meaning_patterns.specs.Patterns.{pattern-line};
 ghost use Rattle.pattern_rows.specs.Links as links;
-
-// A Q line's letter.
-const PATTERN: u32 = 81;
-
-// The first line that is no Q line, or the count of lines.
-pub fn first_other(t: &[u32]) -> usize
-    ensures { λ r. ⌜ r ≡ first (λ i. not (is pattern-line (line-at (lines-of (now (t .entry))) i))) (length (lines-of (now (t .entry)))) ⌝ }
-{
-    let n = t.len() / CELLS;
-    let mut i = 0;
-    while i < n {
-        if walk_cells::letter(t, i) != PATTERN {
-            return i;
-        }
-        i += 1;
-    }
-    n
-}
 
 // Row 5 of at most 256 Q lines, where there are so many names. The lines that a line passed names are kept, by their links.
 pub fn row5(q: &[u32], names: usize) -> usize
