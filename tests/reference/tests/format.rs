@@ -1,18 +1,18 @@
-//! The example of docs/FORMAT.md, section 11, read from the page itself.
+//! The examples of docs/FORMAT.md, read from the page itself.
 
 use reference::line::LINE;
 
-/// The blocks of lines of the page's last section, each line filled up to 32 bytes.
-fn blocks() -> Vec<Vec<u8>> {
+/// The blocks of lines of a section of the page, each line filled up to 32 bytes.
+fn blocks(section: usize) -> Vec<Vec<u8>> {
     let page = std::fs::read_to_string(concat!(env!("CARGO_MANIFEST_DIR"), "/../../docs/FORMAT.md")).unwrap();
-    let example = page.split("## 11.").nth(1).expect("section 11");
+    let example = page.split("\n## ").find(|s| s.starts_with(&format!("{section}."))).expect("the section");
     let block = |text: &str| text.lines().skip(1).flat_map(|l| format!("{l:31}\n").into_bytes()).collect();
     example.split("```").skip(1).step_by(2).map(block).collect()
 }
 
 #[test]
 fn the_example_of_the_page() {
-    let [sheet, verdict, left] = &blocks()[..] else { panic!("three blocks") };
+    let [sheet, verdict, left] = &blocks(11)[..] else { panic!("three blocks") };
     let names: Vec<u8> = sheet.chunks(LINE).filter(|l| l[0] == b'N').flatten().copied().collect();
     let header = sheet.chunks(LINE).take_while(|l| l[0] != b'D').count() * LINE;
     let expected = [&b"R     0     0     2     0     0\n"[..], &sheet[..header], verdict, &names, left].concat();
@@ -23,5 +23,5 @@ fn the_example_of_the_page() {
 #[test]
 fn the_example_is_a_file_too() {
     let file = std::fs::read(concat!(env!("CARGO_MANIFEST_DIR"), "/../race.sheet")).unwrap();
-    assert!(blocks()[0] == file, "tests/race.sheet is not the sheet of the page");
+    assert!(blocks(11)[0] == file, "tests/race.sheet is not the sheet of the page");
 }
