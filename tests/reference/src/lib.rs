@@ -10,6 +10,7 @@ pub mod line;
 pub mod outcome;
 pub mod output;
 pub mod pass;
+pub mod pattern;
 pub mod program;
 pub mod resolve;
 pub mod rows;
@@ -65,6 +66,9 @@ pub fn sheets(sheet: &[u8], verdict_length: usize, left_length: usize, way: Way)
         return Err(refusal);
     }
     let resolved = pass.rows9and10(way)?;
+    if let Some(place) = pattern::row13(&lines, &pass) {
+        return refuse(13)(place);
+    }
     let Pass { program, erasure, kept, layouts, .. } = &pass;
     let left_of =
         |i: usize| left::rw_decl(&resolved.types, &program.decls[i], layouts[i], &kept[i], &resolved.decls[i]);
@@ -74,7 +78,8 @@ pub fn sheets(sheet: &[u8], verdict_length: usize, left_length: usize, way: Way)
         return refuse(11)(sheet.len());
     }
     let left: Vec<Decl> = left.into_iter().flatten().collect();
-    let left = output::left_sheet(&lines, &resolved.types, &left);
+    let rewritten = pattern::pattern(&lines).map(|p| pattern::rw_pat(&pass, &p));
+    let left = output::left_sheet(&lines, &resolved.types, &left, rewritten.as_ref());
     if left_length < left.len() {
         return refuse(12)(left.len());
     }

@@ -68,7 +68,7 @@ pub fn read_line(bytes: &[u8]) -> Option<Line> {
             let text = read_text(&bytes[1 + COLUMNS..][..TEXT])?;
             Some(Line { letter: b'N', numbers: [number, 0, 0, 0, 0], text: text.to_vec() })
         }
-        letter @ (b'A' | b'C' | b'D' | b'F' | b'I' | b'P' | b'V' | b'Y') => {
+        letter @ (b'A' | b'C' | b'D' | b'F' | b'I' | b'P' | b'Q' | b'V' | b'Y') => {
             let mut numbers = [0; 5];
             for (k, number) in numbers.iter_mut().enumerate() {
                 *number = read_number(columns(bytes, k))?;

@@ -1,8 +1,9 @@
 //! The two sheets: FORMAT, section 8.
 
-use crate::cty::{Cty, Ty, Types};
+use crate::cty::{Cty, Name, Ty, Types};
 use crate::layout::{Kept, Layout};
 use crate::line::{write_line, Line};
+use crate::pattern::{written, Pat};
 use crate::program::{Body, Decl, Field};
 
 fn bytes(lines: &[Line]) -> Vec<u8> {
@@ -33,14 +34,14 @@ pub fn verdict_sheet(lines: &[Line], decls: &[Decl], layouts: &[Layout], kept: &
     bytes(&lines)
 }
 
-/// The left sheet.
-pub fn left_sheet(lines: &[Line], types: &Types, left: &[Decl]) -> Vec<u8> {
+/// The left sheet, with the new pattern and the freed names if there is a pattern.
+pub fn left_sheet(lines: &[Line], types: &Types, left: &[Decl], pattern: Option<&(Pat, Vec<Name>)>) -> Vec<u8> {
     let mut sheet = LeftSheet { types, args: vec![], ys: vec![], decls: vec![] };
     for d in left {
         sheet.decl(d);
     }
     let names: Vec<Line> = lines.iter().filter(|l| l.letter == b'N').cloned().collect();
-    bytes(&[names, sheet.args, sheet.ys, sheet.decls].concat())
+    bytes(&[names, sheet.args, sheet.ys, sheet.decls, pattern.map_or(vec![], written)].concat())
 }
 
 /// A left sheet's lines so far.

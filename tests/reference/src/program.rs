@@ -88,7 +88,7 @@ impl Program {
         let at = lines.iter().position(Line::is_head).unwrap_or(lines.len());
         let mut reader = Reader { types, ys, lines, at };
         let mut decls = Vec::new();
-        while reader.at < lines.len() {
+        while lines.get(reader.at).is_some_and(Line::is_head) {
             decls.push(reader.decl());
         }
         let places = decls.iter().enumerate().map(|(i, d)| (d.name, i)).collect();

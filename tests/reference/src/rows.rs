@@ -2,6 +2,7 @@
 //! line, and may rely on the rows before it.
 
 use crate::line::{read_line, Line, LINE};
+use crate::pattern::q_lines;
 use std::collections::HashSet;
 
 /// The limits of FORMAT, section 2.
@@ -13,6 +14,7 @@ const DECLS: usize = 96;
 const PARAMS: usize = 8;
 const CTORS: usize = 256;
 const FIELDS: usize = 512;
+const PATTERN: usize = 256;
 
 /// Row 1: too long, or not whole lines.
 pub fn row1(sheet: &[u8]) -> bool {
@@ -26,7 +28,7 @@ pub fn row2(sheet: &[u8]) -> Result<Vec<Line>, usize> {
 
 /// What row 3 waits for.
 enum Due {
-    /// N, A, Y lines or a declaration; what came last: 0 N, 1 A, 2 Y, 3 a declaration.
+    /// N, A, Y lines, a declaration or Q lines; what came last: 0 N, 1 A, 2 Y, 3 a declaration, 4 Q.
     Header(u8),
     /// Within a declaration: so many P lines, then F lines, then constructors, then V.
     Within { params: u32, fields: u32, ctors: u32 },
@@ -49,7 +51,8 @@ fn due_after(due: &Due, line: &Line) -> Option<Due> {
         (Due::Header(0), b'N') => Some(Due::Header(0)),
         (Due::Header(0..=1), b'A') => Some(Due::Header(1)),
         (Due::Header(0..=2), b'Y') => Some(Due::Header(2)),
-        (Due::Header(_), b'D' | b'I') => {
+        (Due::Header(_), b'Q') => Some(Due::Header(4)),
+        (Due::Header(0..=3), b'D' | b'I') => {
             let [_, _, kind, params, last] = line.numbers;
             match kind {
                 0 | 1 => Some(Due::Within { params, fields: 0, ctors: 0 }),
@@ -72,7 +75,8 @@ fn due_after(due: &Due, line: &Line) -> Option<Due> {
 
 /// Row 4: the first line past a limit.
 pub fn row4(lines: &[Line]) -> Option<usize> {
-    let (mut names, mut args, mut types, mut decls, mut params, mut ctors, mut fields) = (0, 0, 0, 0, 0, 0, 0);
+    let (mut names, mut args, mut types, mut decls) = (0, 0, 0, 0);
+    let (mut params, mut ctors, mut fields, mut pattern) = (0, 0, 0, 0);
     lines.iter().position(|line| {
         let (count, limit) = match line.letter {
             b'N' => (&mut names, NAMES),
@@ -85,6 +89,7 @@ pub fn row4(lines: &[Line]) -> Option<usize> {
             b'P' => (&mut params, PARAMS),
             b'C' => (&mut ctors, CTORS),
             b'F' => (&mut fields, FIELDS),
+            b'Q' => (&mut pattern, PATTERN),
             _ => return false,
         };
         *count += 1;
@@ -98,6 +103,9 @@ pub fn row5(lines: &[Line]) -> Option<usize> {
     let names = lines.iter().filter(|l| l.letter == b'N').count() as u32;
     let types = lines.iter().filter(|l| l.letter == b'Y').count() as u32;
     let (mut name, mut ty) = (0, 0);
+    let qs = q_lines(lines);
+    let mut linked = HashSet::new();
+    let mut q = 0;
     lines.iter().position(|line| {
         let n = &line.numbers;
         let unused = |from: usize| n[from..].iter().all(|&x| x == 0);
@@ -122,6 +130,10 @@ pub fn row5(lines: &[Line]) -> Option<usize> {
             b'P' => n[0] < names && unused(1),
             b'C' => n[0] < names && unused(2),
             b'F' => n[0] < names && n[1] < types && unused(3),
+            b'Q' => {
+                q += 1;
+                good_node(&qs, q - 1, names) && linked_once(&mut linked, n)
+            }
             _ => unused(3),
         };
         !good
@@ -155,6 +167,32 @@ fn good_list(first: u32, count: u32, y: u32, args: &[u32]) -> bool {
         Some(members) => members.iter().all(|&member| member < y),
         None => false,
     }
+}
+
+/// The numbers of Q line `q`, but for whether a line that it names was named before.
+fn good_node(qs: &[[u32; 5]], q: usize, names: u32) -> bool {
+    let [kind, number, last, previous, field] = qs[q];
+    let number_fits = match kind {
+        2 => true,
+        1 | 3 | 4 => number < names,
+        _ => number == 0,
+    };
+    // links first: the lines that they name are then there
+    let lower = last as usize <= q && previous as usize <= q && (kind > 2 || last == 0);
+    let has_field = |link: u32| qs[link as usize - 1][4] != 0;
+    let whole = q + 1 == qs.len();
+    kind <= 6
+        && number_fits
+        && lower
+        && field <= names
+        && (previous == 0 || has_field(previous) == (field != 0))
+        && (last == 0 || has_field(last) == (kind == 4))
+        && (!whole || (previous == 0 && field == 0))
+}
+
+/// Whether the lines that a Q line names were not named before; they are from now on.
+fn linked_once(linked: &mut HashSet<u32>, n: &[u32; 5]) -> bool {
+    n[2..4].iter().all(|&link| link == 0 || linked.insert(link))
 }
 
 /// Row 6: the first line that repeats an earlier one.

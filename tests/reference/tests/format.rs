@@ -25,3 +25,18 @@ fn the_example_is_a_file_too() {
     let file = std::fs::read(concat!(env!("CARGO_MANIFEST_DIR"), "/../race.sheet")).unwrap();
     assert!(blocks(11)[0] == file, "tests/race.sheet is not the sheet of the page");
 }
+
+#[test]
+fn the_pattern_of_the_page() {
+    let [sheet, tail] = &blocks(12)[..] else { panic!("two blocks") };
+    let printed = reference::program(sheet);
+    assert!(printed.starts_with(b"R     0     0     2     0     0\n"));
+    let left = &printed[LINE + sheet.len()..];
+    assert!(left.ends_with(&[&b"V     0     0     0     0     0\n"[..], tail].concat()), "the left sheet's end");
+    let q_lines = |sheet: &[u8]| sheet.chunks(LINE).filter(|l| l[0] == b'Q').flatten().copied().collect::<Vec<u8>>();
+    assert!(q_lines(&printed[LINE..][..sheet.len()]) == q_lines(sheet), "the verdict sheet's Q lines");
+    let cross = String::from_utf8(sheet.clone()).unwrap().replace("Q     3     8 ", "Q     3    10 ");
+    assert_eq!(reference::program(cross.as_bytes()), b"R    13    42     0     0     0\n");
+    let file = std::fs::read(concat!(env!("CARGO_MANIFEST_DIR"), "/../pattern.sheet")).unwrap();
+    assert!(*sheet == file, "tests/pattern.sheet is not the sheet of the page");
+}
