@@ -1,5 +1,5 @@
-//! Units: FORMAT, section 10. A sheet is cut where it may be, its units are built in turn, and the
-//! last unit's sheets are compared with those of the whole, and every unit with the reference.
+//! Units: FORMAT, section 10. A sheet is cut where it may be, its units are built in turn, the last with the
+//! pattern, and its sheets are compared with those of the whole, and every unit with the reference.
 
 use crate::random::Random;
 use crate::{expected, After, Build, Call};
@@ -22,7 +22,7 @@ fn names_in(program: &Program, body: &Body) -> BTreeSet<Name> {
 }
 
 /// The lines at which a sheet that passes rows 1, 2, 3 and 5 may be cut, from the first declaration to
-/// the end. (Of others the rule speaks as well, but says little: they are refused, and so is a unit.)
+/// the pattern or the end. (Of others the rule speaks as well, but says little: they are refused, and so is a unit.)
 pub fn cuts(sheet: &[u8]) -> Option<Vec<usize>> {
     if rows::row1(sheet) {
         return None;
@@ -34,7 +34,8 @@ pub fn cuts(sheet: &[u8]) -> Option<Vec<usize>> {
     let program = Program::read(&lines);
     // a name that is declared twice is there from its first declaration on
     let place: HashMap<Name, usize> = program.decls.iter().enumerate().rev().map(|(i, d)| (d.name, i)).collect();
-    let start = |i: usize| program.decls.get(i).map_or(lines.len(), |d| d.line);
+    let end = lines.iter().position(|l| l.letter == b'Q').unwrap_or(lines.len());
+    let start = |i: usize| program.decls.get(i).map_or(end, |d| d.line);
     // the last declaration that one of the first i names
     let mut furthest = 0;
     let mut cuts = vec![start(0)];
@@ -92,8 +93,9 @@ fn two(build: &dyn Build, sheet: &[u8], lengths: Lengths) -> Result<Two, Differe
 fn in_turn(build: &dyn Build, sheet: &[u8], chosen: &[usize], lengths: Lengths) -> Result<Two, Difference> {
     let mut before = sheet[..chosen[0] * LINE].to_vec();
     let mut last = None;
-    for unit in chosen.windows(2) {
-        let sheet = [&before[..], &sheet[unit[0] * LINE..unit[1] * LINE]].concat();
+    for (i, unit) in chosen.windows(2).enumerate() {
+        let tail = if i + 2 == chosen.len() { &sheet[unit[1] * LINE..] } else { &[] };
+        let sheet = [&before[..], &sheet[unit[0] * LINE..unit[1] * LINE], tail].concat();
         let Some((verdict, left)) = two(build, &sheet, lengths)? else { return Ok(None) };
         before = verdict.clone();
         last = Some((verdict, left));

@@ -3,7 +3,7 @@
 use crate::random::Random;
 use reference::line::LINE;
 
-const LETTERS: &[u8] = b"NAYDIPCFVR n\0";
+const LETTERS: &[u8] = b"NAYDIPCFVQUR n\0";
 
 /// One damage, somewhere.
 pub fn damage(random: &mut Random, sheet: &mut Vec<u8>) {
@@ -14,8 +14,9 @@ pub fn damage(random: &mut Random, sheet: &mut Vec<u8>) {
     }
     let mut at = random.below(lines) * LINE;
     if random.percent(30) {
-        // fields and verdicts more often
-        let these: Vec<usize> = (0..lines).map(|i| i * LINE).filter(|&i| matches!(sheet[i], b'F' | b'V')).collect();
+        // fields, verdicts and patterns more often
+        let these: Vec<usize> =
+            (0..lines).map(|i| i * LINE).filter(|&i| matches!(sheet[i], b'F' | b'V' | b'Q')).collect();
         if !these.is_empty() {
             at = *random.pick(&these);
         }
@@ -57,6 +58,7 @@ pub fn damage(random: &mut Random, sheet: &mut Vec<u8>) {
             }
         }
         8 => change_number(random, sheet, at),
+        9 if sheet[at] == b'Q' => change_link(random, sheet, at),
         _ => {
             // the first number of another line of the letter: a name that stands twice
             if let Some(same) = other_of_letter(random, sheet, at) {
@@ -82,7 +84,12 @@ fn other_of_letter(random: &mut Random, sheet: &[u8], at: usize) -> Option<usize
 /// Another number in one of a line's columns.
 fn change_number(random: &mut Random, sheet: &mut [u8], at: usize) {
     // an N line has one number
-    let columns = at + 1 + 6 * random.weighted(if sheet[at] == b'N' { &[1] } else { &[3, 3, 3, 1, 1] });
+    let weights: &[usize] = match sheet[at] {
+        b'N' => &[1],
+        b'Q' => &[1, 1, 1, 1, 1],
+        _ => &[3, 3, 3, 1, 1],
+    };
+    let columns = at + 1 + 6 * random.weighted(weights);
     let old: usize =
         std::str::from_utf8(&sheet[columns..columns + 6]).ok().and_then(|s| s.trim().parse().ok()).unwrap_or(0);
     let new = match random.below(6) {
@@ -96,17 +103,31 @@ fn change_number(random: &mut Random, sheet: &mut [u8], at: usize) {
     sheet[columns..columns + 6].copy_from_slice(format!("{new:6}").as_bytes()[..6].as_ref());
 }
 
+/// Another line in a Q line's last or previous: one that it could name, or one that another line names.
+fn change_link(random: &mut Random, sheet: &mut [u8], at: usize) {
+    let before = sheet[..at].chunks_exact(LINE).filter(|line| line[0] == b'Q').count();
+    let link = |random: &mut Random| 13 + 6 * random.below(2);
+    let to = at + link(random);
+    match other_of_letter(random, sheet, at) {
+        Some(other) if random.percent(40) => {
+            let from = other + link(random);
+            sheet.copy_within(from..from + 6, to);
+        }
+        _ => sheet[to..to + 6].copy_from_slice(format!("{:6}", random.below(before + 2)).as_bytes()),
+    }
+}
+
 /// Bytes of any kind, mostly no sheet at all.
 pub fn noise(random: &mut Random) -> Vec<u8> {
     let length = if random.percent(50) { random.below(200) } else { LINE * random.below(9) };
     let mut bytes: Vec<u8> = (0..length).map(|_| random.number() as u8).collect();
     match random.below(3) {
         0 => {}
-        1 => bytes.iter_mut().for_each(|b| *b = b" 0123456789NAYDIPCFV\n"[*b as usize % 21]),
+        1 => bytes.iter_mut().for_each(|b| *b = b" 0123456789NAYDIPCFVQ\n"[*b as usize % 22]),
         _ => {
             for line in bytes.chunks_exact_mut(LINE) {
                 line.fill(b' ');
-                line[0] = *random.pick(b"NAYDIPCFV");
+                line[0] = *random.pick(b"NAYDIPCFVQ");
                 (6..31).step_by(6).for_each(|k| line[k] = b'0' + random.below(10) as u8);
                 line[31] = b'\n';
             }
@@ -115,15 +136,17 @@ pub fn noise(random: &mut Random) -> Vec<u8> {
     bytes
 }
 
-/// A sheet of a length near the limit: N lines, then others, then what is over.
+/// A sheet of a length near the limit: N lines, then others, then what is over; with Q lines it can be accepted.
 pub fn long(random: &mut Random) -> Vec<u8> {
     let lines = random.between(2_040, 2_050);
+    let pattern = random.percent(50);
     let mut sheet = Vec::new();
     for i in 0..lines {
         let line = match i {
             0..=255 => format!("N{i:6}n{i:<23}\n"),
             256..=767 => format!("A{:6}     0     0     0     0\n", i - 256),
             768..=1791 => "Y     0     0     0     0     0\n".to_string(),
+            1984.. if pattern => "Q     0     0     0     0     0\n".to_string(),
             _ if i % 2 == 0 => format!("D{:6}     0     0     0     0\n", (i - 1792) / 2),
             _ => "V     0     0     0     0     0\n".to_string(),
         };
@@ -140,7 +163,7 @@ pub fn limit(random: &mut Random) -> Vec<u8> {
     let names = |count: usize| (0..count).map(|i| format!("N{i:6}{:<24}\n", format!("n{i}"))).collect::<Vec<String>>();
     let over = random.below(2);
     let mut lines = Vec::new();
-    match random.below(7) {
+    match random.below(10) {
         0 => lines.extend(names(256 + over)),
         1 => {
             lines.extend((0..512 + over).map(|_| row('A', [0; 5])));
@@ -165,6 +188,39 @@ pub fn limit(random: &mut Random) -> Vec<u8> {
             lines.push(row('D', [0, 0, 3, 0, 256 + over]));
             lines.extend((0..256 + over).map(|i| row('C', [i, 0, 0, 0, 0])));
             lines.push(row('V', [0; 5]));
+        }
+        6 => {
+            // as deep, or as wide, as can be
+            lines.extend(names(2));
+            let (count, deep) = (256 + over, random.percent(50));
+            let kind = *random.pick(&[3, 5, 6]);
+            let name = usize::from(kind == 3);
+            lines.push(row('Q', [1, 0, 0, 0, 0]));
+            for q in 1..count - 1 {
+                lines.push(row('Q', if deep { [kind, name, q, 0, 0] } else { [1, 0, 0, q, 0] }));
+            }
+            lines.push(row('Q', [kind, name, count - 1, 0, 0]));
+        }
+        7 => {
+            // Q lines at the end or not quite, and within a declaration
+            lines.extend(names(3));
+            let declaration = [row('D', [0, 0, 3, 0, 1]), row('C', [1, 0, 0, 0, 0]), row('V', [0; 5])];
+            lines.extend(declaration);
+            let at = random.between(3, 6);
+            lines.insert(at, row('Q', [3, 1, 0, 0, 0]));
+            if random.percent(50) {
+                lines.push(row('Q', [random.below(8), 2, over, 0, 0]));
+            }
+        }
+        8 => {
+            // an erased type, whose pattern frees as many names as can be
+            lines.extend(names(255));
+            lines.push(row('Y', [0; 5]));
+            lines.extend([row('D', [0, 0, 3, 0, 1]), row('C', [1, 254 + over, 0, 0, 0])]);
+            lines.extend((0..254 + over).map(|i| row('F', [i, 0, 0, 0, 0])));
+            lines.push(row('V', [0; 5]));
+            lines.extend((0..254 + over).map(|q| row('Q', [1, q % 7, 0, q, 0])));
+            lines.push(row('Q', [3, 1, 254 + over, 0, 0]));
         }
         _ => {
             lines.extend(names(256));

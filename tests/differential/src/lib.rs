@@ -4,11 +4,13 @@ pub mod cut;
 pub mod damage;
 pub mod family;
 pub mod generate;
+pub mod patterns;
 pub mod planted;
 pub mod random;
 pub mod run;
 pub mod shrink;
 
+use reference::line::Line;
 use reference::pass::Way;
 pub use reference::Answer;
 use reference::{Refusal, Sheets};
@@ -152,6 +154,14 @@ pub fn near(random: &mut random::Random, length: usize) -> usize {
     }
 }
 
+/// The bytes of a generated sheet's lines, some of them with a pattern at the end.
+fn ending(random: &mut random::Random, mut lines: Vec<Line>) -> Vec<u8> {
+    if random.percent(27) {
+        lines.extend(patterns::pattern(random, &lines));
+    }
+    generate::bytes(&lines)
+}
+
 /// Sheet number `index` of a seed.
 pub fn sheet(seed: u64, index: u64) -> Vec<u8> {
     let mut random = random::Random::new(seed ^ index.wrapping_mul(0xd134_2543_de82_ef95));
@@ -159,11 +169,18 @@ pub fn sheet(seed: u64, index: u64) -> Vec<u8> {
         0..=1 => damage::long(&mut random),
         2..=5 => damage::limit(&mut random),
         6..=21 => damage::noise(&mut random),
-        22..=111 => generate::bytes(&family::family(&mut random)),
-        112..=121 => generate::bytes(&family::sizes(&mut random)),
+        22..=111 => {
+            let lines = family::family(&mut random);
+            ending(&mut random, lines)
+        }
+        112..=121 => {
+            let lines = family::sizes(&mut random);
+            ending(&mut random, lines)
+        }
         122..=371 => {
             let plan = generate::Plan::any(&mut random);
-            let mut sheet = generate::bytes(&generate::generate(&mut random, plan));
+            let lines = generate::generate(&mut random, plan);
+            let mut sheet = ending(&mut random, lines);
             for _ in 0..random.between(1, 2) {
                 damage::damage(&mut random, &mut sheet);
             }
@@ -171,7 +188,8 @@ pub fn sheet(seed: u64, index: u64) -> Vec<u8> {
         }
         _ => {
             let plan = generate::Plan::any(&mut random);
-            generate::bytes(&generate::generate(&mut random, plan))
+            let lines = generate::generate(&mut random, plan);
+            ending(&mut random, lines)
         }
     }
 }

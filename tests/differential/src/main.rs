@@ -85,6 +85,7 @@ fn main() {
     for (code, count) in counts.codes.iter().enumerate() {
         println!("code {code:2}  {:8} sheets", count.load(Ordering::Relaxed));
     }
+    println!("pattern  {:8} sheets", counts.patterns.load(Ordering::Relaxed));
     println!(
         "cut      {:8} sheets, into {} units",
         counts.cut.load(Ordering::Relaxed),

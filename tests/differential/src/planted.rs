@@ -6,11 +6,19 @@ use crate::{Answer, Build, Said};
 use reference::pass::Way;
 
 /// The faults, by name.
-pub const FAULTS: &[&str] =
-    &["record", "rounds", "keep", "place12", "code10", "spill", "import", "list", "code9", "refusal"];
+pub const FAULTS: &[&str] = &[
+    "record", "rounds", "keep", "place12", "code10", "spill", "import", "list", "code9", "refusal", "code13", "freed",
+    "twice", "field", "node",
+];
 
 pub struct Planted {
     pub fault: String,
+}
+
+/// The places of a letter's lines in what was written.
+fn written(out: &[u8], old: &[u8], letter: u8) -> Vec<usize> {
+    let end = out.iter().zip(old).rposition(|(a, b)| a != b).map_or(0, |i| i + 1);
+    (0..end / 32).map(|i| i * 32).filter(|&i| out[i] == letter).collect()
 }
 
 impl Build for Planted {
@@ -67,6 +75,38 @@ impl Build for Planted {
                 }
             }
             "code9" if answer.code == 9 => answer = Answer { code: 0, place: 0, rounds: 1 },
+            // row 13 looks at the whole alone
+            "code13" if answer.code == 13 => answer.place = (sheet.len() / 32 - 1) as u64,
+            // freed names the other way round
+            "freed" if accepted => {
+                let freed = written(left, &old_left, b'U');
+                let names: Vec<Vec<u8>> = freed.iter().map(|&u| left[u..u + 32].to_vec()).collect();
+                freed.iter().rev().zip(names).for_each(|(&u, name)| left[u..u + 32].copy_from_slice(&name));
+            }
+            // a name that was freed a second time is another
+            "twice" if accepted => {
+                let freed = written(left, &old_left, b'U');
+                for two in freed.windows(2) {
+                    if left[two[0]..][..32] == left[two[1]..][..32] {
+                        left[two[1] + 6] ^= 1;
+                    }
+                }
+            }
+            // a part that stands for its owner has no field
+            "field" if accepted => {
+                let nodes = written(left, &old_left, b'Q');
+                if nodes.len() < sheet.chunks_exact(32).filter(|l| l[0] == b'Q').count() {
+                    if let Some(&q) = nodes.iter().find(|&&q| &left[q + 25..][..6] != b"     0") {
+                        left[q + 25..][..6].copy_from_slice(b"     0");
+                    }
+                }
+            }
+            // the verdict sheet's Q lines are the new ones
+            "node" if accepted => {
+                for (q, new) in lines(verdict, b'Q').into_iter().zip(written(left, &old_left, b'Q')) {
+                    verdict[q..q + 32].copy_from_slice(&left[new..new + 32]);
+                }
+            }
             // outputs are touched before the sheet is refused
             "refusal" if answer.code == 12 && !verdict.is_empty() => {
                 verdict.copy_from_slice(&old_verdict);

@@ -2,8 +2,8 @@
 
 use reference::line::LINE;
 
-/// Drops declarations, then runs of lines, then single lines with the count that they belong to, and
-/// puts numbers to 0, as long as `fails` holds; over again until nothing can be dropped.
+/// Drops declarations, then runs of lines, then single lines with the count that they belong to or with the
+/// lines that name them, and puts numbers to 0, as long as `fails` holds; over again until nothing can be dropped.
 pub fn shrink(sheet: &[u8], fails: &dyn Fn(&[u8]) -> bool) -> Vec<u8> {
     let mut best = sheet.to_vec();
     loop {
@@ -11,6 +11,7 @@ pub fn shrink(sheet: &[u8], fails: &dyn Fn(&[u8]) -> bool) -> Vec<u8> {
         best = drop_declarations(best, fails);
         best = drop_runs(best, fails);
         best = drop_counted(best, fails);
+        best = drop_nodes(best, fails);
         best = drop_names_and_types(best, fails);
         best = zero_numbers(best, fails);
         if best == before {
@@ -40,6 +41,9 @@ fn without(sheet: &[u8], from: usize, to: usize) -> Vec<u8> {
 /// Each declaration, from its D or I line to the next.
 fn drop_declarations(mut best: Vec<u8>, fails: &dyn Fn(&[u8]) -> bool) -> Vec<u8> {
     let mut at = best.len() / LINE;
+    while at > 0 && letter(&best, at - 1) == b'Q' {
+        at -= 1;
+    }
     let mut end = at;
     while at > 0 {
         at -= 1;
@@ -103,6 +107,29 @@ fn drop_counted(mut best: Vec<u8>, fails: &dyn Fn(&[u8]) -> bool) -> Vec<u8> {
     best
 }
 
+/// One Q line, what named it naming the part before it; every number that told a later one lowered by one.
+fn drop_nodes(mut best: Vec<u8>, fails: &dyn Fn(&[u8]) -> bool) -> Vec<u8> {
+    let mut which = (0..best.len() / LINE).filter(|&i| letter(&best, i) == b'Q').count();
+    while which > 0 {
+        which -= 1;
+        let Some(line) = (0..best.len() / LINE).filter(|&i| letter(&best, i) == b'Q').nth(which) else { continue };
+        let Some(previous) = number(&best, line, 3) else { continue };
+        let mut candidate = without(&best, line, line + 1);
+        for i in line..candidate.len() / LINE {
+            for k in [2, 3] {
+                match number(&candidate, i, k) {
+                    _ if letter(&candidate, i) != b'Q' => {}
+                    Some(n) if n as usize == which + 1 => set_number(&mut candidate, i, k, previous),
+                    Some(n) if n as usize > which + 1 => set_number(&mut candidate, i, k, n - 1),
+                    _ => {}
+                }
+            }
+        }
+        try_one(&mut best, candidate, fails);
+    }
+    best
+}
+
 /// One N, A or Y line, and every number that told a later line of that letter lowered by one.
 fn drop_names_and_types(mut best: Vec<u8>, fails: &dyn Fn(&[u8]) -> bool) -> Vec<u8> {
     for what in [b'Y', b'A', b'N'] {
@@ -112,6 +139,13 @@ fn drop_names_and_types(mut best: Vec<u8>, fails: &dyn Fn(&[u8]) -> bool) -> Vec
             let Some(line) = (0..best.len() / LINE).filter(|&i| letter(&best, i) == what).nth(which) else { continue };
             let mut candidate = without(&best, line, line + 1);
             for i in 0..candidate.len() / LINE {
+                // a field is told by its name's number plus one
+                if what == b'N' && letter(&candidate, i) == b'Q' {
+                    match number(&candidate, i, 4) {
+                        Some(n) if n as usize > which + 1 => set_number(&mut candidate, i, 4, n - 1),
+                        _ => {}
+                    }
+                }
                 for k in told(&candidate, i, what) {
                     match number(&candidate, i, k) {
                         Some(n) if n as usize > which => set_number(&mut candidate, i, k, n - 1),
@@ -132,6 +166,7 @@ fn told(sheet: &[u8], line: usize, what: u8) -> Vec<usize> {
     match (what, letter(sheet, line)) {
         (b'N', b'N' | b'P' | b'C' | b'F' | b'D' | b'I') => vec![0],
         (b'N', b'Y') if matches!(kind, Some(3 | 8)) => vec![1],
+        (b'N', b'Q') if matches!(kind, Some(1 | 3 | 4)) => vec![1],
         (b'A', b'Y') if kind == Some(8) => vec![2],
         (b'A', b'Y') if kind == Some(9) => vec![1],
         (b'Y', b'A') => vec![0],
