@@ -10,7 +10,7 @@
 static uint8_t sheet[LAYOUT_SHEET_BYTES + 1];
 static uint8_t verdict[LAYOUT_SHEET_BYTES];
 
-static const char *const MEANING[13] = {
+static const char *const MEANING[14] = {
     "accepted",
     "too long, or not whole lines",
     "not a line",
@@ -24,6 +24,7 @@ static const char *const MEANING[13] = {
     "a type of more than 1,024 nodes",
     "the verdict output is too short",
     "the left output is too short",
+    "a pattern with a wrong count of parts",
 };
 
 static int put(const char *path, const uint8_t *bytes, size_t length)
@@ -74,7 +75,8 @@ int main(int argc, char **argv)
 
     if (answer[0] != LAYOUT_ACCEPTED) {
         printf("refused: code %" PRIu64 ", place %" PRIu64 ": %s\n", answer[0], answer[1], MEANING[answer[0]]);
-        if (answer[0] >= LAYOUT_FORM && answer[0] <= LAYOUT_SIZE && (answer[1] + 1) * LAYOUT_LINE_BYTES <= length)
+        int line = (answer[0] >= LAYOUT_FORM && answer[0] <= LAYOUT_SIZE) || answer[0] == LAYOUT_PARTS;
+        if (line && (answer[1] + 1) * LAYOUT_LINE_BYTES <= length)
             printf("%.31s\n", (const char *)sheet + answer[1] * LAYOUT_LINE_BYTES);
         free(left);
         return 1;

@@ -23,7 +23,8 @@ extern "C" {
 #define LAYOUT_SHEET_BYTES 65536
 #define LAYOUT_LINE_BYTES 32
 
-/* Codes [4, 5, 7]. "Line" is the place, counted from 0 over all lines of the sheet. */
+/* Codes [4, 5, 7]. "Line" is the place, counted from 0 over all lines of the sheet. They are tested in
+ * this order, but 13 after 9 and 10 and before 11. */
 enum layout_code {
     LAYOUT_ACCEPTED = 0,        /* place 0; both sheets are written */
     LAYOUT_LENGTH = 1,          /* over 65,536 bytes, or not whole lines; place 0 */
@@ -37,14 +38,16 @@ enum layout_code {
     LAYOUT_ARGUMENTS = 9,       /* D or I line: a wrong count of type arguments */
     LAYOUT_SIZE = 10,           /* D or I line: a type of more than 1,024 nodes */
     LAYOUT_VERDICT_SHORT = 11,  /* the verdict output is too short; place: the length needed */
-    LAYOUT_LEFT_SHORT = 12      /* the left output is too short; place: the length needed */
+    LAYOUT_LEFT_SHORT = 12,     /* the left output is too short; place: the length needed */
+    LAYOUT_PARTS = 13           /* Q line: a constructor's pattern has not a part for each field */
 };
 
 /* Builds a sheet [9]. `answer` gets three numbers: code, place, rounds (0 on a refusal).
  *
  * On code 0, `verdict` begins with the verdict sheet, which is as long as the sheet, and `left` with
  * the left sheet; every byte after those is as it was. On any other code both outputs are as they
- * were, every byte. */
+ * were, every byte. Of a sheet that ends in a pattern the left sheet ends in the new pattern's Q lines
+ * and in a U line for each name that it freed [12]. */
 void layout_build(const uint8_t *sheet, size_t sheet_len,
                   uint8_t *verdict, size_t verdict_len,
                   uint8_t *left, size_t left_len,

@@ -75,7 +75,7 @@ pub struct Place {
     pub bytes: Option<[u8; LINE_BYTES]>,
 }
 
-/// Why a sheet is refused, one case for each code from 1 to 12.
+/// Why a sheet is refused, one case for each code from 1 to 13.
 #[derive(Clone, Copy, Debug, PartialEq, Eq)]
 pub enum Refusal {
     /// 1: too long, or not whole lines.
@@ -102,10 +102,12 @@ pub enum Refusal {
     VerdictShort { needed: u64 },
     /// 12: the left output is too short.
     LeftShort { needed: u64 },
+    /// 13: a pattern of a constructor that has not a part for each of its fields.
+    Parts(Place),
 }
 
 impl Refusal {
-    /// The case of a code from 1 to 12.
+    /// The case of a code from 1 to 13.
     fn new(code: u64, place: u64, sheet: &[u8]) -> Refusal {
         let line = || {
             let bytes = sheet.chunks_exact(LINE_BYTES).nth(place as usize).map(|l| l.try_into().unwrap());
@@ -124,7 +126,8 @@ impl Refusal {
             10 => Refusal::Size(line()),
             11 => Refusal::VerdictShort { needed: place },
             12 => Refusal::LeftShort { needed: place },
-            _ => unreachable!("the build has codes 0 to 12"),
+            13 => Refusal::Parts(line()),
+            _ => unreachable!("the build has codes 0 to 13"),
         }
     }
 
@@ -143,6 +146,7 @@ impl Refusal {
             Refusal::Size(_) => 10,
             Refusal::VerdictShort { .. } => 11,
             Refusal::LeftShort { .. } => 12,
+            Refusal::Parts(_) => 13,
         }
     }
 
@@ -152,7 +156,9 @@ impl Refusal {
             Refusal::Form(p) | Refusal::Order(p) | Refusal::Limit(p) | Refusal::Range(p) | Refusal::Repeated(p) => {
                 Some(p)
             }
-            Refusal::Verdict(p) | Refusal::Loop(p) | Refusal::Arguments(p) | Refusal::Size(p) => Some(p),
+            Refusal::Verdict(p) | Refusal::Loop(p) | Refusal::Arguments(p) | Refusal::Size(p) | Refusal::Parts(p) => {
+                Some(p)
+            }
             Refusal::Length { .. } | Refusal::VerdictShort { .. } | Refusal::LeftShort { .. } => None,
         }
     }
@@ -180,6 +186,7 @@ impl fmt::Display for Refusal {
             Refusal::Loop(_) => "declares a name that leads back to itself when it is unfolded",
             Refusal::Arguments(_) => "declares a type in which a name has a wrong count of arguments",
             Refusal::Size(_) => "declares a type of more than 1,024 nodes",
+            Refusal::Parts(_) => "is a constructor's pattern without a part for each of its fields",
         };
         let place = self.place().expect("all others have a line");
         write!(f, "line {} {fault}", place.line)?;
@@ -193,7 +200,8 @@ impl fmt::Display for Refusal {
 impl std::error::Error for Refusal {}
 
 /// Builds a sheet. On acceptance `verdict` begins with the verdict sheet and `left` with the left
-/// sheet, and every byte after those is as it was. On a refusal both outputs are as they were.
+/// sheet, and every byte after those is as it was. On a refusal both outputs are as they were. The left
+/// sheet of a sheet with a pattern ends in the new pattern's Q lines and a U line for each freed name.
 /// Outputs may have any length: one that is too short is a refusal that says how many bytes it needs.
 pub fn build(sheet: &[u8], verdict: &mut [u8], left: &mut [u8]) -> Answer {
     match call_sized(sheet, verdict, left) {
@@ -246,10 +254,10 @@ mod tests {
     #[test]
     fn every_code_has_its_case() {
         let sheet = [b'V'; 2 * LINE_BYTES];
-        for code in 1..=12 {
+        for code in 1..=13 {
             let refusal = Refusal::new(code, 1, &sheet);
             assert_eq!(refusal.code(), code);
-            assert_eq!(refusal.place().is_some(), (2..=10).contains(&code));
+            assert_eq!(refusal.place().is_some(), matches!(code, 2..=10 | 13));
             assert!(!refusal.to_string().is_empty());
         }
     }
@@ -258,6 +266,23 @@ mod tests {
     fn a_sheet_that_ends_early() {
         let refusal = Refusal::new(3, 2, &[b'V'; 2 * LINE_BYTES]);
         assert_eq!(refusal.to_string(), "the sheet ends within a declaration, after 2 lines");
+    }
+
+    #[test]
+    fn a_pattern_and_what_it_frees() {
+        let sheet = include_bytes!("../../../tests/pattern.sheet");
+        let (mut verdict, mut left) = (vec![0; sheet.len()], vec![0; SHEET_BYTES]);
+        let built = build(sheet, &mut verdict, &mut left).unwrap();
+        let lines: Vec<&[u8]> = left[..built.left].chunks(LINE_BYTES).collect();
+        let count = |letter: u8| lines.iter().filter(|l| l[0] == letter).count();
+        assert_eq!((count(b'Q'), count(b'U')), (6, 2));
+        assert_eq!(lines[lines.len() - 3], b"Q     6     0     5     0     0\n");
+        assert_eq!(lines[lines.len() - 1], b"U    15     0     0     0     0\n");
+
+        let short = String::from_utf8(sheet.to_vec()).unwrap().replace("Q     3     8 ", "Q     3    10 ");
+        let refusal = build(short.as_bytes(), &mut verdict, &mut left).unwrap_err();
+        let words = "line 42 is a constructor's pattern without a part for each of its fields: ";
+        assert_eq!(refusal.to_string(), format!("{words}Q     3    10     4     0     0"));
     }
 
     #[test]
