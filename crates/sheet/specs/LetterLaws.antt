@@ -1,14 +1,12 @@
--- The letters of lines with five numbers are A, C, D, F, I, P, V and Y, and no other byte. Assumes nothing.
+-- The letters of lines with five numbers are A, C, D, F, I, P, Q, V and Y, and no other byte. Assumes nothing.
 use mathlib.Core.Path.{_≡_, refl}
-use mathlib.Core.Bool.{Bool, true, false}
+use mathlib.Core.Bool.{true, false}
 use mathlib.Core.Logic.{_⊎_, inl, inr}
-use Prim.Native.Nat.{ℕ, _≤_, _<_}
-use native.Mathlib.Omega.{arith}
-use lib.Dec.{eqb}
-use borrow.Author.Tests.{ne-eqb, eqb-true, eqb-false}
+use Prim.Native.Nat.{ℕ}
+use borrow.Author.Tests.{ne-eqb}
 use Rattle.sheet.specs.Line.{lettered}
 
--- as `match` tells them: single bytes, and C and D as a range
+-- as `match` tells them: some together, and C, D and Q by themselves
 abbrev pub Single : ℕ → Type 0
 Single x = (x ≡ 65) ⊎ ((x ≡ 70) ⊎ ((x ≡ 73) ⊎ ((x ≡ 80) ⊎ ((x ≡ 86) ⊎ (x ≡ 89)))))
 
@@ -24,17 +22,21 @@ lettered-single x (inr (inr (inr (inl e)))) = lettered-at x 80 e refl
 lettered-single x (inr (inr (inr (inr (inl e))))) = lettered-at x 86 e refl
 lettered-single x (inr (inr (inr (inr (inr e))))) = lettered-at x 89 e refl
 
-pub lettered-range : (x : ℕ) → 67 ≤ x → x < 69 → lettered x ≡ true
+pub lettered-c : (x : ℕ) → x ≡ 67 → lettered x ≡ true
 unfolding lettered
-lettered-range x h k = go (eqb x 67) refl
-  where
-    go : (b : Bool) → eqb x 67 ≡ b → lettered x ≡ true
-    go true e = lettered-at x 67 (eqb-true x 67 e) refl
-    go false e = let n : x ≡ 67 → ⊥ = eqb-false x 67 e in lettered-at x 68 (omega arith) refl
+lettered-c x e = lettered-at x 67 e refl
 
-pub lettered-none : (x : ℕ) → (Single x → ⊥) → (x ≡ 67 → ⊥) → (x ≡ 68 → ⊥) → lettered x ≡ false
+pub lettered-d : (x : ℕ) → x ≡ 68 → lettered x ≡ true
 unfolding lettered
-lettered-none x h c d =
+lettered-d x e = lettered-at x 68 e refl
+
+pub lettered-q : (x : ℕ) → x ≡ 81 → lettered x ≡ true
+unfolding lettered
+lettered-q x e = lettered-at x 81 e refl
+
+pub lettered-none : (x : ℕ) → (Single x → ⊥) → (x ≡ 67 → ⊥) → (x ≡ 68 → ⊥) → (x ≡ 81 → ⊥) → lettered x ≡ false
+unfolding lettered
+lettered-none x h c d q =
     simp (
       ne-eqb x 65 (λ e. h (inl e)),
       ne-eqb x 67 c,
@@ -42,6 +44,7 @@ lettered-none x h c d =
       ne-eqb x 70 (λ e. h (inr (inl e))),
       ne-eqb x 73 (λ e. h (inr (inr (inl e)))),
       ne-eqb x 80 (λ e. h (inr (inr (inr (inl e))))),
+      ne-eqb x 81 q,
       ne-eqb x 86 (λ e. h (inr (inr (inr (inr (inl e)))))),
       ne-eqb x 89 (λ e. h (inr (inr (inr (inr (inr e)))))),
     )

@@ -41,10 +41,10 @@ unfoldable pub padded : ℕ → List ℕ → List ℕ
 padded n t = t ++ replicate (n - length t) 32
 
 -- ---- numbers
--- the letters of lines with five numbers: A, C, D, F, I, P, V, Y
+-- the letters of lines with five numbers: A, C, D, F, I, P, Q, V, Y
 unfoldable pub lettered : ℕ → Bool
 lettered x = pick (eqb x 65) true (pick (eqb x 67) true (pick (eqb x 68) true (pick (eqb x 70) true
-    (pick (eqb x 73) true (pick (eqb x 80) true (pick (eqb x 86) true (eqb x 89)))))))
+    (pick (eqb x 73) true (pick (eqb x 80) true (pick (eqb x 81) true (pick (eqb x 86) true (eqb x 89))))))))
 
 -- the columns of number k
 unfoldable pub cell : ℕ → List ℕ → ℕ → Number

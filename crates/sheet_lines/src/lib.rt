@@ -6,6 +6,7 @@ use sheet_parts::LAST;
 use sheet_parts::LINE;
 use sheet_parts::NUMBERS;
 use sheet_parts::TEXT;
+use sheet_parts::has_numbers;
 ghost use mathlib.Core.Path.{_≡_};
 ghost use Prim.Native.Nat.{_≤_, _<_};
 ghost use lib.ListN.{length};
@@ -83,9 +84,11 @@ pub fn read_line(l: &[u8]) -> Shape
     if l[LAST] != 10 {
         return Shape::Bad;
     }
-    match l[0] {
-        b'N' => read_named(l),
-        b'A' | b'C' | b'D' | b'F' | b'I' | b'P' | b'V' | b'Y' => read_row(l),
-        _ => Shape::Bad,
+    if l[0] == b'N' {
+        return read_named(l);
     }
+    if has_numbers(l[0]) {
+        return read_row(l);
+    }
+    Shape::Bad
 }

@@ -1,6 +1,7 @@
 // Row 2 and the decoding of lines, in one walk: each line's letter and numbers go into six lent cells. For numbers of six to nine columns.
 use number_columns::Number;
 use sheet_parts::NUMBERS;
+use sheet_parts::has_numbers;
 use walk_cells::CELLS;
 ghost use mathlib.Core.Path.{_≡_};
 ghost use mathlib.Core.List.{[], _∷_};
@@ -108,18 +109,6 @@ fn put_named(l: &[u8], w: usize, c: &mut [u32]) -> bool
     }
     put_name(c);
     true
-}
-
-// Whether a line of this letter has five numbers. C and D stand apart: as a range they would be a test of their own.
-fn has_numbers(b: u8) -> bool
-    ensures { λ r. ⌜ r ≡ line.lettered b ⌝ }
-{
-    match b {
-        b'A' | b'F' | b'I' | b'P' | b'V' | b'Y' => true,
-        b'C' => true,
-        b'D' => true,
-        _ => false,
-    }
 }
 
 // The line of these bytes.

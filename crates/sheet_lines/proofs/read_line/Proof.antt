@@ -1,14 +1,8 @@
 -- `sheet_lines::read_line` meets its contract: the last byte and the letter lead to the case of `decode` that they pick.
 -- Assumes nothing.
 use mathlib.Core.Path.{_≡_, _∙_, ap, sym}
-use mathlib.Core.Bool.{true}
-use mathlib.Core.Logic.{⊎-elim}
-use native.Mathlib.Omega.{arith}
-use lib.ListN.{getD}
 use borrow.Author.Needs.{needs}
-use Rattle.sheet.specs.Line.{lettered}
 use Rattle.sheet_lines.specs.Shape.{shapeOf}
-use Rattle.sheet.specs.LetterLaws.{lettered-single, lettered-range, lettered-none}
 use Rattle.sheet.specs.LineLaws.{decode-short}
 use Rattle.sheet_lines.specs.ShapeLaws.{decode-last, decode-named, decode-row, decode-unknown}
 use Rattle.sheet_lines.proofs.read_line.Statement.{statement}
@@ -23,25 +17,19 @@ returns-2 c = rw (decode-last 6 (c .before .before .before .before .args .l .now
 returns-3 : tie.Need-returns-3
 returns-3 c =
     let l = c .before .before .before .before .before .before .before .args .l .now in
-    c .read-named .ensures ∙ sym (ap shapeOf (decode-named 6 l (c .before .before .before .if2 .left) (c .before .match .keys1)))
+    c .read-named .ensures ∙ sym (ap shapeOf (decode-named 6 l (c .before .before .before .if2 .left) (c .before .if3 .taken)))
 
 returns-4 : tie.Need-returns-4
 returns-4 c =
-    let l = c .before .before .before .before .before .before .before .args .l .now in
-    let n = lettered-none (getD l 0 0) (c .before .match .rest .1) (λ e. omega arith) (λ e. omega arith) in
-    rw (decode-unknown 6 l (c .before .before .before .if2 .left) (c .before .match .rest .0 .1) n)
+    let n = c .before .before in
+    let l = n .before .before .before .before .before .before .before .before .args .l .now in
+    c .read-row .ensures ∙ sym (ap shapeOf (decode-row 6 l (n .before .before .before .before .if2 .left) (sym (n .has-numbers .ensures) ∙ c .before .if4 .taken)))
 
 returns-5 : tie.Need-returns-5
 returns-5 c =
-    let l = c .before .before .before .before .before .before .before .before .args .l .now in
-    let n = lettered-none (getD l 0 0) (c .before .before .match .rest .1) (λ e. omega arith) (λ e. omega arith) in
-    rw (decode-unknown 6 l (c .before .before .before .before .if2 .left) (c .before .before .match .rest .0 .1) n)
-
-returns-6 : tie.Need-returns-6
-returns-6 c =
-    let l = c .before .before .before .before .before .before .before .args .l .now in
-    let n : lettered (getD l 0 0) ≡ true = ⊎-elim (λ w. lettered-single (getD l 0 0) (w .keys2)) (λ w. lettered-range (getD l 0 0) (w .1 .left) (w .2 .taken)) (c .before .match .came) in
-    c .read-row .ensures ∙ sym (ap shapeOf (decode-row 6 l (c .before .before .before .if2 .left) n))
+    let n = c .before in
+    let l = n .before .before .before .before .before .before .before .before .args .l .now in
+    rw (decode-unknown 6 l (n .before .before .before .before .if2 .left) (n .before .before .if3 .left) (sym (n .has-numbers .ensures) ∙ c .if4 .left))
 
 pub read-line-spec : {M : Type 1} → statement M
 read-line-spec =
@@ -52,8 +40,9 @@ read-line-spec =
     returns-2
     (λ c. search needs)
     (λ c κs. search needs)
-    (λ c κs. search needs)
     returns-3
+    (λ c. search needs)
+    (λ c κs. search needs)
+    (λ c κs. search needs)
     returns-4
-    returns-5
-    returns-6)
+    returns-5)
