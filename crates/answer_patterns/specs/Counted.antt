@@ -2,32 +2,25 @@
 -- nothing.
 use mathlib.Core.Path.{_≡_, refl, ap, _∙_, subst}
 use mathlib.Core.List.{List, [], _∷_, _++_}
-use mathlib.Core.Bool.{Bool, true, false, _&&_, _||_, not}
+use mathlib.Core.Bool.{Bool, true, false}
 use mathlib.Core.Option.{Option}
-use mathlib.Core.Logic.{⊎-elim}
 use Prim.Native.Nat.{ℕ, zero, suc, _+_, _-_, _≤_, _<_}
 use native.Mathlib.Omega.{arith}
-use lib.Dec.{eqb, leb}
+use lib.Dec.{eqb}
 use lib.ListN.{length, getD, length-append, List·getD-append}
-use borrow.Author.Tests.{eqb-true, leb-true}
 use Rattle.number_columns.specs.Column.{_⇒_∥_}
 use Rattle.sheet.specs.Line.{Line}
-use Rattle.sheet.specs.ListLaws.{both, one-of, Every, every-append}
+use Rattle.sheet.specs.ListLaws.{Every, every-append}
 use Rattle.model.specs.Decl.{Decl}
 use Rattle.model_patterns.specs.Pat.{Pat, Pats, PWild, PVar, PConst, PCtor, PRecord, PTuple, POr, no-parts, part, parts, Owner, Slots, Counted, Counteds}
 use Rattle.meaning.specs.Rows.{line-at}
+use Rattle.pattern_laws.specs.Linked.{AllGood, linked-is}
 use Rattle.meaning_patterns.specs.Patterns.{
   kind-of,
   name-of,
   last-of,
   previous-of,
   field-of,
-  good-link,
-  good-name,
-  good-last,
-  good-previous,
-  good-pattern,
-  linked-before,
   Piece,
   no-piece,
   list-to,
@@ -52,20 +45,6 @@ list-to-after (l ∷ ls) ps k h = list-to-after ls (ps ++ (piece ps l ∷ [])) k
     kept : (k : ℕ) → k ≤ length ps → list-to (ps ++ (piece ps l ∷ [])) k ≡ list-to ps k
     kept zero h = refl
     kept (suc k) h = ap (λ (p : Piece). p .list) (List·getD-append ps (piece ps l ∷ []) no-piece k (omega arith))
-
--- what row 5 says of a line's last part
-pub last-lower : (names : ℕ) (qs : List Line) (q : ℕ) → good-pattern names qs q ≡ true → last-of (line-at qs q) ≤ q
-unfolding good-pattern good-link
-last-lower names qs q e =
-    let l : Line = line-at qs q in
-    let a = both (leb (kind-of l) 6 && good-name names l && good-link qs q (last-of l) && good-link qs q (previous-of l) && (eqb (last-of l) 0 || not (eqb (last-of l) (previous-of l))) && leb (field-of l) names && good-previous qs l && good-last qs l) (not (eqb (suc q) (length qs)) || (eqb (previous-of l) 0 && eqb (field-of l) 0)) e .0 in
-    let b = both (leb (kind-of l) 6 && good-name names l && good-link qs q (last-of l) && good-link qs q (previous-of l) && (eqb (last-of l) 0 || not (eqb (last-of l) (previous-of l))) && leb (field-of l) names && good-previous qs l) (good-last qs l) a .0 in
-    let c = both (leb (kind-of l) 6 && good-name names l && good-link qs q (last-of l) && good-link qs q (previous-of l) && (eqb (last-of l) 0 || not (eqb (last-of l) (previous-of l))) && leb (field-of l) names) (good-previous qs l) b .0 in
-    let d = both (leb (kind-of l) 6 && good-name names l && good-link qs q (last-of l) && good-link qs q (previous-of l) && (eqb (last-of l) 0 || not (eqb (last-of l) (previous-of l)))) (leb (field-of l) names) c .0 in
-    let g = both (leb (kind-of l) 6 && good-name names l && good-link qs q (last-of l) && good-link qs q (previous-of l)) (eqb (last-of l) 0 || not (eqb (last-of l) (previous-of l))) d .0 in
-    let h = both (leb (kind-of l) 6 && good-name names l && good-link qs q (last-of l)) (good-link qs q (previous-of l)) g .0 in
-    let i = both (leb (kind-of l) 6 && good-name names l) (good-link qs q (last-of l)) h .1 in
-    ⊎-elim (λ z. omega (arith, eqb-true (last-of l) 0 z)) (λ z. leb-true (last-of l) q (both (leb (last-of l) q) (not (linked-before qs q (last-of l))) z .0)) (one-of (eqb (last-of l) 0) (leb (last-of l) q && not (linked-before qs q (last-of l))) i)
 
 module _ (owner : ℕ → Option Owner) where
   -- ---- a line's piece, from those of lower lines
@@ -126,11 +105,11 @@ module _ (owner : ℕ → Option Owner) where
 
   -- Where row 5 and row 13 pass, the pattern is counted.
   pub pattern-counted : (names : ℕ) (ds : List Decl) (qs : List Line) → ((n k : ℕ) → miscounts (declared-fields ds n) k ≡ false → Slots (owner n) k)
-      → ((q : ℕ) → q < length qs → good-pattern names qs q ≡ true) → ((q : ℕ) → q < length qs → row13 ds qs q ≡ false) → Counted owner (pattern qs)
+      → AllGood names qs → ((q : ℕ) → q < length qs → row13 ds qs q ≡ false) → Counted owner (pattern qs)
   unfolding pattern row13
   pattern-counted names ds qs slots good count =
       counted-at (pieces qs)
-      (counted-after qs [] tt (λ j h. omega (arith, last-lower names qs j (good j h))) (λ j h e. slots (name-of (line-at qs j)) (parts (list-to (pieces qs) (last-of (line-at qs j)))) (on j e (count j h))))
+      (counted-after qs [] tt (λ j h. omega (arith, linked-is names qs good .last j h)) (λ j h e. slots (name-of (line-at qs j)) (parts (list-to (pieces qs) (last-of (line-at qs j)))) (on j e (count j h))))
       (length qs - 1)
     where
       on : (j : ℕ) → eqb (kind-of (line-at qs j)) 3 ≡ true

@@ -1,23 +1,26 @@
--- The lines that follow the left declarations: how many there are, and that their bytes read as no line of another letter. Assumes
--- nothing.
+-- The lines that follow the left declarations: how many there are, and that their bytes read as no line of another letter.
+-- Assumes nothing.
 use mathlib.Core.Logic.{_⊎_, inl, inr, ⊎-elim}
 use mathlib.Core.Path.{_≡_, refl, ap, sym, _∙_, subst}
 use mathlib.Core.List.{List, [], _∷_, map, List·Memᴰ, List·Memᴰ·not-nil, List·Memᴰ·cases-cons}
 use mathlib.Core.Bool.{Bool, true, false}
-use Prim.Native.Nat.{ℕ, _+_, _*_}
+use Prim.Native.Nat.{ℕ, _+_, _*_, _≤_}
 use native.Mathlib.Omega.{arith}
 use native.Mathlib.Nat.{zero-div}
-use lib.ListN.{length, length-append, length-map}
+use lib.ListN.{length}
 use Rattle.sheet.specs.Format.{Format, lineBytes}
 use Rattle.sheet.specs.Line.{Line, named, row, bad, decode, encode, letter, isBad}
 use Rattle.sheet.specs.Sheet.{linesFrom, lines, encodes}
 use Rattle.sheet.specs.LineLaws.{letter-decode}
 use Rattle.sheet.specs.SheetLaws.{lines-cons}
 use Rattle.sheet.specs.ListLaws.{Every, every-append, every-over, every-map, false-true}
-use Rattle.model_patterns.specs.Pat.{Pat, Pats, PWild, PVar, PConst, PCtor, PRecord, PTuple, POr, no-parts, part, nodes, nodes-of-parts, Rewritten, rewritten}
+use Rattle.model.specs.Run.{run}
+use Rattle.model_patterns.specs.Pat.{Pat, Pats, PWild, PVar, PConst, PCtor, PRecord, PTuple, POr, no-parts, part, ctor-owner, type-layout, Rewritten, rewritten}
 use Rattle.meaning.specs.Program.{program, type-line}
 use Rattle.meaning_laws.specs.Output.{Sized, encode-sized, encodes-sized}
 use Rattle.meaning_patterns.specs.Patterns.{pattern-line, freed-line, pat-lines, part-lines, freed-lines, rewritten-lines, pattern}
+use Rattle.pattern_laws.specs.Linked.{AllGood}
+use Rattle.pattern_laws.specs.Few.{rewritten-few}
 use Rattle.answer_patterns.specs.Whole.{following}
 
 -- ---- the numbers of a pattern's lines
@@ -40,37 +43,12 @@ mutual
   parts-five no-parts at previous = tt
   parts-five (part f p ps) at previous = every-append Five (pat-lines p at previous f) _ (pat-five p at previous f) (parts-five ps (at + length (pat-lines p at previous f)) (at + length (pat-lines p at previous f)))
 
--- a line for each node
-mutual
-  unfolding pat-lines nodes
-
-  pub pat-lines-count : (p : Pat) (at previous f : ℕ) → length (pat-lines p at previous f) ≡ nodes p
-  pat-lines-count PWild at previous f = refl
-  pat-lines-count (PVar v) at previous f = refl
-  pat-lines-count (PConst c) at previous f = refl
-  pat-lines-count (PCtor n ps) at previous f = length-append (part-lines ps at 0 .lines) _ ∙ omega (arith, part-lines-count ps at 0)
-  pat-lines-count (PRecord n ps) at previous f = length-append (part-lines ps at 0 .lines) _ ∙ omega (arith, part-lines-count ps at 0)
-  pat-lines-count (PTuple ps) at previous f = length-append (part-lines ps at 0 .lines) _ ∙ omega (arith, part-lines-count ps at 0)
-  pat-lines-count (POr ps) at previous f = length-append (part-lines ps at 0 .lines) _ ∙ omega (arith, part-lines-count ps at 0)
-
-  pub part-lines-count : (ps : Pats) (at previous : ℕ) → length (part-lines ps at previous .lines) ≡ nodes-of-parts ps
-  part-lines-count no-parts at previous = refl
-  part-lines-count (part f p ps) at previous =
-      length-append (pat-lines p at previous f) _
-      ∙ omega (arith, pat-lines-count p at previous f, part-lines-count ps (at + length (pat-lines p at previous f)) (at + length (pat-lines p at previous f)))
-
 -- ---- the lines
 -- a line of letter Q or U, with five numbers
 abbrev Behind : Line → Type 0
 Behind (named n t) = ⊥
 Behind (row x ns) = ((x ≡ pattern-line) ⊎ (x ≡ freed-line)) × (length ns ≡ 5)
 Behind bad = ⊥
-
-pub rewritten-count : (r : Rewritten) → length (rewritten-lines r) ≡ nodes (r .pat) + length (r .freed)
-unfolding rewritten-lines
-rewritten-count r =
-    length-append (map (row pattern-line) (pat-lines (r .pat) 0 0 0)) (freed-lines (r .freed))
-    ∙ omega (arith, length-map (pat-lines (r .pat) 0 0 0) (row pattern-line), pat-lines-count (r .pat) 0 0 0, length-map (r .freed) (λ n. row freed-line (n ∷ 0 ∷ 0 ∷ 0 ∷ 0 ∷ [])))
 
 freed-behind : (ns : List ℕ) → Every Behind (freed-lines ns)
 freed-behind [] = tt
@@ -121,3 +99,11 @@ behind-letters w (l ∷ ls) h y m e =
 
 pub following-letters : (f : Format) (w : ℕ) (ls qs : List Line) (y : Line) → List·Memᴰ y (lines w (encodes w (following f ls qs))) → letter y ≡ type-line → ⊥
 following-letters f w ls qs = behind-letters w (following f ls qs) (following-behind f ls qs)
+
+-- ---- how many there are
+-- no more than Q lines, where these pass row 5
+pub following-few : (f : Format) (ls : List Line) (names : ℕ) (qs : List Line) → AllGood names qs → length (following f ls qs) ≤ length qs
+unfolding following rewritten
+following-few f ls names [] h = omega arith
+following-few f ls names (q ∷ qs) h =
+    rewritten-few (ctor-owner (run (f .fuel) (program ls) .infos)) (type-layout (program ls) (run (f .fuel) (program ls) .infos)) names (q ∷ qs) h (omega arith)

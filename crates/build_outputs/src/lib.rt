@@ -6,7 +6,7 @@ ghost use mathlib.Core.Path.{_≡_};
 ghost use Prim.Native.Nat.{_<_};
 ghost use Rattle.model.specs.Run.{run};
 ghost use Rattle.meaning.specs.Program.{program};
-ghost use Rattle.answer_built.specs.Built.{Gives, Tries};
+ghost use Rattle.answer_built.specs.Built.{GivesFront, Tries};
 ghost use Rattle.build_sheets.specs.Sheets.{Lent};
 ghost use Rattle.table_access.specs.Tables.{decls-of, lines-in};
 ghost use Rattle.build_outputs.specs.Outputs.{Short};
@@ -123,7 +123,7 @@ fn larger(
 ) -> Built
     requires { ⌜ Lent (now s) (now t) (now u) (now rank) (now keep) (now v) 98496 1024 1024 ⌝ }
     requires { ⌜ rounds ≡ run 100 (program (lines-in (now t))) .rounds ⌝ }
-    ensures { λ r. ⌜ Gives (now (s .entry)) (now (v .entry)) (now (l .entry)) r (now (v .exit)) (now (l .exit)) ⌝ }
+    ensures { λ r. ⌜ GivesFront (now (s .entry)) (now (v .entry)) (now (l .entry)) r (now (v .exit)) (now (l .exit)) ⌝ }
 {
     let second = middle(s, t, rounds, u, rank, keep, v, l);
     if second.room {
@@ -146,7 +146,7 @@ fn many(
 ) -> Built
     requires { ⌜ Lent (now s) (now t) (now u) (now rank) (now keep) (now v) 98496 1024 1024 ⌝ }
     requires { ⌜ rounds ≡ run 100 (program (lines-in (now t))) .rounds ⌝ }
-    ensures { λ r. ⌜ Gives (now (s .entry)) (now (v .entry)) (now (l .entry)) r (now (v .exit)) (now (l .exit)) ⌝ }
+    ensures { λ r. ⌜ GivesFront (now (s .entry)) (now (v .entry)) (now (l .entry)) r (now (v .exit)) (now (l .exit)) ⌝ }
 {
     let first = wide(s, t, rounds, u, rank, keep, v, l);
     if first.room {
@@ -168,7 +168,7 @@ fn behind(
 ) -> Built
     requires { ⌜ Lent (now s) (now t) (now u) (now rank) (now keep) (now v) 98496 1024 1024 ⌝ }
     requires { ⌜ rounds ≡ run 100 (program (lines-in (now t))) .rounds ⌝ }
-    ensures { λ r. ⌜ Gives (now (s .entry)) (now (v .entry)) (now (l .entry)) r (now (v .exit)) (now (l .exit)) ⌝ }
+    ensures { λ r. ⌜ GivesFront (now (s .entry)) (now (v .entry)) (now (l .entry)) r (now (v .exit)) (now (l .exit)) ⌝ }
 {
     if rank.len() > FEW {
         return many(s, t, rounds, u, rank, keep, v, l);
@@ -191,7 +191,7 @@ fn attempt(
 ) -> Built
     requires { ⌜ Lent (now s) (now t) (now u) (now rank) (now keep) (now v) 98496 1024 1024 ⌝ }
     requires { ⌜ rounds ≡ run 100 (program (lines-in (now t))) .rounds ⌝ }
-    ensures { λ r. ⌜ Gives (now (s .entry)) (now (v .entry)) (now (l .entry)) r (now (v .exit)) (now (l .exit)) ⌝ }
+    ensures { λ r. ⌜ GivesFront (now (s .entry)) (now (v .entry)) (now (l .entry)) r (now (v .exit)) (now (l .exit)) ⌝ }
 {
     if number > 0 {
         return behind(s, t, rounds, u, rank, keep, v, l);
@@ -231,7 +231,7 @@ pub fn outputs(
 ) -> Built
     requires { ⌜ Lent (now s) (now t) (now u) (now rank) (now keep) (now v) 98496 1024 1024 ⌝ }
     requires { ⌜ rounds ≡ run 100 (program (lines-in (now t))) .rounds ⌝ }
-    ensures { λ r. ⌜ Gives (now (s .entry)) (now (v .entry)) (now (l .entry)) r (now (v .exit)) (now (l .exit)) ⌝ }
+    ensures { λ r. ⌜ GivesFront (now (s .entry)) (now (v .entry)) (now (l .entry)) r (now (v .exit)) (now (l .exit)) ⌝ }
 {
     if rank.len() > FEW {
         return attempt(s, t, rounds, u, rank, keep, 1, v, l);

@@ -1,22 +1,26 @@
 -- Laws of the writing of both sheets. Assumes nothing.
-use mathlib.Core.Logic.{_⊎_, inl, inr}
+use mathlib.Core.Logic.{_⊎_, inl, inr, ⊎-elim}
 use mathlib.Core.Path.{_≡_, refl, sym, _∙_, ap, subst}
-use mathlib.Core.List.{List, []}
-use mathlib.Core.Bool.{true, false}
+use mathlib.Core.List.{List, [], _∷_}
+use mathlib.Core.Bool.{true, false, _&&_}
 use Prim.Native.Nat.{ℕ, _+_, _*_, _≤_, _<_}
 use native.Mathlib.Omega.{arith}
 use native.Mathlib.Decide.{decLt}
+use lib.Dec.{ltb, leb}
 use lib.ListN.{length}
 use Rattle.sheet.specs.Format.{base}
 use Rattle.sheet.specs.FormatLaws.{base-ample}
-use Rattle.sheet.specs.Line.{Line}
+use Rattle.sheet.specs.Line.{Line, letter, number}
 use Rattle.sheet.specs.LineLaws.{Fits}
-use Rattle.sheet.specs.ListLaws.{every-map}
+use Rattle.sheet.specs.ListLaws.{both, every-map}
 use Rattle.sheet.specs.Sheet.{lines}
-use Rattle.model.specs.Decl.{Dtype}
-use Rattle.model.specs.Run.{run, left-program}
-use Rattle.meaning.specs.Program.{name-line, program}
-use Rattle.meaning.specs.Rows.{count-of}
+use Rattle.sheet.specs.SheetLaws.{length-lines}
+use Rattle.model.specs.Decl.{Dtype, Decl, table}
+use Rattle.model.specs.Run.{somes, run, left-program}
+use Rattle.meaning.specs.Program.{name-line, type-line, is-head, program}
+use Rattle.meaning.specs.Rows.{line-at, count-of, good-head, good-numbers, row5}
+use Rattle.meaning.specs.Output.{program-lines}
+use Rattle.meaning_laws.specs.Program.{heads, head-cases, length-program, head-at}
 use Rattle.meaning_laws.specs.Output.{Sized, fits-sized, left-bytes, left-length, program-adds}
 use Rattle.answer.specs.Answer.{left-sheet, verdict-sheet, input-rows, input-refusal, output-rows, refusal, answered, answer, Passes}
 use Rattle.answer.specs.declared.Refusal.the-variants.{Accepted}
@@ -32,10 +36,18 @@ use Rattle.answer.specs.declared.Refusal.{Refusal}
 use Rattle.answer_laws.specs.Answer.{clear-accepted, or-later, refusal-append, accepted-passes}
 use Rattle.answer_built.specs.declared.Built.{Built}
 use Rattle.answer_built.specs.declared.Tried.{Tried}
-use Rattle.answer_built.specs.Built.{refused-as, Gives, Tries}
-use Rattle.answer_built.specs.BuiltLaws.{needed, rows-twelve, rows-none, gives-refused, gives-accepted}
+use Rattle.answer_built.specs.Built.{refused-as, GivesFront, Tries}
+use Rattle.answer_built.specs.BuiltLaws.{needed, rows-twelve, rows-none, front-refused, front-accepted}
 use Rattle.build_sheets.specs.Sheets.{no-room, Known, Owed, Written, Lent}
-use borrow.Author.Tests.{le-ltb}
+use borrow.Author.Tests.{not-false, ltb-true, le-ltb}
+
+nothing-left : left-program (run 100 []) ≡ []
+unfolding run somes table
+nothing-left = refl
+
+length-zero : (ds : List Decl) → length ds ≡ 0 → ds ≡ []
+length-zero [] e = refl
+length-zero (d ∷ ds) e = absurd (omega arith)
 
 module _ (b : List ℕ) (accepted : input-refusal base b ≡ Accepted) where
   -- outputs that are long enough
@@ -70,14 +82,42 @@ module _ (b : List ℕ) (accepted : input-refusal base b ≡ Accepted) where
       let t = program-adds left (record { args = []; types = [] }) .types-count in
       left-bytes 6 ls left fit ∙ ap (λ (n : ℕ). 32 * n) (left-length ls left ∙ omega (arith, t))
 
+  -- row 5: a declaration's name is one of the names
+  head-named : (i : ℕ) → i < length ls → is-head (line-at ls i) ≡ true → number (line-at ls i) 0 < count-of name-line ls
+  unfolding row5 good-numbers good-head
+  head-named i h e =
+      let l : Line = line-at ls i in
+      let n : ℕ = count-of name-line ls in
+      let g : good-numbers ls i ≡ true = not-false (good-numbers ls i) (passes .pass5 i (omega (arith, h, length-lines 6 b))) in
+      let k : good-head n (count-of type-line ls) l ≡ true = ⊎-elim (λ (q : letter l ≡ 68). rw q at g) (λ (q : letter l ≡ 73). rw q at g) (head-cases l e) in
+      ltb-true (number l 0) n (both (ltb (number l 0) n) (leb (number l 1) 31) (both (ltb (number l 0) n && leb (number l 1) 31) _ k .0) .0)
+
+  -- so without names there is no declaration, and nothing is left
+  no-heads : count-of name-line ls ≡ 0 → heads ls ≡ 0
+  no-heads e = go (decLt 0 (heads ls))
+    where
+      go : Dec (0 < heads ls) → heads ls ≡ 0
+      go (no p) = omega arith
+      go (yes p) = let r = head-at ls 0 p in absurd (omega (arith, e, head-named (r .place) (r .inside) (r .heads-it)))
+
+  pub needed-none : count-of name-line ls ≡ 0 → needed b ≡ 0
+  unfolding program-lines
+  needed-none e =
+      let d : left ≡ [] = ap (λ (ds : List Decl). left-program (run 100 ds)) (length-zero (program ls) (length-program ls ∙ no-heads e)) ∙ nothing-left in
+      needed-is ∙ rw (e, d)
+
+  -- and the left sheet begins with the names
+  pub needed-some : 0 < count-of name-line ls → 0 < needed b
+  needed-some h = omega (arith, needed-is)
+
   pub verdict-length : length (verdict-sheet base ls) ≡ length b
   verdict-length = verdict-sheet-length base b room-verdict room-left (omega arith) passes
 
   -- written, with what is answered
   pub gives-written : (v l v′ l′ : List ℕ) (rounds vl ll : ℕ) → Written b v l v′ l′ → rounds ≡ run 100 (program ls) .rounds → length b ≤ length v → needed b ≤ length l → vl ≡ length b → ll ≡ needed b
-      → Gives b v l (record { code = 0; place = 0; rounds = rounds; verdict = vl; left = ll }) v′ l′
+      → GivesFront b v l (record { code = 0; place = 0; rounds = rounds; verdict = vl; left = ll }) v′ l′
   gives-written v l v′ l′ rounds vl ll w r p q e f =
-      rw (e ∙ sym verdict-length, f) (gives-accepted b v l rounds v′ l′ (rows-none b (length v) (length l) accepted p q) r (w .verdict) (w .left))
+      rw (e ∙ sym verdict-length, f) (front-accepted b v l rounds v′ l′ (rows-none b (length v) (length l) accepted p q) r (w .verdict) (w .left))
 
 -- ---- tried
 pub tries-none : (Short : Type 0) (b v l : List ℕ) → Short → Tries Short b v l no-room v l
@@ -87,7 +127,7 @@ tries-none Short b v l h =
     never : {A : Type 0} → false ≡ true → A
     never e = let z : _≡_ {A = ℕ} 0 1 = cc in absurd (omega arith)
 
-pub tries-gives : (Short : Type 0) (b v l : List ℕ) (r : Built) (v′ l′ : List ℕ) → Gives b v l r v′ l′ → Tries Short b v l (record { room = true; built = r }) v′ l′
+pub tries-gives : (Short : Type 0) (b v l : List ℕ) (r : Built) (v′ l′ : List ℕ) → GivesFront b v l r v′ l′ → Tries Short b v l (record { room = true; built = r }) v′ l′
 tries-gives Short b v l r v′ l′ g =
     record { gives = λ e. g; verdict-kept = λ e. never e; left-kept = λ e. never e; short = λ e. never e }
   where
@@ -98,10 +138,10 @@ pub tries-less : (S T : Type 0) → (S → T) → (b v l : List ℕ) (r : Tried)
 tries-less S T f b v l r v′ l′ h = record { gives = h .gives; verdict-kept = h .verdict-kept; left-kept = h .left-kept; short = λ e. f (h .short e) }
 
 -- row 12
-pub tries-twelve : (Short : Type 0) (b v l : List ℕ) (n : ℕ) (r : Built) → input-refusal base b ≡ Accepted → length b ≤ length v → n ≡ needed b → length l < n → r ≡ refused-as 12 n
+pub tries-twelve : (Short : Type 0) (b v l : List ℕ) (n : ℕ) (r : Built) → input-refusal base b ≡ Accepted → length b ≤ length v → n ≡ needed b → n ≤ 1000000000000 → length l < n → r ≡ refused-as 12 n
     → Tries Short b v l (record { room = true; built = r }) v l
-tries-twelve Short b v l n r a h e q z =
-    tries-gives Short b v l r v l (rw (z, e) (gives-refused b v l 12 (needed b) (rows-twelve b (length v) (length l) a h (rw e at q))))
+tries-twelve Short b v l n r a h e k q z =
+    tries-gives Short b v l r v l (rw (z, e) (front-refused b v l 12 (needed b) (rw e at k) (rows-twelve b (length v) (length l) a h (rw e at q))))
 
 -- ---- the counts
 module _ (b t u keep : List ℕ) (n : ℕ) (of : OfSheet b t) where

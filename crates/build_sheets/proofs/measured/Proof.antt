@@ -2,6 +2,7 @@
 use mathlib.Core.List.{List}
 use Rattle.model.specs.Decl.{Decl}
 use mathlib.Core.Path.{refl, _∙_, ap}
+use Prim.Native.Nat.{_+_, _*_, _≤_}
 use native.Mathlib.Omega.{arith}
 use borrow.Author.Needs.{needs}
 use borrow.Author.Tests.{not-true, not-false}
@@ -55,7 +56,11 @@ returns-2 c =
     let g = c .before .before .before .before .before .before .before .before .before in
     let s = g .before .before .before .before .before .before .before .before .before .before .before in
     let n = needed-of (s .args .s .now) (s .args .t .now) _ _ _ (s .pre .0 .of) (s .pre .0 .accepted) _ (g .names .result) (g .names .ensures) (c .before .before .before .before .before .before .before .count .ensures .0) (not-false _ (c .before .before .before .if1 .left)) in
-    tries-twelve _ (s .args .s .now) (s .args .v .now) (s .args .l .now) _ _ (s .pre .0 .accepted) (s .pre .0 .verdict-room) n (c .before .if2 .taken) (c .refused .ensures)
+    let f = c .before .before .before .before .before .before .before .count .ensures .1 in
+    let t = not-false _ (c .before .before .before .if1 .left) in
+    let r = c .before .before .before .before .before .before .before .count .result in
+    let k : 32 * (g .names .result + r .args + r .types + r .lines) ≤ 1000000000000 = omega (arith, names-few (lines-in (s .args .t .now)) (s .pre .0 .ready .tabled .passed), g .names .ensures, f .args t, f .types t, f .lines t) in
+    tries-twelve _ (s .args .s .now) (s .args .v .now) (s .args .l .now) _ _ (s .pre .0 .accepted) (s .pre .0 .verdict-room) n k (c .before .if2 .taken) (c .refused .ensures)
 
 write-requires : tie.Need-write-requires
 write-requires c κs =
