@@ -1,21 +1,26 @@
 -- What is promised of the layout build's answer: the three demands and the operator's checklist (README,
--- "Claims"), as theorems about the definitions of `model`, `meaning` and `answer`, where the lemmas stand.
+-- "Claims"), as theorems about the definitions of `model`, `meaning` and `answer`, and of `model_patterns`,
+-- `meaning_patterns` and `answer_patterns` for the pattern that a sheet may end in. The lemmas stand there.
 --
 -- A sheet b is a list of bytes. v and l are the lengths of the outputs that are lent for the verdict sheet
 -- and the left sheet. f is the format; `base` is the one of FORMAT, and `Ample f` says that its limits do
--- not outgrow its columns and the fuel, which `base-ample` of `FormatLaws` shows of it. Assumes nothing.
-use mathlib.Core.Logic.{_↔_}
+-- not outgrow its columns and the fuel, which `base-ample` of `FormatLaws` shows of it. `limit` is how many Q lines there may be.
+-- Assumes nothing.
+use mathlib.Core.Logic.{_↔_, ⊎-elim}
 use mathlib.Core.Path.{_≡_, refl, sym, _∙_, ap, subst}
-use mathlib.Core.List.{List, [], _∷_, _++_, map, append-nil, List·Memᴰ}
+use mathlib.Core.List.{List, [], _∷_, _++_, map, append-nil, append-assoc, List·Memᴰ, List·Memᴰ·append-cases}
 use mathlib.Core.Bool.{Bool, true, false, not}
 use mathlib.Core.Option.{Option, some}
-use Prim.Native.Nat.{_-_, ℕ, suc, _≤_, _<_}
+use Prim.Native.Nat.{_+_, _*_, _-_, ℕ, suc, _≤_, _<_}
 use native.Mathlib.Omega.{arith}
 use lib.Dec.{T}
 use lib.ListN.{length, getD, drop, List·getD-append}
-use Rattle.sheet.specs.Format.{Format, Ample}
-use Rattle.sheet.specs.Line.{Line, letter, number}
-use Rattle.sheet.specs.SheetLaws.{length-lines}
+use lib.Seq.{getD-append-add}
+use borrow.Author.Tests.{not-false}
+use Rattle.sheet.specs.Format.{Format, Ample, lineBytes}
+use Rattle.sheet.specs.Line.{Line, row, bad, letter, number}
+use Rattle.sheet.specs.SheetLaws.{length-lines, lines-append}
+use Rattle.sheet.specs.ListLaws.{Every, every-left}
 use Rattle.sheet.specs.Sheet.{count, lines, encodes}
 use Rattle.model.specs.Cty.{Cty}
 use Rattle.model.specs.Decl.{
@@ -36,13 +41,7 @@ use Rattle.model.specs.Reach.{Reach}
 use Rattle.model.specs.Layout.{ctor-layouts, guard-next, Candidate, candidates-of}
 use Rattle.model.specs.Resolve.{stays, resolve, ok, resolve-checked}
 use Rattle.model.specs.Run.{record-of, left-program, run, layouts-of, resolves, decl-fault, returns, lay, layout-of-decl, left-at, info-at}
-use Rattle.meaning.specs.Program.{type-line, trees, program}
-use Rattle.meaning.specs.Rows.{line-at, heads-before, head-of}
-use Rattle.meaning.specs.Output.{verdict-lines, verdict-line-of, left-lines}
-use Rattle.meaning_laws.specs.Verdict.{verdict-line-at}
-use Rattle.answer.specs.Answer.{rows, Refuses, Answer, verdict-sheet, left-sheet, answer, after, Passes}
 use Rattle.model.specs.Names.{Declared, Agree, OwnImports}
-use Rattle.answer.specs.Cut.{Faultless, Sheets, build, builds, join, Cut, Call, Over, InTurn, last-call, AllAccept, Wrote}
 use Rattle.model_laws.specs.Erasure.{erasure-solves, erasure-least, erasure-made, erasure-rounds}
 use Rattle.model_laws.specs.Layout as layouts
 use Rattle.model_laws.specs.Cty.{every-mem}
@@ -50,30 +49,54 @@ use Rattle.model_laws.specs.Run.{getD-infos, local-info, import-info, import-la
 use Rattle.model_laws.specs.Locality.{marks-local, layouts-local, info-local, left-local, fault-local, returns-local}
 use Rattle.model_laws.specs.Fuel.{fuel-same}
 use Rattle.model_laws.specs.Rename.{Injective, rename-decls, SameRenamed, locality-renamed}
-use Rattle.answer_laws.specs.Answer.{sheets, build-passes, accepted-passes, passes-accepted, Nothing, refused-nothing, after-length, after-past}
-use Rattle.answer_laws.specs.Left.{pass-no-return, pass-resolved, few-decls, left-sheet-names}
-use Rattle.answer_laws.specs.Build.{Split, split-steps, split-nothing, prefix-verdict, prefix-left-table, pass-whole, verdict-sheet-length, verdict-sheet-lines, passes-whole}
-use Rattle.answer_laws.specs.Refused.{answer-refuses}
-use Rattle.answer_laws.specs.Calls.{cut-accepts, cut-wrote}
-use Rattle.answer_laws.specs.Split.{joined-parts, cut-splits, cut-first, cut-builds, passes-faultless}
+use Rattle.model_patterns.specs.Pat.{Pat, pat-vars, ctor-owner, type-layout, Rewritten, rewritten, occurrences, Once, Fitting}
+use Rattle.model_patterns.specs.Laws.Accounted as accounted
+use Rattle.model_patterns.specs.Laws.Fields as fields
+use Rattle.meaning.specs.Program.{name-line, type-line, trees, program}
+use Rattle.meaning.specs.Rows.{line-at, count-of, heads-before, head-of}
+use Rattle.meaning.specs.Output.{verdict-lines, verdict-line-of, left-lines}
+use Rattle.meaning_laws.specs.Verdict.{verdict-line-at}
+use Rattle.meaning_patterns.specs.Patterns.{pattern-line, pattern, good-pattern, pat-lines, rewritten-lines}
+use Rattle.pattern_laws.specs.Linked.{AllGood}
+use Rattle.pattern_laws.specs.ReadBack as back
+use Rattle.answer.specs.Answer.{Refuses, Answer, after}
+use Rattle.answer.specs.Answer as alone
+use Rattle.answer.specs.Cut.{Sheets, join, Whole}
+use Rattle.answer.specs.Cut as old-cut
+use Rattle.answer_laws.specs.Answer.{Nothing, after-length, after-past}
+use Rattle.answer_laws.specs.Answer as old-laws
+use Rattle.answer_laws.specs.Left.{pass-no-return, pass-resolved, few-decls, left-sheet-names, pass-fit}
+use Rattle.answer_laws.specs.Build.{passes-whole, whole-append}
+use Rattle.answer_patterns.specs.Whole.{front, tail, rows, following, left-sheet, answer}
+use Rattle.answer_patterns.specs.Passes.{Passes}
+use Rattle.answer_patterns.specs.Cut.{build, builds, Cut, Call, Over, InTurn, last-call, AllAccept, Wrote}
+use Rattle.answer_patterns.specs.Parts.{NoPattern, no-pattern-append}
+use Rattle.answer_patterns.specs.Plain.{plain-front}
+use Rattle.answer_patterns.specs.Sheets.{left-sheet-tail}
+use Rattle.answer_patterns.specs.PassesLaws as passes
+use Rattle.answer_patterns.specs.Calls as calls
+use Rattle.answer_patterns.specs.CutLaws as cuts
+use Rattle.answer_patterns.specs.Owners.{slots-counted, program-sound}
+use Rattle.answer_patterns.specs.Counted.{pattern-counted}
+use Rattle.answer_patterns.specs.Following.{following-letters, following-few}
 use Rattle.claims.specs.Unerased.{unerased}
-use Rattle.claims.specs.ClaimsLaws.{
-  true-of,
-  answer-rounds,
-  answer-verdict,
-  answer-left,
-  map-ctors,
-  first-accepted,
-}
+use Rattle.claims.specs.ClaimsLaws.{true-of, answer-rounds, answer-verdict, answer-left, front-passes, map-ctors, left-length, verdicts, length-verdicts, told-lines, first-builds, first-verdict, first-lefts}
 
 -- ---- words
 -- accepted: the refusal line shows code 0
-abbrev pub Accepts : Format → List ℕ → ℕ → ℕ → Type 0
-Accepts f b v l = answer f b v l .code ≡ 0
+abbrev pub Accepts : Format → ℕ → List ℕ → ℕ → ℕ → Type 0
+Accepts f limit b v l = answer f limit b v l .code ≡ 0
+
+-- the lines before the Q lines, and the Q lines
+abbrev pub decl-lines : Format → List ℕ → List Line
+decl-lines f b = lines (f .columns) (front (f .columns) b)
+
+abbrev pub pattern-lines : Format → List ℕ → List Line
+pattern-lines f b = lines (f .columns) (tail (f .columns) b)
 
 -- the declarations of a sheet, which of them are erased, and which names
 abbrev pub decls : Format → List ℕ → List Decl
-decls f b = program (lines (f .columns) b)
+decls f b = program (decl-lines f b)
 
 abbrev pub marks : List Decl → List Bool
 marks ds = erasure-fixpoint ds .marks
@@ -90,8 +113,8 @@ pub record Least (ds : List Decl) : Type 0 where
       (t : List Bool) → length t ≡ length ds → ((i : ℕ) → i < length ds → getD t i false ≡ rule ds t i)
       → (i : ℕ) → getD (marks ds) i false ≡ true → getD t i false ≡ true
 
-pub least : (f : Format) (b : List ℕ) (v l : ℕ) → Accepts f b v l → Least (decls f b)
-least f b v l a =
+pub least : (f : Format) (limit : ℕ) (b : List ℕ) (v l : ℕ) → Accepts f limit b v l → Least (decls f b)
+least f limit b v l a =
     let ds : List Decl = decls f b in
     record {
       solves = erasure-solves ds;
@@ -105,10 +128,10 @@ pub record Rounds (ds : List Decl) (n : ℕ) : Type 0 where
   pub made : Made (rule ds) (start ds) (erasure-fixpoint ds)
   pub few : n ≤ suc (locals ds)
 
-pub rounds : (f : Format) (b : List ℕ) (v l : ℕ) → Accepts f b v l → Rounds (decls f b) (answer f b v l .rounds)
-rounds f b v l a =
+pub rounds : (f : Format) (limit : ℕ) (b : List ℕ) (v l : ℕ) → Accepts f limit b v l → Rounds (decls f b) (answer f limit b v l .rounds)
+rounds f limit b v l a =
     let ds : List Decl = decls f b in
-    let e : answer f b v l .rounds ≡ erasure-fixpoint ds .rounds = answer-rounds f b v l a in
+    let e : answer f limit b v l .rounds ≡ erasure-fixpoint ds .rounds = answer-rounds f limit b v l a in
     record { reported = e; made = erasure-made ds; few = rw e (erasure-rounds ds) }
 
 -- KEPT. A local type keeps exactly the fields whose types are not erased, in order. Its verdict says
@@ -122,19 +145,19 @@ pub record LocalVerdict (fuel : ℕ) (ds : List Decl) (i : ℕ) (ti : TypeInfo) 
       ≡ map (λ c. record { cl-name = c .ct-name; cl-slots = map (λ x. not (cty-erased (erased ds) (x .fd-type))) (c .ct-fields); cl-fields = unerased (erased ds) (c .ct-fields) }) (ctors-of-tydef (dtype-at ds i))
   pub record-number : ti .ti-record ≡ record-of (left-at fuel ds i)
 
-pub kept-fields : (f : Format) (b : List ℕ) (v l : ℕ) → Accepts f b v l → (i : ℕ) → i < length (decls f b) → origin-at (decls f b) i ≡ here
+pub kept-fields : (f : Format) (limit : ℕ) (b : List ℕ) (v l : ℕ) → Accepts f limit b v l → (i : ℕ) → i < length (decls f b) → origin-at (decls f b) i ≡ here
     → (d : TypeInfo) → LocalVerdict (f .fuel) (decls f b) i (getD (run (f .fuel) (decls f b) .infos) i d)
 unfolding ctor-layouts
-kept-fields f b v l a i h o d =
+kept-fields f limit b v l a i h o d =
     let ds : List Decl = decls f b in
     rw (getD-infos (f .fuel) ds i d h, local-info (f .fuel) ds i o)
     (record { is-erased = refl; layout = refl; fields = map-ctors (erased ds) (ctors-of-tydef (dtype-at ds i)); record-number = refl })
 
 -- IMPORTS. An import keeps what its lines say: erasure, layout, kept fields and record; and the layout that
 -- its lines say is the one that resolution goes by.
-pub imports : (f : Format) (b : List ℕ) (v l : ℕ) → Accepts f b v l → (i : ℕ) (ti : TypeInfo) → i < length (decls f b) → origin-at (decls f b) i ≡ imported ti
+pub imports : (f : Format) (limit : ℕ) (b : List ℕ) (v l : ℕ) → Accepts f limit b v l → (i : ℕ) (ti : TypeInfo) → i < length (decls f b) → origin-at (decls f b) i ≡ imported ti
     → ((d : TypeInfo) → getD (run (f .fuel) (decls f b) .infos) i d ≡ ti) × (layout-of-decl (decls f b) i ≡ ti .ti-layout)
-imports f b v l a i ti h o = (
+imports f limit b v l a i ti h o = (
   λ d. getD-infos (f .fuel) (decls f b) i d h ∙ import-info (f .fuel) (decls f b) i ti o,
   import-layout (decls f b) i ti h o,
 )
@@ -142,20 +165,27 @@ imports f b v l a i ti h o = (
 -- COLLAPSED. A local type is a newtype exactly where its guards allow it (`Candidate`: not erased, without
 -- `NoNewtype`, one constructor, one kept field, whose type less one `TInline` is the payload) and no steps
 -- from its payload, through payloads of candidates, also of those that are dropped, lead back to its name.
-pub collapsed : (f : Format) (b : List ℕ) (v l : ℕ) → Accepts f b v l → (i : ℕ) → i < length (decls f b) → origin-at (decls f b) i ≡ here → (nt : NewtypeLayout)
+pub collapsed : (f : Format) (limit : ℕ) (b : List ℕ) (v l : ℕ) → Accepts f limit b v l → (i : ℕ) → i < length (decls f b) → origin-at (decls f b) i ≡ here → (nt : NewtypeLayout)
     → (layout-of-decl (decls f b) i ≡ L-newtype nt)
     ↔ (Candidate (erased (decls f b)) (dtype-at (decls f b) i) (getD (marks (decls f b)) i false) nt
     × (Reach (guard-next (decls f b) (candidates-of (decls f b) (marks (decls f b)))) i i → ⊥))
 unfolding layouts-of
-collapsed f b v l a i h o nt = layouts.collapsed (decls f b) (marks (decls f b)) i h o nt
+collapsed f limit b v l a i h o nt = layouts.collapsed (decls f b) (marks (decls f b)) i h o nt
 
 -- RESOLVED. No type in the left sheet names a collapsed, erased or unfolded type: the name of every `TApp`
 -- line read from its bytes stays. (The checklist's third line.)
-pub resolved : (f : Format) (b : List ℕ) (v l : ℕ) → Ample f → Accepts f b v l → (y : Line) → List·Memᴰ y (lines (f .columns) (answer f b v l .left))
+pub resolved : (f : Format) (limit : ℕ) (b : List ℕ) (v l : ℕ) → Ample f → Accepts f limit b v l → (y : Line) → List·Memᴰ y (lines (f .columns) (answer f limit b v l .left))
     → letter y ≡ type-line → number y 0 ≡ 8 → lay (decls f b) (number y 1) ≡ stays
-resolved f b v l ample a =
-    subst (λ (x : List ℕ). (y : Line) → List·Memᴰ y (lines (f .columns) x) → letter y ≡ type-line → number y 0 ≡ 8 → lay (decls f b) (number y 1) ≡ stays)
-    (sym (answer-left f b v l a)) (left-sheet-names f b v l ample (accepted-passes f b v l a))
+resolved f limit b v l ample a y m e k =
+    let p : alone.Passes f (front (f .columns) b) v l = front-passes f limit b v l a in
+    let n : length (alone.left-sheet f (decl-lines f b)) ≡ lineBytes (f .columns) * length (left-lines (decl-lines f b) (left-program (run (f .fuel) (decls f b)))) = left-length f (decl-lines f b) (pass-fit f (front (f .columns) b) v l ample p) in
+    let q : lines (f .columns) (answer f limit b v l .left) ≡ lines (f .columns) (alone.left-sheet f (decl-lines f b)) ++ lines (f .columns) (encodes (f .columns) (following f (decl-lines f b) (pattern-lines f b))) =
+    ap (lines (f .columns)) (answer-left f limit b v l a ∙ left-sheet-tail f (decl-lines f b) (pattern-lines f b))
+    ∙ lines-append (f .columns) (length (left-lines (decl-lines f b) (left-program (run (f .fuel) (decls f b))))) (alone.left-sheet f (decl-lines f b)) (encodes (f .columns) (following f (decl-lines f b) (pattern-lines f b))) n in
+    ⊎-elim
+    (λ z. left-sheet-names f (front (f .columns) b) v l ample p y z e k)
+    (λ z. absurd (following-letters f (f .columns) (decl-lines f b) (pattern-lines f b) y z e))
+    (List·Memᴰ·append-cases (lines (f .columns) (alone.left-sheet f (decl-lines f b))) (subst (List·Memᴰ y) q m))
 
 -- UNSPENT. The fuel, 100 in the base, is never spent: every type that is resolved is resolved to the end, without a
 -- fault, and any larger fuel gives the same.
@@ -163,57 +193,66 @@ pub record Unspent (f : Format) (ds : List Decl) (c : Cty) : Type 0 where
   pub to-the-end : resolve-checked (f .nodes) (lay ds) (f .fuel) c ≡ ok (resolve (lay ds) (f .fuel) c)
   pub more : (m : ℕ) → f .fuel ≤ m → resolve (lay ds) m c ≡ resolve (lay ds) (f .fuel) c
 
-pub unspent : (f : Format) (b : List ℕ) (v l : ℕ) → Ample f → Accepts f b v l → (i : ℕ) → i < length (decls f b)
+pub unspent : (f : Format) (limit : ℕ) (b : List ℕ) (v l : ℕ) → Ample f → Accepts f limit b v l → (i : ℕ) → i < length (decls f b)
     → (c : Cty) → List·Memᴰ c (resolves (layout-of-decl (decls f b) i)) → Unspent f (decls f b) c
-unspent f b v l ample a i h c m =
-    let p : Passes f b v l = accepted-passes f b v l a in
-    let few : length (decls f b) < f .fuel = few-decls f b v l ample p in
+unspent f limit b v l ample a i h c m =
+    let p : alone.Passes f (front (f .columns) b) v l = front-passes f limit b v l a in
+    let few : length (decls f b) < f .fuel = few-decls f (front (f .columns) b) v l ample p in
     record {
-      to-the-end = every-mem _ (resolves (layout-of-decl (decls f b) i)) (pass-resolved f b v l ample p i h) c m .answers;
-      more = λ m q. fuel-same (decls f b) (pass-no-return f b v l ample p) m (f .fuel) (omega (arith, few)) few c;
+      to-the-end = every-mem _ (resolves (layout-of-decl (decls f b) i)) (pass-resolved f (front (f .columns) b) v l ample p i h) c m .answers;
+      more = λ m q. fuel-same (decls f b) (pass-no-return f (front (f .columns) b) v l ample p) m (f .fuel) (omega (arith, few)) few c;
     }
 
--- RUN. The verdicts and the declarations that are left are those of the model of the source's `run`.
+-- RUN. The verdicts and the declarations that are left are those of the model of the source's `run`. The Q lines stay in the
+-- verdict sheet, and in the left sheet their pattern follows the declarations, rewritten (`pattern-of-source`).
 pub record OfSource (f : Format) (b : List ℕ) (a : Answer) : Type 0 where
-  pub verdicts : a .verdict ≡ encodes (f .columns) (verdict-lines (lines (f .columns) b) (run (f .fuel) (decls f b) .infos))
-  pub declarations : a .left ≡ encodes (f .columns) (left-lines (lines (f .columns) b) (left-program (run (f .fuel) (decls f b))))
+  pub verdicts : a .verdict ≡ encodes (f .columns) (verdict-lines (decl-lines f b) (run (f .fuel) (decls f b) .infos)) ++ tail (f .columns) b
+  pub declarations : a .left ≡ encodes (f .columns) (left-lines (decl-lines f b) (left-program (run (f .fuel) (decls f b)))) ++ encodes (f .columns) (following f (decl-lines f b) (pattern-lines f b))
 
-pub run-of-source : (f : Format) (b : List ℕ) (v l : ℕ) → Accepts f b v l → OfSource f b (answer f b v l)
-unfolding verdict-sheet left-sheet
-run-of-source f b v l a = record { verdicts = answer-verdict f b v l a; declarations = answer-left f b v l a }
+pub run-of-source : (f : Format) (limit : ℕ) (b : List ℕ) (v l : ℕ) → Accepts f limit b v l → OfSource f b (answer f limit b v l)
+unfolding alone.verdict-sheet alone.left-sheet
+run-of-source f limit b v l a =
+    record { verdicts = answer-verdict f limit b v l a; declarations = answer-left f limit b v l a ∙ left-sheet-tail f (decl-lines f b) (pattern-lines f b) }
 
 -- VERDICT LENGTH. The verdict sheet is as long as the sheet (the checklist's first line), and building it
 -- alone is accepted and gives it back with the same left sheet.
-pub verdict-length : (f : Format) (b : List ℕ) (v l : ℕ) → 0 < f .columns → Accepts f b v l → length (answer f b v l .verdict) ≡ length b
-verdict-length f b v l pos a = ap length (answer-verdict f b v l a) ∙ verdict-sheet-length f b v l pos (accepted-passes f b v l a)
+pub verdict-length : (f : Format) (limit : ℕ) (b : List ℕ) (v l : ℕ) → 0 < f .columns → Accepts f limit b v l → length (answer f limit b v l .verdict) ≡ length b
+verdict-length f limit b v l pos a =
+    let p : Passes f limit b v l = passes.accepted-passes f limit b v l a in
+    ap length (answer-verdict f limit b v l a ∙ sym (calls.verdict-parts f limit b v l p)) ∙ calls.verdict-length f limit b v l p pos
 
 -- VERDICT LINES. Line i of the verdict sheet is line i of the sheet, but for D lines and the F and V lines of
 -- D declarations (`verdict-line-of`): there D has become I, the keep number is 1 exactly where the field's
--- type is not erased, and V has the verdict's numbers.
-pub verdict-lines-told : (f : Format) (b : List ℕ) (v l : ℕ) → 0 < f .columns → Accepts f b v l → (i : ℕ) → i < count (f .columns) b
-    → line-at (lines (f .columns) (answer f b v l .verdict)) i
-    ≡ verdict-line-of (erased (decls f b)) (trees (lines (f .columns) b)) (info-at (f .fuel) (decls f b) (heads-before (lines (f .columns) b) (suc i) - 1)) (head-of (lines (f .columns) b) i) (line-at (lines (f .columns) b) i)
-verdict-lines-told f b v l pos a i h =
-    let p : Passes f b v l = accepted-passes f b v l a in
-    ap (λ (x : List ℕ). line-at (lines (f .columns) x) i) (answer-verdict f b v l a)
-    ∙ (ap (λ (ls : List Line). line-at ls i) (verdict-sheet-lines f b v l pos p)
-    ∙ verdict-line-at (f .fuel) (lines (f .columns) b) (passes-whole f b v l p) i (omega (arith, length-lines (f .columns) b)))
+-- type is not erased, and V has the verdict's numbers. Q lines stay.
+pub verdict-lines-told : (f : Format) (limit : ℕ) (b : List ℕ) (v l : ℕ) → 0 < f .columns → Accepts f limit b v l → (i : ℕ) → i < count (f .columns) (front (f .columns) b)
+    → line-at (lines (f .columns) (answer f limit b v l .verdict)) i
+    ≡ verdict-line-of (erased (decls f b)) (trees (decl-lines f b)) (info-at (f .fuel) (decls f b) (heads-before (decl-lines f b) (suc i) - 1)) (head-of (decl-lines f b) i) (line-at (decl-lines f b) i)
+verdict-lines-told f limit b v l pos a i h =
+    let p : alone.Passes f (front (f .columns) b) v l = front-passes f limit b v l a in
+    let n : i < length (verdicts f (decl-lines f b)) = omega (arith, length-verdicts f (decl-lines f b), length-lines (f .columns) (front (f .columns) b)) in
+    ap (λ (ls : List Line). line-at ls i) (told-lines f limit b v l a pos)
+    ∙ (List·getD-append (verdicts f (decl-lines f b)) (pattern-lines f b) bad i n
+    ∙ verdict-line-at (f .fuel) (decl-lines f b) (passes-whole f (front (f .columns) b) v l p) i (omega (arith, length-lines (f .columns) (front (f .columns) b))))
 
-pub verdict-again : (f : Format) (b : List ℕ) (v l : ℕ) → 0 < f .columns → (x : Sheets) → build f v l b ≡ some x → build f v l (x .verdict) ≡ some x
-verdict-again f b v l pos x e =
-    ap (build f v l) (sym (append-nil (x .verdict)))
-    ∙ (split-steps f v l pos .import-step b [] x (split-nothing (f .columns) b (pass-whole f b v l (build-passes f b v l x e))) e
-    ∙ (ap (build f v l) (append-nil b) ∙ e))
+pub verdict-patterns-stay : (f : Format) (limit : ℕ) (b : List ℕ) (v l : ℕ) → 0 < f .columns → Accepts f limit b v l → (i : ℕ)
+    → line-at (lines (f .columns) (answer f limit b v l .verdict)) (count (f .columns) (front (f .columns) b) + i) ≡ line-at (pattern-lines f b) i
+verdict-patterns-stay f limit b v l pos a i =
+    let n : count (f .columns) (front (f .columns) b) + i ≡ length (verdicts f (decl-lines f b)) + i = omega (arith, length-verdicts f (decl-lines f b), length-lines (f .columns) (front (f .columns) b)) in
+    ap (λ (ls : List Line). line-at ls (count (f .columns) (front (f .columns) b) + i)) (told-lines f limit b v l a pos)
+    ∙ (ap (λ (k : ℕ). line-at (verdicts f (decl-lines f b) ++ pattern-lines f b) k) n ∙ getD-append-add (verdicts f (decl-lines f b)) (pattern-lines f b) i bad)
+
+pub verdict-again : (f : Format) (limit : ℕ) (b : List ℕ) (v l : ℕ) → 0 < f .columns → (x : Sheets) → build f limit v l b ≡ some x → build f limit v l (x .verdict) ≡ some x
+verdict-again = calls.verdict-again
 
 -- REFUSED. The refusal line shows 0 exactly where no row of the table applies (the checklist's fourth
--- line). Any other code is one of 1 to 12, and its row is the first that applies: it applies at the given
+-- line). Any other code is one of 1 to 13, and its row is the first that applies: it applies at the given
 -- place, at no earlier one, and no row before it applies anywhere.
-pub refused : (f : Format) (b : List ℕ) (v l : ℕ) → Accepts f b v l ↔ Passes f b v l
-refused f b v l = (accepted-passes f b v l, passes-accepted f b v l)
+pub refused : (f : Format) (limit : ℕ) (b : List ℕ) (v l : ℕ) → Accepts f limit b v l ↔ Passes f limit b v l
+refused f limit b v l = (passes.accepted-passes f limit b v l, passes.passes-accepted f limit b v l)
 
-pub refused-by : (f : Format) (b : List ℕ) (v l : ℕ) → Ample f → (Accepts f b v l → ⊥)
-    → Refuses (rows f b v l) (answer f b v l .code) (answer f b v l .place) × (1 ≤ answer f b v l .code) × (answer f b v l .code ≤ 12)
-refused-by f b v l ample h = let r = answer-refuses f b ample v l h in (r .0, r .1 .0, r .1 .1)
+pub refused-by : (f : Format) (limit : ℕ) (b : List ℕ) (v l : ℕ) → Ample f → (Accepts f limit b v l → ⊥)
+    → Refuses (rows f limit b v l) (answer f limit b v l .code) (answer f limit b v l .place) × (1 ≤ answer f limit b v l .code) × (answer f limit b v l .code ≤ 13)
+refused-by f limit b v l ample h = let r = passes.answer-refuses f limit b ample v l h in (r .0, r .1 .0, r .1 .1)
 
 -- On every refusal both outputs keep their bytes. On acceptance both sheets fit their outputs, and past a
 -- sheet its output keeps its bytes.
@@ -222,9 +261,9 @@ pub record Unchanged (a : Answer) : Type 0 where
   pub verdict-output : (old : List ℕ) → after (a .verdict) old ≡ old
   pub left-output : (old : List ℕ) → after (a .left) old ≡ old
 
-pub unchanged : (f : Format) (b : List ℕ) (v l : ℕ) → (Accepts f b v l → ⊥) → Unchanged (answer f b v l)
-unchanged f b v l h =
-    let n : Nothing (answer f b v l) = refused-nothing f b v l h in
+pub unchanged : (f : Format) (limit : ℕ) (b : List ℕ) (v l : ℕ) → (Accepts f limit b v l → ⊥) → Unchanged (answer f limit b v l)
+unchanged f limit b v l h =
+    let n : Nothing (answer f limit b v l) = passes.refused-nothing f limit b v l h in
     record {
       no-rounds = n .no-rounds;
       verdict-output = λ old. ap (λ (x : List ℕ). after x old) (n .no-verdict);
@@ -236,12 +275,12 @@ pub record Holds (sheet old : List ℕ) : Type 0 where
   pub begins : (k : ℕ) → k < length sheet → getD (after sheet old) k 0 ≡ getD sheet k 0
   pub past : (k : ℕ) → length sheet ≤ k → getD (after sheet old) k 0 ≡ getD old k 0
 
-pub written : (f : Format) (b : List ℕ) (v l : ℕ) → 0 < f .columns → Accepts f b v l → (old old' : List ℕ) → length old ≡ v → length old' ≡ l
-    → Holds (answer f b v l .verdict) old × Holds (answer f b v l .left) old'
-written f b v l pos a old old' e e' =
-    let p : Passes f b v l = accepted-passes f b v l a in (
-      fitted (answer f b v l .verdict) old (omega (arith, verdict-length f b v l pos a, p .pass11)),
-      fitted (answer f b v l .left) old' (omega (arith, ap length (answer-left f b v l a), p .pass12)),
+pub written : (f : Format) (limit : ℕ) (b : List ℕ) (v l : ℕ) → 0 < f .columns → Accepts f limit b v l → (old old' : List ℕ) → length old ≡ v → length old' ≡ l
+    → Holds (answer f limit b v l .verdict) old × Holds (answer f limit b v l .left) old'
+written f limit b v l pos a old old' e e' =
+    let p : Passes f limit b v l = passes.accepted-passes f limit b v l a in (
+      fitted (answer f limit b v l .verdict) old (omega (arith, verdict-length f limit b v l pos a, p .pass11)),
+      fitted (answer f limit b v l .left) old' (omega (arith, ap length (answer-left f limit b v l a), p .pass12)),
     )
   where
     fitted : (w o : List ℕ) → length w ≤ length o → Holds w o
@@ -277,61 +316,167 @@ pub locality-by-names : (ρ : ℕ → ℕ) → Injective ρ → (limit fuel : �
 locality-by-names = locality-renamed
 
 -- ---- the cut
--- CUT (demand 3). For every sheet b cut into its N, A and Y lines and a list of one or more units, each of
--- whole declarations, empty ones allowed, and each naming only its own types, those of earlier units and
--- names that the whole declares nowhere: build the units in turn, the first from the N, A and Y lines and
--- its own declarations, each later one from the verdict sheet that the build before it returned and its own
--- declarations, stopping at a refusal. All units are accepted exactly where one build of the whole, with
--- outputs of the same lengths, is accepted; then the last unit's two sheets and the whole's are the same
--- bytes. Of the sheet nothing more is asked: it may break any row.
-pub cut : (f : Format) (v l : ℕ) (b header u : List ℕ) (us : List (List ℕ)) → 0 < f .columns → Cut (f .columns) b header (u ∷ us)
-    → builds f v l header u us ≡ build f v l b
-cut = cut-builds
+-- CUT (demand 3). For every sheet b cut into its N, A and Y lines, a list of one or more units, each of whole
+-- declarations, empty ones allowed, and each naming only its own types, those of earlier units and names that the whole
+-- declares nowhere, and the Q lines, of which there may be none and whose names may be any: build the units in turn, the
+-- first from the N, A and Y lines and its own declarations, each later one from the verdict sheet that the build before it
+-- returned and its own declarations, the last with the Q lines behind them, stopping at a refusal. All units are accepted
+-- exactly where one build of the whole, with outputs of the same lengths, is accepted; then the last unit's two sheets and
+-- the whole's are the same bytes, pattern and freed names included. Of the sheet nothing more is asked: it may break any row.
+pub cut : (f : Format) (limit v l : ℕ) (b header u : List ℕ) (us : List (List ℕ)) (z : List ℕ) → 0 < f .columns → Cut (f .columns) b header (u ∷ us) z
+    → builds f limit v l header u us z ≡ build f limit v l b
+cut = cuts.cut-builds
 
 -- The same of calls, each of which does what the build's contract says of it (`Call`). The calls build the
 -- units in turn: the first is given the N, A and Y lines and the first unit; each later one the first bytes,
--- as many as its sheet had, of the verdict output that the call before left, and its own unit. `whole` is
--- one call with the whole sheet. All calls have outputs of v and l bytes, and whatever these held: every call
+-- as many as its sheet had, of the verdict output that the call before left, and its own unit; the last also the Q lines.
+-- `whole` is one call with the whole sheet. All calls have outputs of v and l bytes, and whatever these held: every call
 -- shows code 0 exactly where the whole's does, and then the last call's outputs and the whole's begin with
 -- the same two sheets, past which each output holds what it held.
--- How this is about the code: the contract of `build::build` is `Gives` (`answer_built`), whose equation is the one that a
--- `Call` holds: what the call gave, `given r v′ l′`, is `called base b v l`. So a call of `build` is a `Call base`
--- (`call-of` in `build`), with nothing to be shown beside it, and calls made in turn are the list that is spoken of here.
-pub cut-calls : (f : Format) (v l : ℕ) (b header u : List ℕ) (us : List (List ℕ)) → 0 < f .columns → Cut (f .columns) b header (u ∷ us)
-    → (c : Call f) (cs : List (Call f)) → InTurn f v l header u us c cs → (whole : Call f) → Over f v l [] b whole
+-- How this is about the code: a `Call` holds the equation that the build's contract states of a call.
+pub cut-calls : (f : Format) (limit v l : ℕ) (b header u : List ℕ) (us : List (List ℕ)) (z : List ℕ) → 0 < f .columns → Cut (f .columns) b header (u ∷ us) z
+    → (c : Call f limit) (cs : List (Call f limit)) → InTurn f limit v l header u us z c cs → (whole : Call f limit) → Over f limit v l [] b whole
     → (AllAccept c cs ↔ (whole .gave .code ≡ 0)) × (whole .gave .code ≡ 0 → (x : Sheets) × Wrote whole x × Wrote (last-call c cs) x)
-cut-calls f v l b header u us pos cut c cs o whole w =
-    (cut-accepts f v l pos b header u us cut c cs o whole w, cut-wrote f v l pos b header u us cut c cs o whole w)
+cut-calls f limit v l b header u us z pos cut c cs o whole w =
+    (calls.cut-accepts f limit v l pos b header u us z cut c cs o whole w, calls.cut-wrote f limit v l pos b header u us z cut c cs o whole w)
 
 -- SAME FIELDS (the checklist's second line). In an accepted sheet that is cut so, the first units build as
 -- well, and their verdict sheet begins the whole's: every line of a type, its keeps among them, is the same
 -- in every unit from the one that declares it. So is what is left of it: for each declaration of the first
 -- units the left declaration, if there is one, is the whole's.
-pub record FirstUnits (f : Format) (v l : ℕ) (b header u : List ℕ) (us : List (List ℕ)) (y : Sheets) : Type 0 where
+pub record FirstUnits (f : Format) (limit v l : ℕ) (b header u : List ℕ) (us : List (List ℕ)) (y : Sheets) : Type 0 where
   pub built : Sheets
-  pub are-built : builds f v l header u us ≡ some built
+  pub are-built : builds f limit v l header u us [] ≡ some built
   pub verdict-rest : List ℕ
   pub begin-verdict : y .verdict ≡ built .verdict ++ verdict-rest
   pub left-rest : List (Option Dtype)
   pub begin-left : run (f .fuel) (decls f b) .lefts ≡ run (f .fuel) (decls f (header ++ join (u ∷ us))) .lefts ++ left-rest
 
-pub same-fields : (f : Format) (v l : ℕ) (b header u : List ℕ) (us ys : List (List ℕ)) → 0 < f .columns → Cut (f .columns) b header (u ∷ (us ++ ys))
-    → (y : Sheets) → build f v l b ≡ some y → FirstUnits f v l b header u us y
-same-fields f v l b header u us ys pos c y e =
-    let xs : List (List ℕ) = u ∷ us in
-    let p : List ℕ = header ++ join xs in
-    let q : List ℕ = join ys in
-    let h : Faultless (f .columns) b = passes-faultless f b v l (build-passes f b v l y e) in
-    let s : Split (f .columns) p q = cut-splits (f .columns) b header (xs ++ ys) c h xs ys [] (ap (λ (t : List (List ℕ)). xs ++ t) (sym (append-nil ys))) in
-    let j : b ≡ p ++ q = c .joined ∙ joined-parts header xs ys in
-    let k : build f v l (p ++ q) ≡ some y = ap (build f v l) (sym j) ∙ e in
-    let r = prefix-verdict f v l p q s y k in
-    let t = prefix-left-table f v l p q s y k in
+pub same-fields : (f : Format) (limit v l : ℕ) (b header u : List ℕ) (us ys : List (List ℕ)) (z : List ℕ) → 0 < f .columns → Cut (f .columns) b header (u ∷ (us ++ ys)) z
+    → (y : Sheets) → build f limit v l b ≡ some y → FirstUnits f limit v l b header u us y
+unfolding old-laws.sheets
+same-fields f limit v l b header u us ys z pos c y e =
     record {
-      built = sheets f p;
-      are-built = cut f v l p header u us pos (cut-first (f .columns) b header xs ys c h) ∙ first-accepted f v l pos p q s y k;
-      verdict-rest = r .0;
-      begin-verdict = r .1;
+      built = old-laws.sheets f some-units;
+      are-built =
+          cuts.builds-plain f limit v l pos us header u (whole-append w header u (c .header-whole) (wholes .0)) (cuts.first-plain f limit v l b header u (us ++ ys) z pos c) (wholes .1) (plains .1)
+          ∙ first-builds f v l pos all-units header u us ys before (j .front-passes);
+      verdict-rest = r .0 ++ tail w b;
+      begin-verdict = ap (λ (x : Sheets). x .verdict) same ∙ (calls.verdict-parts f limit b v l k ∙ (ap (λ (x : List ℕ). alone.verdict-sheet f (lines w x) ++ tail w b) at-front ∙ (ap (λ (x : List ℕ). x ++ tail w b) (r .1) ∙ append-assoc (old-laws.sheets f some-units .verdict) (r .0) (tail w b))));
       left-rest = t .0;
-      begin-left = ap (λ (x : List ℕ). run (f .fuel) (decls f x) .lefts) j ∙ t .1;
+      begin-left =
+          ap (λ (x : List ℕ). run (f .fuel) (program (lines w x)) .lefts) at-front
+          ∙ (t .1 ∙ ap (λ (x : List ℕ). run (f .fuel) (program (lines w x)) .lefts ++ t .0) (sym (plain-front w some-units (whole-append w header (join (u ∷ us)) (c .header-whole) (cuts.join-whole w (u ∷ us) wholes)) (no-pattern-append w header (join (u ∷ us)) (c .header-whole) (c .header-plain) (cuts.join-plain w (u ∷ us) wholes plains)))));
     }
+  where
+    w : ℕ
+    w = f .columns
+
+    some-units : List ℕ
+    some-units = header ++ join (u ∷ us)
+
+    all-units : List ℕ
+    all-units = header ++ join (u ∷ (us ++ ys))
+
+    k : Passes f limit b v l
+    k = passes.build-passes f limit b v l y e
+
+    same : y ≡ passes.sheets f b
+    same = passes.some-same y (passes.sheets f b) (sym e ∙ passes.passes-build f limit b v l k)
+
+    j : passes.Joined f limit (header ++ join (u ∷ (us ++ ys))) z v l
+    j = cuts.front-joined f limit v l b header u (us ++ ys) z pos c k
+
+    at-front : front w b ≡ header ++ join (u ∷ (us ++ ys))
+    at-front = cuts.front-is f limit v l b header u (us ++ ys) z pos c
+
+    before : old-cut.Cut w (header ++ join (u ∷ (us ++ ys))) header (u ∷ (us ++ ys))
+    before = cuts.before-tail f limit v l b header u (us ++ ys) z pos c (λ h. record { declarations = h; no-bad = j .no-bad; good-patterns = j .good })
+
+    wholes : Every (Whole w) (u ∷ us)
+    wholes = every-left (Whole w) (u ∷ us) ys (cuts.all-whole f limit v l b header u (us ++ ys) z pos c)
+
+    plains : cuts.Plain w (u ∷ us)
+    plains = every-left (NoPattern w) (u ∷ us) ys (cuts.all-plain f limit v l b header u (us ++ ys) z pos c)
+
+    r : (r : List ℕ) × (old-laws.sheets f (header ++ join (u ∷ (us ++ ys))) .verdict ≡ old-laws.sheets f (header ++ join (u ∷ us)) .verdict ++ r)
+    r = first-verdict f v l pos (header ++ join (u ∷ (us ++ ys))) header u us ys before (j .front-passes)
+
+    t : (xs : List (Option Dtype)) × (run (f .fuel) (program (lines w (header ++ join (u ∷ (us ++ ys))))) .lefts ≡ run (f .fuel) (program (lines w (header ++ join (u ∷ us)))) .lefts ++ xs)
+    t = first-lefts f v l pos (header ++ join (u ∷ (us ++ ys))) header u us ys before (j .front-passes)
+
+-- ---- patterns
+-- PATTERN. The pattern that the Q lines denote, and what becomes of it: the source's `rw_pat` over the verdicts of `run`.
+abbrev pub sheet-pattern : Format → List ℕ → Pat
+sheet-pattern f b = pattern (pattern-lines f b)
+
+abbrev pub sheet-rewritten : Format → List ℕ → Rewritten
+sheet-rewritten f b = rewritten (f .fuel) (decls f b) (sheet-pattern f b)
+
+-- PATTERN OF SOURCE. The left sheet is that of the declarations, and where there are Q lines the lines of the new pattern and
+-- of the freed names stand behind it.
+pub record PatternOfSource (f : Format) (b : List ℕ) (a : Answer) : Type 0 where
+  pub without : count (f .columns) (tail (f .columns) b) ≡ 0 → a .left ≡ alone.left-sheet f (decl-lines f b)
+  pub with-lines : 0 < count (f .columns) (tail (f .columns) b) → a .left ≡ alone.left-sheet f (decl-lines f b) ++ encodes (f .columns) (rewritten-lines (sheet-rewritten f b))
+
+pub pattern-of-source : (f : Format) (limit : ℕ) (b : List ℕ) (v l : ℕ) → Accepts f limit b v l → PatternOfSource f b (answer f limit b v l)
+unfolding following encodes
+pattern-of-source f limit b v l a = go (pattern-lines f b) refl
+  where
+    is-left : answer f limit b v l .left ≡ alone.left-sheet f (decl-lines f b) ++ encodes (f .columns) (following f (decl-lines f b) (pattern-lines f b))
+    is-left = answer-left f limit b v l a ∙ left-sheet-tail f (decl-lines f b) (pattern-lines f b)
+
+    go : (qs : List Line) → pattern-lines f b ≡ qs → PatternOfSource f b (answer f limit b v l)
+    go [] e =
+        record {
+          without = λ h. is-left ∙ (ap (λ (x : List Line). alone.left-sheet f (decl-lines f b) ++ encodes (f .columns) (following f (decl-lines f b) x)) e ∙ append-nil (alone.left-sheet f (decl-lines f b)));
+          with-lines = λ h. absurd (omega (arith, length-lines (f .columns) (tail (f .columns) b), ap length e));
+        }
+    go (q ∷ qs) e =
+        record {
+          without = λ h. absurd (omega (arith, length-lines (f .columns) (tail (f .columns) b), ap length e));
+          with-lines = λ h.
+              is-left
+              ∙ (ap (λ (x : List Line). alone.left-sheet f (decl-lines f b) ++ encodes (f .columns) (following f (decl-lines f b) x)) e
+              ∙ ap (λ (x : List Line). alone.left-sheet f (decl-lines f b) ++ encodes (f .columns) (rewritten-lines (rewritten (f .fuel) (decls f b) (pattern x)))) (sym e));
+        }
+
+-- every Q line of an accepted sheet passes row 5
+good-lines : (f : Format) (limit : ℕ) (b : List ℕ) (v l : ℕ) → Accepts f limit b v l → AllGood (count-of name-line (decl-lines f b)) (pattern-lines f b)
+good-lines f limit b v l a q h =
+    not-false (good-pattern (count-of name-line (decl-lines f b)) (pattern-lines f b) q)
+    (passes.accepted-passes f limit b v l a .patterns5 q (omega (arith, length-lines (f .columns) (tail (f .columns) b))))
+
+-- FIELDS LOST. In the new pattern every `PCtor` of a declared constructor has a struct for its type and as many parts as that
+-- constructor has kept fields, and every `PRecord` of a declared struct of one constructor names kept fields only.
+pub fields-lost : (f : Format) (limit : ℕ) (b : List ℕ) (v l : ℕ) → Accepts f limit b v l
+    → Fitting (ctor-owner (run (f .fuel) (decls f b) .infos)) (type-layout (decls f b) (run (f .fuel) (decls f b) .infos)) (sheet-rewritten f b .pat)
+unfolding rewritten
+fields-lost f limit b v l a =
+    let p : Passes f limit b v l = passes.accepted-passes f limit b v l a in
+    let n : length (pattern-lines f b) ≡ count (f .columns) (tail (f .columns) b) = length-lines (f .columns) (tail (f .columns) b) in
+    let m : length (decl-lines f b) ≡ count (f .columns) (front (f .columns) b) = length-lines (f .columns) (front (f .columns) b) in
+    fields.fields-lost (ctor-owner (run (f .fuel) (decls f b) .infos)) (type-layout (decls f b) (run (f .fuel) (decls f b) .infos))
+    (program-sound (decl-lines f b) (λ i h. p .pass7 i (omega arith)) (f .fuel))
+    (sheet-pattern f b)
+    (pattern-counted (ctor-owner (run (f .fuel) (decls f b) .infos)) (count-of name-line (decl-lines f b)) (decls f b) (pattern-lines f b) (slots-counted (f .fuel) (decl-lines f b))
+    (good-lines f limit b v l a)
+    (λ q h. p .pass13 q (omega arith)))
+
+-- NAMES ACCOUNTED. If no `PRecord` of the pattern names a field twice, its variables, counted with repetitions, are those of the
+-- new pattern together with the freed ones.
+pub names-accounted : (f : Format) (limit : ℕ) (b : List ℕ) (v l : ℕ) → Accepts f limit b v l → Once (sheet-pattern f b)
+    → (n : ℕ) → occurrences n (pat-vars (sheet-pattern f b)) ≡ occurrences n (pat-vars (sheet-rewritten f b .pat)) + occurrences n (sheet-rewritten f b .freed)
+unfolding rewritten
+names-accounted f limit b v l a h n =
+    accounted.names-accounted (ctor-owner (run (f .fuel) (decls f b) .infos)) (type-layout (decls f b) (run (f .fuel) (decls f b) .infos)) (sheet-pattern f b) h n
+
+-- LINES BOUNDED. The lines of the new pattern and of the freed names together are no more than the Q lines: so the left sheet is at
+-- most so much longer than that of the declarations.
+pub lines-bounded : (f : Format) (limit : ℕ) (b : List ℕ) (v l : ℕ) → Accepts f limit b v l → length (following f (decl-lines f b) (pattern-lines f b)) ≤ count (f .columns) (tail (f .columns) b)
+lines-bounded f limit b v l a =
+    omega (arith, following-few f (decl-lines f b) (count-of name-line (decl-lines f b)) (pattern-lines f b) (good-lines f limit b v l a), length-lines (f .columns) (tail (f .columns) b))
+
+-- READ BACK. The lines of the new pattern denote it.
+pub read-back : (f : Format) (b : List ℕ) → pattern (map (row pattern-line) (pat-lines (sheet-rewritten f b .pat) 0 0 0)) ≡ sheet-rewritten f b .pat
+read-back f b = back.read-back (sheet-rewritten f b .pat)

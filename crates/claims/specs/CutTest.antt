@@ -7,15 +7,19 @@ use Prim.Native.Nat.{ℕ, _%_}
 use native.Mathlib.Omega.{arith}
 use lib.Dec.{eqb, ltb}
 use lib.ListN.{length}
-use borrow.Author.Tests.{eqb-true, ltb-true, ltb-false, lt-ltb, not-true}
+use borrow.Author.Tests.{eqb-true, ltb-true, ltb-false, lt-ltb, not-true, not-false}
 use Rattle.sheet.specs.Format.{lineBytes}
+use Rattle.sheet.specs.Line.{Line}
 use Rattle.sheet.specs.Sheet.{first, count, lines}
 use Rattle.sheet.specs.FirstLaws.{first-le, none-first}
 use Rattle.model.specs.Decl.{Decl, position}
 use Rattle.model.specs.Names.{Declared, undeclared}
-use Rattle.meaning.specs.Program.{is-head, program}
+use Rattle.meaning.specs.Program.{is, is-head, program}
 use Rattle.meaning.specs.Rows.{raw}
-use Rattle.answer.specs.Cut.{join, Declarations, program-names, Cut}
+use Rattle.meaning_patterns.specs.Patterns.{pattern-line}
+use Rattle.answer.specs.Answer.{Clear}
+use Rattle.answer.specs.Cut.{join, Declarations, program-names}
+use Rattle.answer_patterns.specs.Cut.{Cut}
 
 -- ---- the test
 -- each name is declared in ds or not in all
@@ -23,9 +27,13 @@ unfoldable pub names-test : List Decl → List Decl → List ℕ → Bool
 names-test ds all [] = true
 names-test ds all (n ∷ ns) = (ltb (position ds n) (length ds) || undeclared all n) && names-test ds all ns
 
--- whole lines that begin a declaration, or none
+-- of no line of a sheet the test holds
+unfoldable pub none-test : (Line → Bool) → ℕ → List ℕ → Bool
+none-test p w b = not (ltb (first (λ i. p (raw w b i)) (count w b)) (count w b))
+
+-- whole lines that begin a declaration, or none, and no Q line
 unfoldable pub unit-test : ℕ → List ℕ → Bool
-unit-test w u = eqb (length u % lineBytes w) 0 && (eqb (length u) 0 || is-head (raw w u 0))
+unit-test w u = eqb (length u % lineBytes w) 0 && (eqb (length u) 0 || is-head (raw w u 0)) && none-test (is pattern-line) w u
 
 -- the units from here on, `before` being the bytes of those before
 unfoldable pub units-test : ℕ → List ℕ → List ℕ → List ℕ → List (List ℕ) → Bool
@@ -35,11 +43,15 @@ units-test w b header before (u ∷ us) =
     && names-test (program (lines w (header ++ before ++ u))) (program (lines w b)) (program-names (program (lines w (header ++ u))))
     && units-test w b header (before ++ u) us
 
-unfoldable pub cut-test : ℕ → List ℕ → List (List ℕ) → Bool
-cut-test w header units =
-    eqb (length header % lineBytes w) 0
-    && not (ltb (first (λ i. is-head (raw w header i)) (count w header)) (count w header))
-    && units-test w (header ++ join units) header [] units
+-- the N, A and Y lines; Q lines alone
+unfoldable pub header-test : ℕ → List ℕ → Bool
+header-test w header = eqb (length header % lineBytes w) 0 && none-test is-head w header && none-test (is pattern-line) w header
+
+unfoldable pub tail-test : ℕ → List ℕ → Bool
+tail-test w tail = eqb (length tail % lineBytes w) 0 && none-test (λ l. not (is pattern-line l)) w tail
+
+unfoldable pub cut-test : ℕ → List ℕ → List (List ℕ) → List ℕ → Bool
+cut-test w header units tail = header-test w header && units-test w (header ++ join units) header [] units && tail-test w tail
 
 -- ---- a cut that passes it
 and-left : (a b : Bool) → (a && b) ≡ true → a ≡ true
@@ -70,12 +82,19 @@ names-met ds all (k ∷ ns) h n m =
     absurd-of true p q = let z : _≡_ {A = ℕ} 0 1 = cc in omega arith
     absurd-of false p q = let z : _≡_ {A = ℕ} 0 1 = cc in omega arith
 
-unit-met : (w : ℕ) (u : List ℕ) → unit-test w u ≡ true → Declarations w u
+none-met : (p : Line → Bool) (w : ℕ) (b : List ℕ) → none-test p w b ≡ true → Clear (count w b) (λ i. p (raw w b i))
+unfolding none-test
+none-met p w b h =
+    let t : ℕ → Bool = λ i. p (raw w b i) in
+    none-first t (count w b) (omega (arith, ltb-false (first t (count w b)) (count w b) (not-true (ltb (first t (count w b)) (count w b)) h), first-le t (count w b)))
+
+unit-met : (w : ℕ) (u : List ℕ) → unit-test w u ≡ true → Declarations w u × Clear (count w u) (λ i. is pattern-line (raw w u i))
 unfolding unit-test
-unit-met w u h = (
-  eqb-true (length u % lineBytes w) 0 (and-left _ _ h),
-  λ p. ⊎-elim (λ q. absurd (omega (arith, eqb-true (length u) 0 q))) (λ q. q) (or-cases (eqb (length u) 0) (is-head (raw w u 0)) (and-right (eqb (length u % lineBytes w) 0) (eqb (length u) 0 || is-head (raw w u 0)) h)),
-)
+unit-met w u h =
+    let t = all-three (eqb (length u % lineBytes w) 0) (eqb (length u) 0 || is-head (raw w u 0)) (none-test (is pattern-line) w u) h in (
+      (eqb-true (length u % lineBytes w) 0 (t .0), λ p. ⊎-elim (λ q. absurd (omega (arith, eqb-true (length u) 0 q))) (λ q. q) (or-cases (eqb (length u) 0) (is-head (raw w u 0)) (t .1))),
+      none-met (is pattern-line) w u (t .2),
+    )
 
 module _ (w : ℕ) (b header : List ℕ) where
   -- what the test says of the unit after xs
@@ -96,21 +115,23 @@ module _ (w : ℕ) (b header : List ℕ) where
       )
 
 -- The test is enough.
-pub cut-met : (w : ℕ) (header : List ℕ) (units : List (List ℕ)) → cut-test w header units ≡ true → Cut w (header ++ join units) header units
-unfolding cut-test
-cut-met w header units h =
-    let b : List ℕ = header ++ join units in
-    let p : ℕ → Bool = λ i. is-head (raw w header i) in
-    let t = all-three (eqb (length header % lineBytes w) 0) (not (ltb (first p (count w header)) (count w header))) (units-test w b header [] units) h in
-    let u : units-test w b header [] units ≡ true = t .2 in
-    let k : first p (count w header) ≡ count w header =
-    omega (arith, ltb-false (first p (count w header)) (count w header) (not-true (ltb (first p (count w header)) (count w header)) (t .1)), first-le p (count w header)) in
+pub cut-met : (w : ℕ) (header : List ℕ) (units : List (List ℕ)) (tail : List ℕ) → cut-test w header units tail ≡ true → Cut w ((header ++ join units) ++ tail) header units tail
+unfolding cut-test header-test tail-test
+cut-met w header units tail h =
+    let t = all-three (header-test w header) (units-test w (header ++ join units) header [] units) (tail-test w tail) h in
+    let e = all-three (eqb (length header % lineBytes w) 0) (none-test is-head w header) (none-test (is pattern-line) w header) (t .0) in
+    let u : units-test w (header ++ join units) header [] units ≡ true = t .1 in
+    let at : (xs ys : List (List ℕ)) (x : List ℕ) → units ≡ xs ++ (x ∷ ys) → units-test w (header ++ join units) header [] (xs ++ (x ∷ ys)) ≡ true = λ xs ys x e. subst (λ (t : List (List ℕ)). units-test w (header ++ join units) header [] t ≡ true) e u in
     record {
       joined = refl;
-      header-whole = eqb-true (length header % lineBytes w) 0 (t .0);
-      header-only = none-first p (count w header) k;
-      declarations = λ xs ys x e. unit-met w x (at-unit w b header xs ys x [] (subst (λ (t : List (List ℕ)). units-test w b header [] t ≡ true) e u) .0);
+      header-whole = eqb-true (length header % lineBytes w) 0 (e .0);
+      header-only = none-met is-head w header (e .1);
+      header-plain = none-met (is pattern-line) w header (e .2);
+      declarations = λ xs ys x e. unit-met w x (at-unit w (header ++ join units) header xs ys x [] (at xs ys x e) .0) .0;
+      units-plain = λ xs ys x e. unit-met w x (at-unit w (header ++ join units) header xs ys x [] (at xs ys x e) .0) .1;
+      tail-whole = eqb-true (length tail % lineBytes w) 0 (and-left (eqb (length tail % lineBytes w) 0) (none-test (λ l. not (is pattern-line l)) w tail) (t .2));
+      tail-patterns = λ i k. not-false (is pattern-line (raw w tail i)) (none-met (λ l. not (is pattern-line l)) w tail (and-right (eqb (length tail % lineBytes w) 0) (none-test (λ l. not (is pattern-line l)) w tail) (t .2)) i k);
       named = λ whole xs ys x e n m.
-          names-met (program (lines w (header ++ join xs ++ x))) (program (lines w b)) (program-names (program (lines w (header ++ x))))
-          (at-unit w b header xs ys x [] (subst (λ (t : List (List ℕ)). units-test w b header [] t ≡ true) e u) .1) n m;
+          names-met (program (lines w (header ++ join xs ++ x))) (program (lines w (header ++ join units))) (program-names (program (lines w (header ++ x))))
+          (at-unit w (header ++ join units) header xs ys x [] (at xs ys x e) .1) n m;
     }

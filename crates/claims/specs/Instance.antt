@@ -1,4 +1,4 @@
--- The cut on one sheet, three ways: its conditions can be met. Assumes nothing.
+-- The cut on one sheet, three ways, and with Q lines behind it: its conditions can be met. Assumes nothing.
 use mathlib.Core.Path.{_≡_, refl}
 use mathlib.Core.List.{List, [], _∷_, _++_, map}
 use mathlib.Core.Bool.{Bool, true}
@@ -15,8 +15,9 @@ use Rattle.model.specs.Names.{fields-names, ctors-names, body-names, dtype-name
 use Rattle.meaning.specs.Program.{select, before, groups, list-of, tree, trees-after, trees, field-of, ctor-of, body-of, dtype-of, decl-of, program}
 use Rattle.meaning.specs.Rows.{raw}
 use Rattle.answer.specs.Cases.{Case, summary, codes, pad, bytes, joined, given, expected}
-use Rattle.answer.specs.Cut.{build, builds, join, program-names}
-use Rattle.claims.specs.CutTest.{names-test, unit-test, units-test, cut-test, cut-met}
+use Rattle.answer.specs.Cut.{join, program-names}
+use Rattle.answer_patterns.specs.Cut.{build, builds}
+use Rattle.claims.specs.CutTest.{names-test, none-test, unit-test, units-test, header-test, tail-test, cut-test, cut-met}
 use Rattle.claims.specs.Claims.{cut}
 
 -- A lap is a newtype of milliseconds, a crossing holds a lap, milliseconds and an empty tuple, and a result
@@ -65,6 +66,14 @@ result-text =
     ∷ "V     0     0     0     0     0"
     ∷ []
 
+-- the pattern `Lap ms note`
+unfoldable pub pattern-text : List String
+pattern-text =
+    "Q     1     5     0     0     0"
+    ∷ "Q     1     6     0     1     0"
+    ∷ "Q     3     4     2     0     0"
+    ∷ []
+
 -- the same as bytes
 unfoldable pub text : List String → List ℕ
 text ls = joined (map bytes ls)
@@ -80,6 +89,9 @@ crossing = text crossing-text
 
 abbrev pub result : List ℕ
 result = text result-text
+
+abbrev pub lap-pattern : List ℕ
+lap-pattern = text pattern-text
 
 -- the whole is accepted: the lap collapses, the crossing loses its empty tuple
 unfoldable pub whole-case : Case
@@ -115,22 +127,27 @@ unfolding given expected whole-case header-text lap-text crossing-text result-te
 whole-accepted = refl
 
 -- ---- three units; two, with an empty one between them; one, and the rest
-unfoldable pub meets : List (List ℕ) → Bool
-unfolding text header-text lap-text crossing-text result-text codes pad joined names-test unit-test units-test cut-test join step scan read decode decodeNamed decodeRow cell spelling spaces proper lettered first lineAt line linesFrom lines walk gather names-of-cty table position member close close-field close-body close-fields fields-names ctors-names body-names dtype-names undeclared select before groups list-of tree trees-after trees field-of ctor-of body-of dtype-of decl-of program raw program-names
-meets units = cut-test 6 header units
+unfoldable pub meets : List (List ℕ) → List ℕ → Bool
+unfolding text header-text lap-text crossing-text result-text pattern-text codes pad joined names-test none-test unit-test units-test header-test tail-test cut-test join step scan read decode decodeNamed decodeRow cell spelling spaces proper lettered first lineAt line linesFrom lines walk gather names-of-cty table position member close close-field close-body close-fields fields-names ctors-names body-names dtype-names undeclared select before groups list-of tree trees-after trees field-of ctor-of body-of dtype-of decl-of program raw program-names
+meets units tail = cut-test 6 header units tail
 
-way : (u : List ℕ) (us : List (List ℕ)) → meets (u ∷ us) ≡ true → (v l : ℕ) → builds base v l header u us ≡ build base v l (header ++ join (u ∷ us))
+way : (u : List ℕ) (us : List (List ℕ)) (tail : List ℕ) → meets (u ∷ us) tail ≡ true → (v l : ℕ) → builds base 256 v l header u us tail ≡ build base 256 v l ((header ++ join (u ∷ us)) ++ tail)
 unfolding meets
-way u us h v l = cut base v l (header ++ join (u ∷ us)) header u us (omega arith) (cut-met 6 header (u ∷ us) h)
+way u us tail h v l = cut base 256 v l ((header ++ join (u ∷ us)) ++ tail) header u us tail (omega arith) (cut-met 6 header (u ∷ us) tail h)
 
-pub three-units : (v l : ℕ) → builds base v l header lap (crossing ∷ result ∷ []) ≡ build base v l (header ++ join (lap ∷ crossing ∷ result ∷ []))
+pub three-units : (v l : ℕ) → builds base 256 v l header lap (crossing ∷ result ∷ []) [] ≡ build base 256 v l ((header ++ join (lap ∷ crossing ∷ result ∷ [])) ++ [])
 unfolding meets
-three-units = way lap (crossing ∷ result ∷ []) refl
+three-units = way lap (crossing ∷ result ∷ []) [] refl
 
-pub with-an-empty-unit : (v l : ℕ) → builds base v l header (lap ++ crossing) ([] ∷ result ∷ []) ≡ build base v l (header ++ join ((lap ++ crossing) ∷ [] ∷ result ∷ []))
+pub with-an-empty-unit : (v l : ℕ) → builds base 256 v l header (lap ++ crossing) ([] ∷ result ∷ []) [] ≡ build base 256 v l ((header ++ join ((lap ++ crossing) ∷ [] ∷ result ∷ [])) ++ [])
 unfolding meets
-with-an-empty-unit = way (lap ++ crossing) ([] ∷ result ∷ []) refl
+with-an-empty-unit = way (lap ++ crossing) ([] ∷ result ∷ []) [] refl
 
-pub two-units : (v l : ℕ) → builds base v l header lap ((crossing ++ result) ∷ []) ≡ build base v l (header ++ join (lap ∷ (crossing ++ result) ∷ []))
+pub two-units : (v l : ℕ) → builds base 256 v l header lap ((crossing ++ result) ∷ []) [] ≡ build base 256 v l ((header ++ join (lap ∷ (crossing ++ result) ∷ [])) ++ [])
 unfolding meets
-two-units = way lap ((crossing ++ result) ∷ []) refl
+two-units = way lap ((crossing ++ result) ∷ []) [] refl
+
+-- the pattern goes with the last unit
+pub with-a-pattern : (v l : ℕ) → builds base 256 v l header lap (crossing ∷ result ∷ []) lap-pattern ≡ build base 256 v l ((header ++ join (lap ∷ crossing ∷ result ∷ [])) ++ lap-pattern)
+unfolding meets
+with-a-pattern = way lap (crossing ∷ result ∷ []) lap-pattern refl
