@@ -1,0 +1,4 @@
+pub mod Deciding
+pub mod SameLaws
+pub mod Patterned
+pub mod PatternedLaws
