@@ -1,36 +1,55 @@
 -- What the owner of the build's memory needs to know of a sheet that passed rows 1 to 7. Assumes nothing.
-use mathlib.Core.Path.{_≡_, refl, ap, sym, _∙_}
-use mathlib.Core.List.{List, _++_}
-use Prim.Native.Nat.{ℕ, _+_, _-_, _*_, _≤_, _<_}
+use mathlib.Core.Path.{_≡_, refl, ap, sym, _∙_, subst}
+use mathlib.Core.List.{List, [], _∷_, _++_, append-nil}
+use Prim.Native.Nat.{ℕ, suc, _+_, _-_, _*_, _≤_, _<_}
 use native.Mathlib.Omega.{arith}
-use lib.ListN.{length, take, drop, replicate, length-replicate}
+use lib.ListN.{length, take, drop, replicate, length-replicate, length-drop, take-append-drop}
 use lib.Seq.{take-at, drop-at, take-take, take-add, length-take-le}
 use borrow.Rule.Slice.PartMut.{putMid}
 use Rattle.sheet.specs.Format.{base}
 use Rattle.sheet.specs.Line.{Line}
-use mathlib.Core.Bool.{false}
+use mathlib.Core.Bool.{true, false}
 use Rattle.sheet.specs.Sheet.{count, lines, row1}
 use Rattle.walk_cells.specs.Cells.{lines-of}
 use Rattle.meaning_bares.specs.PlaceLaws.{count-bare}
 use Rattle.answer.specs.declared.Refusal.{Refusal}
 use Rattle.answer.specs.declared.Refusal.the-variants.{Accepted, Refused}
 use Rattle.answer.specs.Answer.{sheet-rows, refusal}
-use Rattle.answer.specs.Cut.{Call}
+use Rattle.answer.specs.Cut.{Whole}
+use Rattle.answer_laws.specs.Answer.{accepted-clear, clear-accepted}
+use Rattle.rows_patterns.specs.Kept.{Held}
+use Rattle.sheet.specs.SheetLaws.{length-lines}
+use Rattle.answer_patterns.specs.Cut.{Call}
 use Rattle.row4_limits.specs.declared.Counts.{Counts}
 use Rattle.row4_limits.specs.Limits.{counts-of}
 use Rattle.table_declared.specs.Passed.{Passed}
 use Rattle.rows_refusals.specs.declared.Checked as rows
 use Rattle.rows_refusals.specs.Rows.{with-counts, checked-of, Checks}
-use Rattle.rows_refusals.specs.RowsLaws.{checked-accepted}
+use Rattle.rows_refusals.specs.RowsLaws.{checked-accepted, accepted-rows}
 use Rattle.table_access.specs.declared.Sizes.{Sizes}
 use Rattle.table_access.specs.Tables.{sizes-of, cell-count, lines-in, Tabled}
 use Rattle.table_sizes.specs.Sizing.{behind, lines-behind, Counted}
 use Rattle.table_sizes.specs.SizingLaws.{count-all, cells-few}
 use Rattle.answer_built.specs.declared.Built.{Built}
 use Rattle.answer_built.specs.Built.{refused-as, Gives, given}
-use Rattle.answer_built.specs.BuiltLaws.{rows-sheet, gives-refused}
-use Rattle.build_deciding.specs.Deciding.{Read}
-use Rattle.build.specs.Build.{Checked, Lined}
+use Rattle.sheet.specs.Line.{isBad}
+use Rattle.sheet.specs.Sheet.{line, linesFrom, first, row2}
+use Rattle.sheet.specs.FirstLaws.{none-first}
+use Rattle.meaning.specs.Rows.{raws, row3}
+use Rattle.answer.specs.Answer.{Clear}
+use Rattle.answer_patterns.specs.Whole as whole
+use Rattle.answer_patterns.specs.Whole.{front-count, front, tail}
+use Rattle.answer_patterns.specs.Parts.{NoPattern, row1-whole, front-whole, front-none, tail-whole, tail-begins, line-tail, counts-add, count-front}
+use Rattle.answer_patterns.specs.Parted.{Parted}
+use Rattle.answer_patterns.specs.Order.{passed-plain}
+use Rattle.answer_patterns.specs.Plain.{sheet-refusal-plain}
+use Rattle.answer_patterns.specs.Refusals as refusals
+use Rattle.answer_patterns.specs.Refusals.{front-row1}
+use Rattle.answer_patterns.specs.Rows.{rows-sheet}
+use Rattle.build_patterns.specs.Patterned.{Tailed}
+use Rattle.answer_built.specs.BuiltLaws.{gives-refused}
+use Rattle.build_patterns.specs.Deciding.{Read}
+use Rattle.build.specs.Build.{Checked, Lined, Refuses, Breaks}
 
 -- ---- the cells of lines in the table
 -- what was lent behind the header comes back
@@ -116,15 +135,167 @@ pub read-of : (b t : List ℕ) (z : Sizes) (t′ : List ℕ) → Lined b t z →
 read-of b t z t′ c m e =
     record { of = record { tabled = m; short = c .accepts .short; no-bad = c .accepts .no-bad; lines-are = e ∙ c .lines-are; bounded = rw e (c .bounded) }; sheet = c .accepts .sheet }
 
+-- ---- a sheet without Q lines
+pub tailed-none : (b : List ℕ) → row1 base b ≡ false → refusal (sheet-rows base b) ≡ Accepted → Tailed b [] []
+unfolding lines linesFrom lines-of first
+tailed-none b short e =
+    let plain : NoPattern 6 b = passed-plain 6 b (none-first (row3 (raws 6 b)) (suc (count 6 b)) (accepted-rows b e .in-order)) in
+    record {
+      parted = record { front-whole = row1-whole base b short; plain = plain; tail-whole = refl; begins = λ h. absurd (omega (arith, h)); no-bad = λ i h. absurd (omega (arith, h)) };
+      sheet = ap (λ (x : List ℕ). refusal (whole.sheet-rows base 256 x)) (append-nil b) ∙ (sheet-refusal-plain base 256 b (row1-whole base b short) plain ∙ e);
+      cells = refl;
+      sized = refl;
+      few = omega arith;
+      good = refl;
+    }
+
+-- what a call gives of it
+pub gives-all : (b v l : List ℕ) (r : Built) (v′ l′ : List ℕ) → Gives (b ++ []) v l r v′ l′ → Gives b v l r v′ l′
+gives-all b v l r v′ l′ g = subst (λ (x : List ℕ). Gives x v l r v′ l′) (append-nil b) g
+
 -- ---- a refusal of rows 1 to 7
 refused-of : (b : List ℕ) (q : Refusal) (k : Counts) (code place : ℕ) → refusal (sheet-rows base b) ≡ q → with-counts q k .refusal ≡ Refused code place → refusal (sheet-rows base b) ≡ Refused code place
 refused-of b Accepted k code place e h = let z : _≡_ {A = ℕ} 0 1 = cc in absurd (omega arith)
 refused-of b (Refused c p) k code place e h = e ∙ h
 
-pub gives-sheet : (b v l : List ℕ) (code place : ℕ) → checked-of b .refusal ≡ Refused code place → Gives b v l (refused-as code place) v l
+-- as the rows of declarations refuse it
+pub refuses-of : (b : List ℕ) (room code place : ℕ) → row1 base b ≡ false → checked-of b .refusal ≡ Refused code place → 8 * count 6 b + 16 ≤ room → Refuses b room code place
 unfolding checked-of
+refuses-of b room code place short e h = record { short = short; refused = refused-of b (refusal (sheet-rows base b)) (counts-of (lines 6 b)) code place refl e; roomy = h }
+
+-- by the rows of both parts
+pub gives-sheet : (b v l : List ℕ) (code place : ℕ) → refusal (whole.sheet-rows base 256 b) ≡ Refused code place → Gives b v l (refused-as code place) v l
 gives-sheet b v l code place e =
-    gives-refused b v l code place (rows-sheet b (length v) (length l) code place (refused-of b (refusal (sheet-rows base b)) (counts-of (lines 6 b)) code place refl e))
+    gives-refused b (front 6 b) (tail 6 b) v l refl refl code place (rows-sheet base 256 b (front 6 b) (tail 6 b) refl refl (length v) (length l) code place e)
+
+-- row 1 refuses
+one-refused : (b : List ℕ) → row1 base b ≡ true → refusal (whole.sheet-rows base 256 b) ≡ Refused 1 0
+unfolding whole.sheet-rows refusal first
+one-refused b e = rw e refl
+
+pub gives-one : (b v l : List ℕ) → row1 base b ≡ true → Gives b v l (refused-as 1 0) v l
+gives-one b v l e = gives-sheet b v l 1 0 (one-refused b e)
+
+-- ---- a sheet whose Q lines begin at line m
+module _ (b : List ℕ) (room m at : ℕ) (r : Breaks b room m) (e : at ≡ m * 32) where
+  whole-b : Whole 6 b
+  whole-b = row1-whole base b (r .short)
+
+  first-is : take at b ≡ front 6 b
+  unfolding front
+  first-is = let k : at ≡ 32 * front-count 6 b = e ∙ (omega (arith, r .begins)) in ap (λ (n : ℕ). take n b) k
+
+  rest-is : drop at b ≡ tail 6 b
+  unfolding tail
+  rest-is = let k : at ≡ 32 * front-count 6 b = e ∙ (omega (arith, r .begins)) in ap (λ (n : ℕ). drop n b) k
+
+  pub parts-join : take at b ++ drop at b ≡ b
+  parts-join = take-append-drop at b
+
+  two : Clear (count 6 b) (λ i. isBad (line 6 b i))
+  unfolding row2
+  two = none-first (λ i. isBad (line 6 b i)) (count 6 b) (r .no-bad)
+
+  pub parted-of : Parted 6 (take at b) (drop at b)
+  parted-of =
+      rw (first-is, rest-is)
+      (record {
+        front-whole = front-whole 6 b;
+        plain = front-none 6 b;
+        tail-whole = tail-whole 6 b whole-b;
+        begins = tail-begins 6 b;
+        no-bad = λ i h. ap isBad (line-tail 6 b i) ∙ two (front-count 6 b + i) (omega (arith, h, counts-add 6 b, count-front 6 b));
+      })
+
+  pub front-short : row1 base (take at b) ≡ false
+  front-short = rw first-is (front-row1 base 256 b (front 6 b) (tail 6 b) refl refl (r .short) two)
+
+  pub front-good : Clear (count 6 (take at b)) (λ i. isBad (line 6 (take at b) i))
+  front-good = rw first-is (refusals.front-good base 256 b (front 6 b) (tail 6 b) refl refl (r .short) two)
+
+  pub front-lines : count 6 (take at b) ≡ m
+  front-lines = ap (count 6) first-is ∙ (count-front 6 b ∙ r .begins)
+
+  -- where no row applies to both parts, none applies to the declarations
+  pub front-passes : refusal (whole.sheet-rows base 256 b) ≡ Accepted → refusal (sheet-rows base (take at b)) ≡ Accepted
+  unfolding whole.sheet-rows sheet-rows
+  front-passes e =
+      let h = accepted-clear (whole.sheet-rows base 256 b) e in
+      rw first-is
+      (clear-accepted (sheet-rows base (front 6 b)) (
+        (λ i k. front-row1 base 256 b (front 6 b) (tail 6 b) refl refl (r .short) two),
+        (
+          refusals.front-good base 256 b (front 6 b) (tail 6 b) refl refl (r .short) two,
+          (h .1 .1 .0, (h .1 .1 .1 .1 .0, (h .1 .1 .1 .1 .1 .1 .0, (h .1 .1 .1 .1 .1 .1 .1 .1 .0, (h .1 .1 .1 .1 .1 .1 .1 .1 .1 .0, tt))))),
+        ),
+      ))
+
+-- the parts as they are lent
+pub cut-first : (b : List ℕ) (at : ℕ) → take (at - 0) b ≡ take at b
+cut-first b at = let e : at - 0 ≡ at = omega arith in ap (λ (n : ℕ). take n b) e
+
+pub cut-rest : (b : List ℕ) (at : ℕ) → take (length b - at) (drop at b) ≡ drop at b
+cut-rest b at = ap (take (length b - at)) (sym (append-nil (drop at b))) ∙ take-at (drop at b) [] (length b - at) (length-drop at b)
+
+module _ (b : List ℕ) (room m : ℕ) (r : Breaks b room m) where
+  abbrev before : List ℕ
+  before = take (m * 32 - 0) b
+
+  abbrev behind-it : List ℕ
+  behind-it = take (length b - m * 32) (drop (m * 32) b)
+
+  pub cut-joined : before ++ behind-it ≡ b
+  cut-joined = rw (cut-first b (m * 32), cut-rest b (m * 32)) (parts-join b room m (m * 32) r refl)
+
+  pub cut-parted : Parted 6 before behind-it
+  cut-parted = rw (cut-first b (m * 32), cut-rest b (m * 32)) (parted-of b room m (m * 32) r refl)
+
+  pub cut-row1 : row1 base (before ++ behind-it) ≡ false
+  cut-row1 = rw cut-joined (r .short)
+
+  pub cut-short : row1 base before ≡ false
+  cut-short = rw (cut-first b (m * 32)) (front-short b room m (m * 32) r refl)
+
+  pub cut-good : Clear (count 6 before) (λ i. isBad (line 6 before i))
+  cut-good = rw (cut-first b (m * 32)) (front-good b room m (m * 32) r refl)
+
+  pub cut-lines : count 6 before ≡ m
+  cut-lines = ap (count 6) (cut-first b (m * 32)) ∙ front-lines b room m (m * 32) r refl
+
+  -- what the test of both parts tells, where no row applies
+  module _ (e : refusal (whole.sheet-rows base 256 (before ++ behind-it)) ≡ Accepted) where
+    pub cut-passes : refusal (sheet-rows base before) ≡ Accepted
+    cut-passes =
+        let k : refusal (whole.sheet-rows base 256 b) ≡ Accepted = ap (λ (x : List ℕ). refusal (whole.sheet-rows base 256 x)) (sym cut-joined) ∙ e in
+        ap (λ (x : List ℕ). refusal (sheet-rows base x)) (cut-first b (m * 32)) ∙ front-passes b room m (m * 32) r refl k
+
+    pub tailed-of : (q p : List ℕ) → Held before behind-it q → 1536 ≤ length q → p ≡ take (6 * count 6 behind-it) q → Tailed before behind-it p
+    tailed-of q p h l k =
+        let c : lines-of p ≡ lines 6 behind-it = ap lines-of k ∙ h .lines-are in
+        let n : length p ≡ 6 * count 6 behind-it = ap length k ∙ length-take-le (6 * count 6 behind-it) q (omega (arith, l, h .few)) in
+        record {
+          parted = cut-parted;
+          sheet = e;
+          cells = c;
+          sized = n;
+          few = omega (arith, n, h .few);
+          good = rw (c, length-lines 6 behind-it) (h .in-range);
+        }
+
+    pub tailed-part : (q : List ℕ) (k : ℕ) → Held before behind-it q → 1536 ≤ length q → k ≡ 6 * count 6 behind-it → Tailed before behind-it (take k q)
+    tailed-part q k h l x = tailed-of q (take k q) h l (ap (λ (n : ℕ). take n q) x)
+
+  pub gives-cut : (v l : List ℕ) (g : Built) (v′ l′ : List ℕ) → Gives (before ++ behind-it) v l g v′ l′ → Gives b v l g v′ l′
+  gives-cut v l g v′ l′ w = subst (λ (x : List ℕ). Gives x v l g v′ l′) cut-joined w
+
+-- the refusal of the declarations alone
+pub refusal-is : (b : List ℕ) (r : rows.Checked) → r ≡ checked-of b → r .refusal ≡ refusal (sheet-rows base b)
+unfolding checked-of
+refusal-is b r e = ap (λ (k : rows.Checked). k .refusal) e ∙ go (refusal (sheet-rows base b)) (counts-of (lines 6 b))
+  where
+    go : (q : Refusal) (k : Counts) → with-counts q k .refusal ≡ q
+    go Accepted k = refl
+    go (Refused c p) k = refl
 
 -- ---- parts of arrays
 -- the first n cells
@@ -133,5 +304,5 @@ part-length m n h = let e : n - 0 ≡ n = omega arith in rw e (length-take-le n 
 
 -- ---- calls
 -- A call of the build is a call that the claims speak of (`cut-calls`).
-pub call-of : (b v l : List ℕ) (r : Built) (v′ l′ : List ℕ) → Gives b v l r v′ l′ → Call base
+pub call-of : (b v l : List ℕ) (r : Built) (v′ l′ : List ℕ) → Gives b v l r v′ l′ → Call base 256
 call-of b v l r v′ l′ g = record { sheet = b; verdict = v; left = l; gave = given r v′ l′; is-called = g .is-called }

@@ -1,88 +1,43 @@
 -- From what the passes find to what the rows after them ask. Assumes nothing.
-use mathlib.Core.Bool.{Bool, true, false}
-use mathlib.Core.Path.{_≡_, refl, sym, _∙_, ap, ap₂, subst}
-use mathlib.Core.List.{List, [], _∷_, map}
+use mathlib.Core.Path.{_≡_, sym, _∙_, ap, subst}
+use mathlib.Core.List.{List, [], _∷_, _++_, append-nil}
 use Prim.Native.Nat.{ℕ, _≤_, _<_}
 use native.Mathlib.Omega.{arith}
-use lib.Dec.{ltb}
-use lib.ListN.{length, length-map}
+use lib.ListN.{length}
 use borrow.Author.Tests.{lt-ltb, le-ltb}
 use Rattle.sheet.specs.Format.{base}
 use Rattle.sheet.specs.Line.{Line}
-use Rattle.sheet.specs.Sheet.{first, count, lines}
-use Rattle.sheet.specs.SheetLaws.{length-lines}
-use Rattle.walk_cells.specs.Cells.{bare}
-use Rattle.meaning_bares.specs.ProgramLaws.{program-bare}
-use Rattle.model.specs.Decl.{Decl}
-use Rattle.answer.specs.Answer.{Row, line-row, row8, row9-10, fault-at, refusal}
+use Rattle.sheet.specs.ListLaws.{length-nil}
 use Rattle.sheet.specs.FirstLaws.{first-le}
 use Rattle.model.specs.Reach.{cyclic}
 use Rattle.model.specs.Run.{run, layouts-of, unfold-next}
 use Rattle.meaning.specs.Program.{program}
 use Rattle.meaning_laws.specs.Program.{length-program}
-use Rattle.answer.specs.declared.Refusal.{Refusal}
+use Rattle.answer.specs.Answer.{refusal}
 use Rattle.answer.specs.declared.Refusal.the-variants.{Accepted, Refused}
+use Rattle.answer_laws.specs.Build.{whole-length, row1-small}
+use Rattle.answer_patterns.specs.Whole.{front, tail}
+use Rattle.answer_patterns.specs.Rows.{rows-eight, rows-faults}
 use Rattle.row4_limits.specs.Limits.{start}
 use Rattle.table_declared.specs.Passed.{Passed}
-use Rattle.table_declared.specs.BareLaws.{place8-bare, fault-bare, place9-10-bare}
-use Rattle.table_declared.specs.PassedLaws.{decls-within}
 use Rattle.table_access.specs.Tables.{decls-of, lines-in}
-use Rattle.table_access.specs.OfSheet.{OfSheet, program-same}
-use Rattle.rows_heads.specs.HeadRows.{returns-row, faults-row, resolvable}
+use Rattle.rows_heads.specs.HeadRows.{faults-row}
 use Rattle.set_search.specs.Loops.{First}
 use Rattle.row8_returning.specs.ReturningLaws.{no-return, ranked-all}
 use Rattle.row9_faults.specs.Attempts.{Asked}
-use Rattle.answer_built.specs.Built.{refused-as, Gives}
-use Rattle.answer_built.specs.BuiltLaws.{row8-alone, faults-alone, rows-eight, rows-faults, rows-eleven, input-accepted, gives-refused}
-use Rattle.build_sheets.specs.Sheets.{Lent}
+use Rattle.answer_built.specs.declared.Built.{Built}
+use Rattle.answer_built.specs.Built.{refused-as, Gives, GivesFront}
+use Rattle.answer_built.specs.BuiltLaws.{row8-alone, front-input, front-eleven, front-refused, gives-refused, gives-plain}
 use Rattle.build_passes.specs.declared.Run.{Run}
 use Rattle.build_passes.specs.Passes.{Ran}
-use Rattle.build_deciding.specs.Deciding.{Read, Found, Clear}
+use Rattle.build_patterns.specs.Deciding.{Read, Found, Clear}
+use Rattle.build_patterns.specs.Patterned.{Tailed}
+use Rattle.build_patterns.specs.PatternedLaws.{parted-front, parted-tail}
+use Rattle.build_patterns.specs.SameLaws.{eight-same, faults-same}
 use Rattle.row8_returning.specs.RowLaws as rows
 
--- ---- the rows of the table's lines are those of the bytes
--- what a row alone tells, where i is the first number below its bound m at which its test holds
-abbrev told : Row → ℕ → ℕ → Refusal
-told r i m = elim (ltb i m) [ true ↦ Refused (r .code i) (r .place i) | false ↦ Accepted ]
-
--- rows with one bound and one such number, and one code and place
-same-refusal : (r q : Row) → r .bound ≡ q .bound → first (r .test) (r .bound) ≡ first (q .test) (q .bound) → ((i : ℕ) → r .code i ≡ q .code i) → ((i : ℕ) → r .place i ≡ q .place i) → refusal (r ∷ []) ≡ refusal (q ∷ [])
-unfolding refusal
-same-refusal r q n e c p = go (first (r .test) (r .bound)) (first (q .test) (q .bound)) (r .bound) (q .bound) e n
-  where
-    at : (j : ℕ) (z : Bool) → _≡_ {A = Refusal} (elim z [ true ↦ Refused (r .code j) (r .place j) | false ↦ Accepted ]) (elim z [ true ↦ Refused (q .code j) (q .place j) | false ↦ Accepted ])
-    at j true = rw (c j, p j)
-    at j false = refl
-
-    go : (i j m k : ℕ) → i ≡ j → m ≡ k → told r i m ≡ told q j k
-    go i j m k x y = ap₂ (told r) x y ∙ at j (ltb j k)
-
-module _ (b t : List ℕ) (of : OfSheet b t) where
-  abbrev in-t : List Line
-  in-t = lines-in t
-
-  lines-many : length (lines 6 b) ≡ count 6 b
-  lines-many = length-lines 6 b
-
-  pub eight-same : refusal (returns-row in-t ∷ []) ≡ row8-alone b
-  eight-same =
-      let p : program in-t ≡ program (lines 6 b) = program-same b t of in
-      ap (λ (ls : List Line). refusal (returns-row ls ∷ [])) (of .lines-are)
-      ∙ same-refusal (returns-row (map bare (lines 6 b))) (line-row 8 (count 6 b) (row8 (program (lines 6 b)) (lines 6 b))) (length-map (lines 6 b) bare ∙ lines-many)
-      (ap (λ (ds : List Decl). first (row8 ds (map bare (lines 6 b))) (length (map bare (lines 6 b)))) (program-bare (lines 6 b)) ∙ place8-bare (lines 6 b) (program (lines 6 b)) ∙ ap (first (row8 (program (lines 6 b)) (lines 6 b))) lines-many)
-      (λ i. refl) (λ i. refl)
-
-  pub faults-same : refusal (faults-row base in-t ∷ []) ≡ faults-alone b
-  faults-same =
-      ap (λ (ls : List Line). refusal (faults-row base ls ∷ [])) (of .lines-are)
-      ∙ same-refusal (faults-row base (map bare (lines 6 b)))
-      (record { bound = count 6 b; test = row9-10 base (program (lines 6 b)) (lines 6 b); code = fault-at base (program (lines 6 b)) (lines 6 b); place = λ i. i })
-      (length-map (lines 6 b) bare ∙ lines-many)
-      (ap (λ (ds : List Decl). first (row9-10 base ds (map bare (lines 6 b))) (length (map bare (lines 6 b)))) (program-bare (lines 6 b)) ∙ place9-10-bare (lines 6 b) (program (lines 6 b)) base ∙ ap (first (row9-10 base (program (lines 6 b)) (lines 6 b))) lines-many)
-      (λ i. ap (λ (ds : List Decl). fault-at base ds (map bare (lines 6 b)) i) (program-bare (lines 6 b)) ∙ fault-bare (lines 6 b) (program (lines 6 b)) base i) (λ i. refl)
-
 -- ---- row 8
-module _ (b t keep u : List ℕ) (r : Run) (rank rank′ : List ℕ) (read : Read b t) (ran : Ran (lines-in t) keep u r rank rank′) where
+module _ (b t keep u z q : List ℕ) (r : Run) (rank rank′ : List ℕ) (read : Read b t) (tailed : Tailed b z q) (ran : Ran (lines-in t) keep u r rank rank′) where
   abbrev ls : List Line
   ls = lines-in t
 
@@ -93,10 +48,12 @@ module _ (b t keep u : List ℕ) (r : Run) (rank rank′ : List ℕ) (read : Rea
   p = read .of .tabled .passed
 
   -- a declaration returns to itself
-  pub gives-eight : (v l : List ℕ) → r .returning < n → Gives b v l (refused-as 8 (start ls (r .returning))) v l
+  pub gives-eight : (v l : List ℕ) → r .returning < n → Gives (b ++ z) v l (refused-as 8 (start ls (r .returning))) v l
   gives-eight v l h =
-      gives-refused b v l 8 (start ls (r .returning))
-      (rows-eight b (length v) (length l) (read .sheet) 8 (start ls (r .returning))
+      let x = parted-front b z (tailed .parted) in
+      let y = parted-tail b z (tailed .parted) in
+      gives-refused (b ++ z) b z v l x y 8 (start ls (r .returning))
+      (rows-eight base 256 (b ++ z) b z x y (length v) (length l) (tailed .sheet) 8 (start ls (r .returning))
       (sym (eight-same b t (read .of)) ∙ rows.row8-alone ls (r .returning) rank rank′ (ran .judged .first-of) ∙ rw (lt-ltb (r .returning) n h)))
 
   all : n ≤ r .returning → r .returning ≡ n
@@ -122,36 +79,42 @@ module _ (b t keep u : List ℕ) (r : Run) (rank rank′ : List ℕ) (read : Rea
   rounds-of = ran .counted
 
 -- ---- rows 9 to 11
-module _ (b t u rank keep : List ℕ) (f : Found b t u rank keep) where
+module _ (b t u rank keep z q : List ℕ) (f : Found b t u rank keep) (tailed : Tailed b z q) where
   eight-bytes : row8-alone b ≡ Accepted
   eight-bytes = sym (eight-same b t (f .read .of)) ∙ f .eight
+
+  at-front : front 6 (b ++ z) ≡ b
+  at-front = parted-front b z (tailed .parted)
+
+  at-tail : tail 6 (b ++ z) ≡ z
+  at-tail = parted-tail b z (tailed .parted)
 
   pub asked-of : Asked (lines-in t) t u keep
   asked-of = record { tabled = f .ranked .tabled; bounded = f .read .of .bounded; settled = f .settled; slotted = f .slotted; fields = f .keeps; no-return = f .no-return }
 
-  pub gives-faults : (v l : List ℕ) (code place : ℕ) → refusal (faults-row base (lines-in t) ∷ []) ≡ Refused code place → Gives b v l (refused-as code place) v l
+  pub gives-faults : (v l : List ℕ) (code place : ℕ) → refusal (faults-row base (lines-in t) ∷ []) ≡ Refused code place → Gives (b ++ z) v l (refused-as code place) v l
   gives-faults v l code place e =
-      gives-refused b v l code place (rows-faults b (length v) (length l) (f .read .sheet) eight-bytes code place (sym (faults-same b t (f .read .of)) ∙ e))
+      gives-refused (b ++ z) b z v l at-front at-tail code place
+      (rows-faults base 256 (b ++ z) b z at-front at-tail (length v) (length l) (tailed .sheet) eight-bytes code place (sym (faults-same b t (f .read .of)) ∙ e))
 
   pub clear-of : refusal (faults-row base (lines-in t) ∷ []) ≡ Accepted → Clear b t u rank keep
-  clear-of e = record { found = f; faults = e; accepted = input-accepted b (f .read .sheet) eight-bytes (sym (faults-same b t (f .read .of)) ∙ e) }
+  clear-of e = record { found = f; faults = e; accepted = front-input b (f .read .sheet) eight-bytes (sym (faults-same b t (f .read .of)) ∙ e) }
 
-module _ (b t u rank keep : List ℕ) (c : Clear b t u rank keep) where
-  pub gives-eleven : (v l : List ℕ) → length v < length b → Gives b v l (refused-as 11 (length b)) v l
-  gives-eleven v l h = gives-refused b v l 11 (length b) (rows-eleven b (length v) (length l) (c .accepted) h)
+-- ---- a sheet without Q lines
+module _ (b z t q u rank keep : List ℕ) (c : Clear b t u rank keep) (tailed : Tailed b z q) (empty : length q ≡ 0) where
+  no-tail : z ≡ []
+  no-tail = length-nil z (whole-length 6 z (tailed .parted .tail-whole) ∙ omega (arith, tailed .sized, empty))
 
-  pub lent-of : (v : List ℕ) → length b ≤ length v → Lent b t u rank keep v 98496 1024 1024
-  lent-of v h =
-      record {
-        of = c .found .read .of;
-        accepted = c .accepted;
-        ranked = c .found .ranked;
-        settled = c .found .settled;
-        slotted = c .found .slotted;
-        resolvable = resolvable base (lines-in t) (c .found .eight) (c .faults);
-        keeps = c .found .keeps;
-        verdict-room = h;
-        cells = omega (arith, decls-within base (lines-in t) (c .found .read .of .bounded));
-        small = omega arith;
-        stacked = omega arith;
-      }
+  all-front : b ++ z ≡ b
+  all-front = ap (λ (x : List ℕ). b ++ x) no-tail ∙ append-nil b
+
+  pub gives-front : (v l : List ℕ) (r : Built) (v′ l′ : List ℕ) → GivesFront b v l r v′ l′ → Gives (b ++ z) v l r v′ l′
+  gives-front v l r v′ l′ g = rw all-front (gives-plain b v l r v′ l′ (tailed .parted .plain) g)
+
+  pub gives-eleven : (v l : List ℕ) → length v < length b → Gives (b ++ z) v l (refused-as 11 (length b)) v l
+  gives-eleven v l h =
+      gives-front v l (refused-as 11 (length b)) v l
+      (front-refused b v l 11 (length b) (omega (arith, small)) (front-eleven b (length v) (length l) (c .accepted) h))
+    where
+      small : length b ≤ 65536
+      small = row1-small base b (c .found .read .of .short)

@@ -1,22 +1,19 @@
 -- `build::build` meets its contract: row 1, and then the rest with as many cells as the lines need. Assumes nothing.
-use mathlib.Core.Path.{_≡_, ap, sym, _∙_}
+use mathlib.Core.Path.{_≡_, sym, _∙_}
 use mathlib.Core.Bool.{false}
 use native.Mathlib.Omega.{arith}
 use borrow.Author.Needs.{needs}
 use Rattle.sheet.specs.Format.{base}
 use Rattle.sheet.specs.Sheet.{row1}
 use Rattle.row4_limits.specs.LimitsLaws.{short-bytes}
-use Rattle.rows_refusals.specs.declared.Checked.{Checked}
-use Rattle.rows_refusals.specs.RowsLaws.{at1}
-use Rattle.build.specs.BuildLaws.{gives-sheet}
+use Rattle.build.specs.BuildLaws.{gives-one}
 use Rattle.build.proofs.build.Statement.{statement}
 use Rattle.build.proofs.build.Tie as tie
 
 returns : tie.Need-returns
 returns c =
     let a = c .before .before .before .before .before .before .args in
-    rw (c .refused .ensures)
-    (gives-sheet (a .s .now) (a .v .now) (a .l .now) 1 0 (ap (λ (k : Checked). k .refusal) (at1 (a .s .now) (sym (c .before .before .row1 .ensures) ∙ c .before .if1 .taken))))
+    rw (c .refused .ensures) (gives-one (a .s .now) (a .v .now) (a .l .now) (sym (c .before .before .row1 .ensures) ∙ c .before .if1 .taken))
 
 checked-requires : tie.Need-checked-requires
 checked-requires c κs =

@@ -6,9 +6,9 @@ use Rattle.build.proofs.lined.Tie as tie
 
 tabled-requires : tie.Need-tabled-requires
 tabled-requires c κs =
-    let a = c .before .before .before .before .before .before .before .before .before .before .before in
+    let a = c .before .before .before .before .before .before .before .before .before .before .before .before .before in
     let f = c .before .before .before .before .before .fill .ensures in
-    read-of (a .args .s .now) (a .args .t .now) (a .args .z) _ (a .pre) (f .0) (f .1)
+    (read-of (a .args .a .now) (a .args .t .now) (a .args .sizes) _ (a .pre .0) (f .0) (f .1), a .pre .1)
 
 pub lined-spec : {M : Type 1} → statement M
 lined-spec =

@@ -9,24 +9,24 @@ use Rattle.build.proofs.passed.Tie as tie
 
 sizes-requires : tie.Need-sizes-requires
 sizes-requires c κs =
-    let a = c .before .before .before .before .before in
-    counted-of (a .args .s .now) (a .args .t .now) (a .args .c) (a .pre) _ refl
+    let a = c .before .before .before .before .before .before .before in
+    counted-of (a .args .a .now) (a .args .t .now) (a .args .c) (a .pre .0) _ refl
 
 cells-requires : tie.Need-cells-requires
 cells-requires c κs =
-    let a = c .before .before .before .before .before .before in
-    cells-small (a .args .s .now) (a .args .t .now) (a .args .c) (a .pre) (c .sizes .result) (c .sizes .ensures)
+    let a = c .before .before .before .before .before .before .before .before in
+    cells-small (a .args .a .now) (a .args .t .now) (a .args .c) (a .pre .0) (c .sizes .result) (c .sizes .ensures)
 
 part-lined-end : tie.Need-part-lined-end
 part-lined-end c =
-    let a = c .before .before .before .before .before .before .before in
-    let h : c .cells .result ≤ length (a .args .t .now) = part-room (a .args .s .now) (a .args .t .now) (a .args .c) (a .pre) (c .before .sizes .result) (c .before .sizes .ensures) (c .cells .result) (c .cells .ensures) in
+    let a = c .before .before .before .before .before .before .before .before .before in
+    let h : c .cells .result ≤ length (a .args .t .now) = part-room (a .args .a .now) (a .args .t .now) (a .args .c) (a .pre .0) (c .before .sizes .result) (c .before .sizes .ensures) (c .cells .result) (c .cells .ensures) in
     search needs
 
 lined-requires : tie.Need-lined-requires
 lined-requires c κs =
-    let a = c .before .before .before .before .before .before .before .before .before .before in
-    lined-of (a .args .s .now) (a .args .t .now) (a .args .c) (a .pre) (c .before .before .before .before .sizes .result) (c .before .before .before .before .sizes .ensures) (c .before .before .before .cells .result) (c .before .before .before .cells .ensures)
+    let a = c .before .before .before .before .before .before .before .before .before .before .before .before in
+    (lined-of (a .args .a .now) (a .args .t .now) (a .args .c) (a .pre .0) (c .before .before .before .before .sizes .result) (c .before .before .before .before .sizes .ensures) (c .before .before .before .cells .result) (c .before .before .before .cells .ensures), a .pre .1)
 
 pub passed-spec : {M : Type 1} → statement M
 passed-spec =

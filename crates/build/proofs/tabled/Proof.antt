@@ -12,30 +12,30 @@ use Rattle.build.proofs.tabled.Tie as tie
 
 mul-decided : tie.Need-mul-decided
 mul-decided c =
-    let a = c .before .before .before .before .before .before in
-    let h : c .before .decls .result ≤ 96 = rw (c .before .decls .ensures) (decls-within base (lines-in (a .args .t .now)) (a .pre .of .bounded)) in
+    let a = c .before .before .before .before .before .before .before .before in
+    let h : c .before .decls .result ≤ 96 = rw (c .before .decls .ensures) (decls-within base (lines-in (a .args .t .now)) (a .pre .0 .of .bounded)) in
     search needs
 
 part-u-end : tie.Need-part-u-end
 part-u-end c =
-    let a = c .before .before .before .before .before .before in
-    let h : c .before .decls .result ≤ 96 = rw (c .before .decls .ensures) (decls-within base (lines-in (a .args .t .now)) (a .pre .of .bounded)) in
+    let a = c .before .before .before .before .before .before .before .before in
+    let h : c .before .decls .result ≤ 96 = rw (c .before .decls .ensures) (decls-within base (lines-in (a .args .t .now)) (a .pre .0 .of .bounded)) in
     let k : 2 * c .before .decls .result ≤ 192 = omega arith in
     search needs
 
 part-rank-end : tie.Need-part-rank-end
 part-rank-end c =
-    let a = c .before .before .before .before .before .before .before in
-    let h : c .before .before .decls .result ≤ 96 = rw (c .before .before .decls .ensures) (decls-within base (lines-in (a .args .t .now)) (a .pre .of .bounded)) in
+    let a = c .before .before .before .before .before .before .before .before .before in
+    let h : c .before .before .decls .result ≤ 96 = rw (c .before .before .decls .ensures) (decls-within base (lines-in (a .args .t .now)) (a .pre .0 .of .bounded)) in
     search needs
 
 decided-requires : tie.Need-decided-requires
 decided-requires c κs =
-    let a = c .before .before .before .before .before .before .before .before .before .before in
-    let p = a .pre .of .bounded in
+    let a = c .before .before .before .before .before .before .before .before .before .before .before .before in
+    let p = a .pre .0 .of .bounded in
     let e = c .before .before .before .before .before .decls .ensures in
     let h : c .before .before .before .before .before .decls .result ≤ 96 = rw e (decls-within base (lines-in (a .args .t .now)) p) in
-    ((a .pre, fields-within base (lines-in (a .args .t .now)) p), ((part-length 192 (2 * c .before .before .before .before .before .decls .result) (omega arith) ∙ ap (λ (n : ℕ). 2 * n) e, part-length 96 (c .before .before .before .before .before .decls .result) h ∙ e)))
+    ((a .pre .0, a .pre .1, fields-within base (lines-in (a .args .t .now)) p), ((part-length 192 (2 * c .before .before .before .before .before .decls .result) (omega arith) ∙ ap (λ (n : ℕ). 2 * n) e, part-length 96 (c .before .before .before .before .before .decls .result) h ∙ e)))
 
 pub tabled-spec : {M : Type 1} → statement M
 tabled-spec =

@@ -6,12 +6,14 @@ use Rattle.build_deciding.proofs.resolved.Statement.{statement}
 use Rattle.build_deciding.proofs.resolved.Tie as tie
 
 written-requires : tie.Need-written-requires
-written-requires c κs = let p = c .before .before .before .before .before .before .before .before .before .before .before .before .pre in (clear-of _ _ _ _ _ (p .0) (sym (c .before .before .before .before .rows9-10 .ensures) ∙ c .before .before .enum-told .given .1), p .1)
+written-requires c κs =
+    let p = c .before .before .before .before .before .before .before .before .before .before .before .before .before .before .pre in
+    ((clear-of _ _ _ _ _ _ _ (p .0 .0) (p .0 .1) (sym (c .before .before .before .before .rows9-10 .ensures) ∙ c .before .before .enum-told .given .1), p .0 .1), p .1)
 
 returns-2 : tie.Need-returns-2
 returns-2 c =
-    let a = c .before .before .before .before .before .before .before .before .before .before .before .before .args in
-    rw (c .refused .ensures) (gives-faults _ _ _ _ _ (c .before .before .before .before .before .before .before .before .before .before .before .before .pre .0) (a .v .now) (a .l .now) _ _ (sym (c .before .before .before .before .rows9-10 .ensures) ∙ c .before .before .r .given .1))
+    let s = c .before .before .before .before .before .before .before .before .before .before .before .before .before .before in
+    rw (c .refused .ensures) (gives-faults _ _ _ _ _ _ _ (s .pre .0 .0) (s .pre .0 .1) (s .args .v .now) (s .args .l .now) _ _ (sym (c .before .before .before .before .rows9-10 .ensures) ∙ c .before .before .r .given .1))
 
 pub resolved-spec : {M : Type 1} → statement M
 resolved-spec =
