@@ -430,6 +430,7 @@ small = record {
   ctors = 256;
   fields = 512;
   params = 8;
+  patterns = 3;
   nodes = 3;
   fuel = 100;
 }

@@ -21,9 +21,9 @@ given r v l = record { code = r .code; place = r .place; rounds = r .rounds; ver
 -- A call with the sheet b and outputs that hold v and l gives r, and leaves v′ and l′ in the outputs: all that `called` says, which is
 -- the relation of `Call` (`answer_patterns`, Cut), and the lengths of what was written.
 pub record Gives (b v l : List ℕ) (r : Built) (v′ l′ : List ℕ) : Type 0 where
-  pub is-called : given r v′ l′ ≡ called base 256 b v l
-  pub verdict-length : r .verdict ≡ length (answer base 256 b (length v) (length l) .verdict)
-  pub left-length : r .left ≡ length (answer base 256 b (length v) (length l) .left)
+  pub is-called : given r v′ l′ ≡ called base b v l
+  pub verdict-length : r .verdict ≡ length (answer base b (length v) (length l) .verdict)
+  pub left-length : r .left ≡ length (answer base b (length v) (length l) .left)
 
 -- The same of the declarations alone, a sheet without Q lines; its place leaves room for the length of what may follow them.
 pub record GivesFront (b v l : List ℕ) (r : Built) (v′ l′ : List ℕ) : Type 0 where

@@ -135,23 +135,23 @@ module _ (b v l : List ℕ) (r : Built) (v′ l′ : List ℕ) (g : GivesFront b
 
 -- of a sheet that may end in a pattern
 module _ (b a z v l : List ℕ) (at-front : front 6 b ≡ a) (at-tail : tail 6 b ≡ z) where
-  pub gives-refused : (code place : ℕ) → refusal (whole.rows base 256 b (length v) (length l)) ≡ Refused code place → Gives b v l (refused-as code place) v l
+  pub gives-refused : (code place : ℕ) → refusal (whole.rows base b (length v) (length l)) ≡ Refused code place → Gives b v l (refused-as code place) v l
   gives-refused code place e =
-      let x = answer-refused base 256 b a z at-front at-tail (length v) (length l) code place e in
+      let x = answer-refused base b a z at-front at-tail (length v) (length l) code place e in
       record {
-        is-called = sym (called-refused base 256 b a z at-front at-tail v l code place e);
+        is-called = sym (called-refused base b a z at-front at-tail v l code place e);
         verdict-length = ap (λ (y : Answer). length (y .verdict)) (sym x);
         left-length = ap (λ (y : Answer). length (y .left)) (sym x);
       }
 
-  pub gives-accepted : (rounds verdict left : ℕ) (v′ l′ : List ℕ) → refusal (whole.rows base 256 b (length v) (length l)) ≡ Accepted → rounds ≡ run 100 (program (lines 6 a)) .rounds
+  pub gives-accepted : (rounds verdict left : ℕ) (v′ l′ : List ℕ) → refusal (whole.rows base b (length v) (length l)) ≡ Accepted → rounds ≡ run 100 (program (lines 6 a)) .rounds
       → v′ ≡ after (whole.verdict-sheet base (lines 6 a) (lines 6 z)) v → l′ ≡ after (whole.left-sheet base (lines 6 a) (lines 6 z)) l
       → verdict ≡ length (whole.verdict-sheet base (lines 6 a) (lines 6 z)) → left ≡ length (whole.left-sheet base (lines 6 a) (lines 6 z))
       → Gives b v l (record { code = 0; place = 0; rounds = rounds; verdict = verdict; left = left }) v′ l′
   gives-accepted rounds verdict left v′ l′ e r p q m n =
-      let x = answer-accepted base 256 b a z at-front at-tail (length v) (length l) e in
+      let x = answer-accepted base b a z at-front at-tail (length v) (length l) e in
       record {
-        is-called = rw (r, p, q) (sym (called-accepted base 256 b a z at-front at-tail v l e));
+        is-called = rw (r, p, q) (sym (called-accepted base b a z at-front at-tail v l e));
         verdict-length = m ∙ ap (λ (y : Answer). length (y .verdict)) (sym x);
         left-length = n ∙ ap (λ (y : Answer). length (y .left)) (sym x);
       }
@@ -159,9 +159,9 @@ module _ (b a z v l : List ℕ) (at-front : front 6 b ≡ a) (at-tail : tail 6 b
 -- without a pattern the two are one
 pub gives-plain : (b v l : List ℕ) (r : Built) (v′ l′ : List ℕ) → NoPattern 6 b → GivesFront b v l r v′ l′ → Gives b v l r v′ l′
 gives-plain b v l r v′ l′ n g =
-    let x = answer-plain base 256 b (length v) (length l) n in
+    let x = answer-plain base b (length v) (length l) n in
     record {
-      is-called = g .is-called ∙ sym (called-plain base 256 b v l n);
+      is-called = g .is-called ∙ sym (called-plain base b v l n);
       verdict-length = g .verdict-length ∙ ap (λ (y : Answer). length (y .verdict)) (sym x);
       left-length = g .left-length ∙ ap (λ (y : Answer). length (y .left)) (sym x);
     }

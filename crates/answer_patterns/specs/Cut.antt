@@ -20,14 +20,14 @@ use Rattle.answer_patterns.specs.Whole.{answer, called}
 
 -- ---- the list of builds
 -- one build, a call with outputs of v and l bytes
-abbrev pub build : Format → ℕ → ℕ → ℕ → List ℕ → Option Sheets
-build f limit v l b = sheets-of (answer f limit b v l)
+abbrev pub build : Format → ℕ → ℕ → List ℕ → Option Sheets
+build f v l b = sheets-of (answer f b v l)
 
 -- The units in turn, u first: u over s, and each later one over the verdict sheet that the build before it returned; the last
 -- with the tail behind it. The last unit's two sheets, or nothing where a unit is refused.
-unfoldable pub builds : Format → ℕ → ℕ → ℕ → List ℕ → List ℕ → List (List ℕ) → List ℕ → Option Sheets
-builds f limit v l s u [] tail = build f limit v l ((s ++ u) ++ tail)
-builds f limit v l s u (u' ∷ us) tail = elim (build f limit v l (s ++ u)) [ none ↦ none | some x ↦ builds f limit v l (x .verdict) u' us tail ]
+unfoldable pub builds : Format → ℕ → ℕ → List ℕ → List ℕ → List (List ℕ) → List ℕ → Option Sheets
+builds f v l s u [] tail = build f v l ((s ++ u) ++ tail)
+builds f v l s u (u' ∷ us) tail = elim (build f v l (s ++ u)) [ none ↦ none | some x ↦ builds f v l (x .verdict) u' us tail ]
 
 -- ---- the cut
 -- no line of p is faulted by row 2 or row 5, and none of the tail behind it
@@ -56,40 +56,40 @@ pub record Cut (w : ℕ) (b header : List ℕ) (units : List (List ℕ)) (tail :
 
 -- ---- the same as calls
 -- A call that was made: the sheet and the outputs as it found them, and what it gave.
-pub record Call (f : Format) (limit : ℕ) : Type 0 where
+pub record Call (f : Format) : Type 0 where
   pub sheet : List ℕ
   pub verdict : List ℕ
   pub left : List ℕ
   pub gave : Given
-  pub is-called : gave ≡ called f limit sheet verdict left
+  pub is-called : gave ≡ called f sheet verdict left
 
 -- the sheet at the beginning of a call's verdict output: as many bytes as the call's own sheet had
-abbrev pub handed-on : {f : Format} {limit : ℕ} → Call f limit → List ℕ
+abbrev pub handed-on : {f : Format} → Call f → List ℕ
 handed-on c = take (length (c .sheet)) (c .gave .verdict-output)
 
-pub record Over (f : Format) (limit v l : ℕ) (s u : List ℕ) (c : Call f limit) : Type 0 where
+pub record Over (f : Format) (v l : ℕ) (s u : List ℕ) (c : Call f) : Type 0 where
   pub sheet-is : c .sheet ≡ s ++ u
   pub verdict-room : length (c .verdict) ≡ v
   pub left-room : length (c .left) ≡ l
 
 -- Calls that build the units in turn, u first: each has the given sheet and its unit for its sheet, the last also the tail, and
 -- outputs of v and l bytes, whatever these hold; the next is given what the one before handed on.
-abbrev pub InTurn : (f : Format) (limit v l : ℕ) → List ℕ → List ℕ → List (List ℕ) → List ℕ → Call f limit → List (Call f limit) → Type 0
-InTurn f limit v l s u [] tail c [] = Over f limit v l (s ++ u) tail c
-InTurn f limit v l s u [] tail c (c' ∷ cs) = ⊥
-InTurn f limit v l s u (u' ∷ us) tail c [] = ⊥
-InTurn f limit v l s u (u' ∷ us) tail c (c' ∷ cs) = Over f limit v l s u c × InTurn f limit v l (handed-on c) u' us tail c' cs
+abbrev pub InTurn : (f : Format) (v l : ℕ) → List ℕ → List ℕ → List (List ℕ) → List ℕ → Call f → List (Call f) → Type 0
+InTurn f v l s u [] tail c [] = Over f v l (s ++ u) tail c
+InTurn f v l s u [] tail c (c' ∷ cs) = ⊥
+InTurn f v l s u (u' ∷ us) tail c [] = ⊥
+InTurn f v l s u (u' ∷ us) tail c (c' ∷ cs) = Over f v l s u c × InTurn f v l (handed-on c) u' us tail c' cs
 
-abbrev pub last-call : {f : Format} {limit : ℕ} → Call f limit → List (Call f limit) → Call f limit
+abbrev pub last-call : {f : Format} → Call f → List (Call f) → Call f
 last-call c [] = c
 last-call c (c' ∷ cs) = last-call c' cs
 
 -- every call shows code 0
-abbrev pub AllAccept : {f : Format} {limit : ℕ} → Call f limit → List (Call f limit) → Type 0
+abbrev pub AllAccept : {f : Format} → Call f → List (Call f) → Type 0
 AllAccept c [] = c .gave .code ≡ 0
 AllAccept c (c' ∷ cs) = (c .gave .code ≡ 0) × AllAccept c' cs
 
 -- the call's outputs hold these sheets, and past them what they held
-pub record Wrote {f : Format} {limit : ℕ} (c : Call f limit) (x : Sheets) : Type 0 where
+pub record Wrote {f : Format} (c : Call f) (x : Sheets) : Type 0 where
   pub verdict-holds : c .gave .verdict-output ≡ after (x .verdict) (c .verdict)
   pub left-holds : c .gave .left-output ≡ after (x .left) (c .left)

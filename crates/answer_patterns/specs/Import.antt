@@ -156,14 +156,14 @@ module _ (f : Format) (v l : ℕ) (pos : 0 < f .columns) (p : List ℕ) (pass : 
             ∙ sym (left-sheet-tail f (lines (f .columns) (p ++ q)) zs)))
 
       -- ---- with Q lines behind
-      module _ (limit : ℕ) (z : List ℕ) where
+      module _ (z : List ℕ) where
         abbrev zs : List Line
         zs = lines (f .columns) z
 
         tail-length : length ((told ++ q) ++ z) ≡ length ((p ++ q) ++ z)
         tail-length = length-append (told ++ q) z ∙ (ap (λ (n : ℕ). n + length z) both-length ∙ sym (length-append (p ++ q) z))
 
-        pub joined-told : Joined f limit (told ++ q) z v l ↔ Joined f limit (p ++ q) z v l
+        pub joined-told : Joined f (told ++ q) z v l ↔ Joined f (p ++ q) z v l
         joined-told = (
           λ j.
               let k : old.Passes f (p ++ q) v l = passes-told .0 (j .front-passes) in
@@ -193,12 +193,12 @@ module _ (f : Format) (v l : ℕ) (pos : 0 < f .columns) (p : List ℕ) (pass : 
               },
         )
 
-        pub build-told : NoPattern (f .columns) q → Whole (f .columns) z → Begins (f .columns) z → build f limit v l ((told ++ q) ++ z) ≡ build f limit v l ((p ++ q) ++ z)
+        pub build-told : NoPattern (f .columns) q → Whole (f .columns) z → Begins (f .columns) z → build f v l ((told ++ q) ++ z) ≡ build f v l ((p ++ q) ++ z)
         build-told plain wz begins =
-            build-equal f limit ((told ++ q) ++ z) ((p ++ q) ++ z) v l
-            (λ k. joined-passes f limit v l (p ++ q) z wz (joined-told .0 (to k)), λ k. joined-passes f limit v l (told ++ q) z wz (joined-told .1 (passes-parts f limit v l (p ++ q) z whole-p plain-p begins k)))
+            build-equal f ((told ++ q) ++ z) ((p ++ q) ++ z) v l
+            (λ k. joined-passes f v l (p ++ q) z wz (joined-told .0 (to k)), λ k. joined-passes f v l (told ++ q) z wz (joined-told .1 (passes-parts f v l (p ++ q) z whole-p plain-p begins k)))
             (λ k.
-            let j : Joined f limit (p ++ q) z v l = joined-told .0 (to k) in
+            let j : Joined f (p ++ q) z v l = joined-told .0 (to k) in
             sheets-parts f (told ++ q) z whole-t plain-t begins
             ∙ (ap₂ (λ (x y : List ℕ). record { verdict = x; left = y }) (verdict-told (j .front-passes) zs) (left-told (j .front-passes) zs) ∙ sym (sheets-parts f (p ++ q) z whole-p plain-p begins)))
           where
@@ -214,5 +214,5 @@ module _ (f : Format) (v l : ℕ) (pos : 0 < f .columns) (p : List ℕ) (pass : 
             plain-t : NoPattern (f .columns) (told ++ q)
             plain-t = no-pattern-append (f .columns) told q told-whole told-plain plain
 
-            to : Passes f limit ((told ++ q) ++ z) v l → Joined f limit (told ++ q) z v l
-            to k = passes-parts f limit v l (told ++ q) z whole-t plain-t begins k
+            to : Passes f ((told ++ q) ++ z) v l → Joined f (told ++ q) z v l
+            to k = passes-parts f v l (told ++ q) z whole-t plain-t begins k

@@ -1,6 +1,7 @@
 pub mod Whole
 pub mod Passes
 pub mod Cut
+pub mod Cases
 pub mod Parts
 pub mod Parted
 pub mod Plain

@@ -14,13 +14,13 @@ use Rattle.answer.specs.Answer.{Clear, row8, row9-10}
 use Rattle.answer_patterns.specs.Whole.{front, tail, left-sheet}
 
 -- no row applies: the names with `patterns` are those of the tail's lines
-pub record Passes (f : Format) (limit : ℕ) (b : List ℕ) (v l : ℕ) : Type 0 where
+pub record Passes (f : Format) (b : List ℕ) (v l : ℕ) : Type 0 where
   pub pass1 : row1 f b ≡ false
   pub pass2 : Clear (count (f .columns) b) (λ i. isBad (line (f .columns) b i))
   pub pass3 : Clear (suc (count (f .columns) (front (f .columns) b))) (row3 (raws (f .columns) (front (f .columns) b)))
   pub patterns3 : Clear (count (f .columns) (tail (f .columns) b)) (λ q. not (is pattern-line (raw (f .columns) (tail (f .columns) b) q)))
   pub pass4 : Clear (count (f .columns) (front (f .columns) b)) (row4 f (lines (f .columns) (front (f .columns) b)))
-  pub patterns4 : count (f .columns) (tail (f .columns) b) ≤ limit
+  pub patterns4 : count (f .columns) (tail (f .columns) b) ≤ f .patterns
   pub pass5 : Clear (count (f .columns) (front (f .columns) b)) (row5 (lines (f .columns) (front (f .columns) b)))
   pub patterns5 :
       Clear (count (f .columns) (tail (f .columns) b)) (λ q. not (good-pattern (count-of name-line (lines (f .columns) (front (f .columns) b))) (lines (f .columns) (tail (f .columns) b)) q))

@@ -40,8 +40,8 @@ use Rattle.answer_patterns.specs.Passes.{Passes}
 use Rattle.answer_patterns.specs.Cut.{build}
 
 -- ---- the rows' tests, one by one
-module _ (f : Format) (limit : ℕ) (b : List ℕ) (v l : ℕ) where
-  rows-clear : AllClear (rows f limit b v l) → Passes f limit b v l
+module _ (f : Format) (b : List ℕ) (v l : ℕ) where
+  rows-clear : AllClear (rows f b v l) → Passes f b v l
   unfolding sheet-rows program-rows output-rows
   rows-clear h =
       record {
@@ -62,17 +62,17 @@ module _ (f : Format) (limit : ℕ) (b : List ℕ) (v l : ℕ) where
         pass12 = ltb-false l _ (h .1 .1 .1 .1 .1 .1 .1 .1 .1 .1 .1 .1 .1 .1 .0 0 (omega arith));
       }
     where
-      few : Clear (count (f .columns) (tail (f .columns) b)) (leb limit) → count (f .columns) (tail (f .columns) b) ≤ limit
-      few c = go (ltb limit (count (f .columns) (tail (f .columns) b))) refl
+      few : Clear (count (f .columns) (tail (f .columns) b)) (leb (f .patterns)) → count (f .columns) (tail (f .columns) b) ≤ f .patterns
+      few c = go (ltb (f .patterns) (count (f .columns) (tail (f .columns) b))) refl
         where
-          go : (t : Bool) → ltb limit (count (f .columns) (tail (f .columns) b)) ≡ t → count (f .columns) (tail (f .columns) b) ≤ limit
-          go true e = absurd (omega (arith, leb-false limit limit (c limit (ltb-true limit (count (f .columns) (tail (f .columns) b)) e))))
-          go false e = ltb-false limit (count (f .columns) (tail (f .columns) b)) e
+          go : (t : Bool) → ltb (f .patterns) (count (f .columns) (tail (f .columns) b)) ≡ t → count (f .columns) (tail (f .columns) b) ≤ f .patterns
+          go true e = absurd (omega (arith, leb-false (f .patterns) (f .patterns) (c (f .patterns) (ltb-true (f .patterns) (count (f .columns) (tail (f .columns) b)) e))))
+          go false e = ltb-false (f .patterns) (count (f .columns) (tail (f .columns) b)) e
 
-  clear-rows : Passes f limit b v l → AllClear (rows f limit b v l)
+  clear-rows : Passes f b v l → AllClear (rows f b v l)
   unfolding sheet-rows program-rows output-rows
   clear-rows h =
-      (λ i _. h .pass1, (h .pass2, (h .pass3, (h .patterns3, (h .pass4, (λ i k. lt-leb limit i (omega (arith, h .patterns4)), (h .pass5, (h .patterns5, (h .pass6, (h .pass7, (h .pass8, (h .pass9-10, (h .pass13, (λ i _. le-ltb v (length b) (h .pass11), (λ i _. le-ltb l _ (h .pass12), tt)))))))))))))))
+      (λ i _. h .pass1, (h .pass2, (h .pass3, (h .patterns3, (h .pass4, (λ i k. lt-leb (f .patterns) i (omega (arith, h .patterns4)), (h .pass5, (h .patterns5, (h .pass6, (h .pass7, (h .pass8, (h .pass9-10, (h .pass13, (λ i _. le-ltb v (length b) (h .pass11), (λ i _. le-ltb l _ (h .pass12), tt)))))))))))))))
 
   -- no code is 0
   row9-10-coded : (ds : List Decl) (ls : List Line) (i : ℕ) → row9-10 f ds ls i ≡ true → fault-at f ds ls i ≡ 0 → ⊥
@@ -84,33 +84,33 @@ module _ (f : Format) (limit : ℕ) (b : List ℕ) (v l : ℕ) where
   plain : (code bound : ℕ) (test : ℕ → Bool) (place : ℕ → ℕ) → 0 < code → Coded (record { bound = bound; test = test; code = λ i. code; place = place })
   plain code bound test place h = record { coded = λ i t e. omega arith }
 
-  rows-coded : AllCoded (rows f limit b v l)
+  rows-coded : AllCoded (rows f b v l)
   unfolding sheet-rows program-rows output-rows
   rows-coded =
       (plain _ _ _ _ (omega arith), (plain _ _ _ _ (omega arith), (plain _ _ _ _ (omega arith), (plain _ _ _ _ (omega arith), (plain _ _ _ _ (omega arith), (plain _ _ _ _ (omega arith), (plain _ _ _ _ (omega arith), (plain _ _ _ _ (omega arith), (plain _ _ _ _ (omega arith), (plain _ _ _ _ (omega arith), (plain _ _ _ _ (omega arith), (record { coded = row9-10-coded (program (lines (f .columns) (front (f .columns) b))) (lines (f .columns) (front (f .columns) b)) }, (plain _ _ _ _ (omega arith), (plain _ _ _ _ (omega arith), (plain _ _ _ _ (omega arith), tt)))))))))))))))
 
   -- ---- code 0 exactly where no row applies
-  pub accepted-passes : answer f limit b v l .code ≡ 0 → Passes f limit b v l
+  pub accepted-passes : answer f b v l .code ≡ 0 → Passes f b v l
   unfolding answer answered
-  accepted-passes h = rows-clear (accepted-clear (rows f limit b v l) (go (refusal (rows f limit b v l)) (refusal-coded (rows f limit b v l) rows-coded) h))
+  accepted-passes h = rows-clear (accepted-clear (rows f b v l) (go (refusal (rows f b v l)) (refusal-coded (rows f b v l) rows-coded) h))
     where
       go : (r : Refusal) → CodeOf r → answered f b r .code ≡ 0 → r ≡ Accepted
       go Accepted c k = refl
       go (Refused code place) c k = absurd (c k)
 
   -- the answer where no row applies
-  pub passes-answer : Passes f limit b v l → answer f limit b v l ≡ answered f b Accepted
+  pub passes-answer : Passes f b v l → answer f b v l ≡ answered f b Accepted
   unfolding answer
-  passes-answer h = ap (answered f b) (clear-accepted (rows f limit b v l) (clear-rows h))
+  passes-answer h = ap (answered f b) (clear-accepted (rows f b v l) (clear-rows h))
 
-  pub passes-accepted : Passes f limit b v l → answer f limit b v l .code ≡ 0
+  pub passes-accepted : Passes f b v l → answer f b v l .code ≡ 0
   unfolding answered
   passes-accepted h = ap (λ (a : Answer). a .code) (passes-answer h)
 
   -- a refusal writes nothing and counts no rounds
-  pub refused-nothing : (answer f limit b v l .code ≡ 0 → ⊥) → Nothing (answer f limit b v l)
+  pub refused-nothing : (answer f b v l .code ≡ 0 → ⊥) → Nothing (answer f b v l)
   unfolding answer answered
-  refused-nothing h = go (refusal (rows f limit b v l)) h
+  refused-nothing h = go (refusal (rows f b v l)) h
     where
       go : (r : Refusal) → (answered f b r .code ≡ 0 → ⊥) → Nothing (answered f b r)
       go Accepted k = absurd (k refl)
@@ -127,46 +127,46 @@ pub some-same : (x y : Sheets) → _≡_ {A = Option Sheets} (some x) (some y) �
 some-same x y e = cc
 
 -- a build that no row applies to is accepted with these sheets
-pub passes-build : (f : Format) (limit : ℕ) (b : List ℕ) (v l : ℕ) → Passes f limit b v l → build f limit v l b ≡ some (sheets f b)
+pub passes-build : (f : Format) (b : List ℕ) (v l : ℕ) → Passes f b v l → build f v l b ≡ some (sheets f b)
 unfolding answered sheets-of sheets
-passes-build f limit b v l h = rw (passes-answer f limit b v l h) refl
+passes-build f b v l h = rw (passes-answer f b v l h) refl
 
 -- and no other is
-pub build-passes : (f : Format) (limit : ℕ) (b : List ℕ) (v l : ℕ) (x : Sheets) → build f limit v l b ≡ some x → Passes f limit b v l
+pub build-passes : (f : Format) (b : List ℕ) (v l : ℕ) (x : Sheets) → build f v l b ≡ some x → Passes f b v l
 unfolding sheets-of
-build-passes f limit b v l x h = accepted-passes f limit b v l (go (answer f limit b v l) (eqb (answer f limit b v l .code) 0) refl h)
+build-passes f b v l x h = accepted-passes f b v l (go (answer f b v l) (eqb (answer f b v l .code) 0) refl h)
   where
     go : (a : Answer) (c : Bool) → eqb (a .code) 0 ≡ c → pick c (some (record { verdict = a .verdict; left = a .left })) none ≡ some x → a .code ≡ 0
     go a true e k = eqb-true (a .code) 0 e
     go a false e k = let z : _≡_ {A = ℕ} 0 1 = cc in absurd (omega arith)
 
 -- two builds are one where the same passes both and the sheets are equal
-pub build-equal : (f : Format) (limit : ℕ) (b c : List ℕ) (v l : ℕ) → (Passes f limit b v l ↔ Passes f limit c v l) → (Passes f limit b v l → sheets f b ≡ sheets f c)
-    → build f limit v l b ≡ build f limit v l c
-build-equal f limit b c v l h e = go (build f limit v l b) (build f limit v l c) refl refl
+pub build-equal : (f : Format) (b c : List ℕ) (v l : ℕ) → (Passes f b v l ↔ Passes f c v l) → (Passes f b v l → sheets f b ≡ sheets f c)
+    → build f v l b ≡ build f v l c
+build-equal f b c v l h e = go (build f v l b) (build f v l c) refl refl
   where
-    go : (s t : Option Sheets) → build f limit v l b ≡ s → build f limit v l c ≡ t → s ≡ t
+    go : (s t : Option Sheets) → build f v l b ≡ s → build f v l c ≡ t → s ≡ t
     go none none p q = refl
     go none (some y) p q =
-        let k = passes-build f limit b v l (h .1 (build-passes f limit c v l y q)) in
+        let k = passes-build f b v l (h .1 (build-passes f c v l y q)) in
         let z : _≡_ {A = Option Sheets} none (some (sheets f b)) = sym p ∙ k in
         cc
     go (some x) none p q =
-        let k = passes-build f limit c v l (h .0 (build-passes f limit b v l x p)) in
+        let k = passes-build f c v l (h .0 (build-passes f b v l x p)) in
         let z : _≡_ {A = Option Sheets} none (some (sheets f c)) = sym q ∙ k in
         cc
     go (some x) (some y) p q =
-        let k = build-passes f limit b v l x p in
-        sym p ∙ (passes-build f limit b v l k ∙ (ap some (e k) ∙ (sym (passes-build f limit c v l (h .0 k)) ∙ q)))
+        let k = build-passes f b v l x p in
+        sym p ∙ (passes-build f b v l k ∙ (ap some (e k) ∙ (sym (passes-build f c v l (h .0 k)) ∙ q)))
 
 -- ---- by the parts
 -- what a sheet of the parts a and z passes
-pub record Joined (f : Format) (limit : ℕ) (a z : List ℕ) (v l : ℕ) : Type 0 where
+pub record Joined (f : Format) (a z : List ℕ) (v l : ℕ) : Type 0 where
   pub small : length (a ++ z) ≤ lineBytes (f .columns) * f .lines
   pub front-passes : old.Passes f a v l
   pub no-bad : Clear (count (f .columns) z) (λ i. isBad (line (f .columns) z i))
   pub only : Clear (count (f .columns) z) (λ q. not (is pattern-line (raw (f .columns) z q)))
-  pub few : count (f .columns) z ≤ limit
+  pub few : count (f .columns) z ≤ f .patterns
   pub good : Clear (count (f .columns) z) (λ q. not (good-pattern (count-of name-line (lines (f .columns) a)) (lines (f .columns) z) q))
   pub counted : Clear (count (f .columns) z) (row13 (program (lines (f .columns) a)) (lines (f .columns) z))
   pub verdict-room : length (a ++ z) ≤ v
@@ -176,8 +176,8 @@ row1-of : (f : Format) (b : List ℕ) → length b ≤ lineBytes (f .columns) * 
 unfolding row1
 row1-of f b h e = rw (le-ltb (lineBytes (f .columns) * f .lines) (length b) h, eq-eqb (length b % lineBytes (f .columns)) 0 e) refl
 
-module _ (f : Format) (limit : ℕ) (v l : ℕ) where
-  joined-at : (b a z : List ℕ) → front (f .columns) b ≡ a → tail (f .columns) b ≡ z → Passes f limit b v l → Joined f limit a z v l
+module _ (f : Format) (v l : ℕ) where
+  joined-at : (b a z : List ℕ) → front (f .columns) b ≡ a → tail (f .columns) b ≡ z → Passes f b v l → Joined f a z v l
   joined-at b a z at-front at-tail p =
       record {
         small = omega (arith, row1-small f b (p .pass1), ap length parts);
@@ -197,7 +197,7 @@ module _ (f : Format) (limit : ℕ) (v l : ℕ) where
             };
         no-bad = λ i h. ap isBad (sym (line-second (f .columns) a z whole i) ∙ ap (λ (x : List ℕ). line (f .columns) x (count (f .columns) a + i)) (sym parts)) ∙ p .pass2 (count (f .columns) a + i) (omega (arith, counts));
         only = subst (λ (x : List ℕ). Clear (count (f .columns) x) (λ q. not (is pattern-line (raw (f .columns) x q)))) at-tail (p .patterns3);
-        few = subst (λ (x : List ℕ). count (f .columns) x ≤ limit) at-tail (p .patterns4);
+        few = subst (λ (x : List ℕ). count (f .columns) x ≤ f .patterns) at-tail (p .patterns4);
         good =
             subst (λ (x : List ℕ). Clear (count (f .columns) z) (λ q. not (good-pattern (count-of name-line (lines (f .columns) x)) (lines (f .columns) z) q))) at-front
             (subst (λ (y : List ℕ). Clear (count (f .columns) y) (λ q. not (good-pattern (count-of name-line (lines (f .columns) (front (f .columns) b))) (lines (f .columns) y) q))) at-tail (p .patterns5));
@@ -222,18 +222,18 @@ module _ (f : Format) (limit : ℕ) (v l : ℕ) where
           subst (λ (x : List ℕ). length (left-sheet f (lines (f .columns) x) (lines (f .columns) z)) ≤ l) at-front
           (subst (λ (y : List ℕ). length (left-sheet f (lines (f .columns) (front (f .columns) b)) (lines (f .columns) y)) ≤ l) at-tail (p .pass12))
 
-  pub passes-joined : (b : List ℕ) → Passes f limit b v l → Joined f limit (front (f .columns) b) (tail (f .columns) b) v l
+  pub passes-joined : (b : List ℕ) → Passes f b v l → Joined f (front (f .columns) b) (tail (f .columns) b) v l
   passes-joined b = joined-at b (front (f .columns) b) (tail (f .columns) b) refl refl
 
   -- the front by itself is a sheet that no row refuses
-  pub passes-front : (b : List ℕ) → Passes f limit b v l → old.Passes f (front (f .columns) b) v l
+  pub passes-front : (b : List ℕ) → Passes f b v l → old.Passes f (front (f .columns) b) v l
   passes-front b p = passes-joined b p .front-passes
 
-  pub passes-parts : (a z : List ℕ) → Whole (f .columns) a → NoPattern (f .columns) a → Begins (f .columns) z → Passes f limit (a ++ z) v l → Joined f limit a z v l
+  pub passes-parts : (a z : List ℕ) → Whole (f .columns) a → NoPattern (f .columns) a → Begins (f .columns) z → Passes f (a ++ z) v l → Joined f a z v l
   passes-parts a z h n g = joined-at (a ++ z) a z (front-of (f .columns) a z h n g) (tail-of (f .columns) a z h n g)
 
   -- ---- and back
-  module _ (a z : List ℕ) (second : Whole (f .columns) z) (j : Joined f limit a z v l) where
+  module _ (a z : List ℕ) (second : Whole (f .columns) z) (j : Joined f a z v l) where
     pub joined-whole : Whole (f .columns) a
     joined-whole = row1-whole f a (j .front-passes .pass1)
 
@@ -262,7 +262,7 @@ module _ (f : Format) (limit : ℕ) (v l : ℕ) where
             ap (λ (n : ℕ). isBad (line (f .columns) (a ++ z) n)) (sym m)
             ∙ (ap isBad (line-second (f .columns) a z joined-whole (i - count (f .columns) a)) ∙ j .no-bad (i - count (f .columns) a) (omega (arith, count-parts (f .columns) a z joined-whole)))
 
-    pub joined-passes : Passes f limit (a ++ z) v l
+    pub joined-passes : Passes f (a ++ z) v l
     joined-passes =
         record {
           pass1 = row1-of f (a ++ z) (j .small) (whole-append (f .columns) a z joined-whole second);
@@ -270,7 +270,7 @@ module _ (f : Format) (limit : ℕ) (v l : ℕ) where
           pass3 = subst (λ (x : List ℕ). Clear (suc (count (f .columns) x)) (row3 (raws (f .columns) x))) (sym at-front) (j .front-passes .pass3);
           patterns3 = subst (λ (x : List ℕ). Clear (count (f .columns) x) (λ q. not (is pattern-line (raw (f .columns) x q)))) (sym at-tail) (j .only);
           pass4 = subst (λ (x : List ℕ). Clear (count (f .columns) x) (row4 f (lines (f .columns) x))) (sym at-front) (j .front-passes .pass4);
-          patterns4 = subst (λ (x : List ℕ). count (f .columns) x ≤ limit) (sym at-tail) (j .few);
+          patterns4 = subst (λ (x : List ℕ). count (f .columns) x ≤ f .patterns) (sym at-tail) (j .few);
           pass5 = subst (λ (x : List ℕ). Clear (count (f .columns) x) (row5 (lines (f .columns) x))) (sym at-front) (j .front-passes .pass5);
           patterns5 =
               subst (λ (y : List ℕ). Clear (count (f .columns) y) (λ q. not (good-pattern (count-of name-line (lines (f .columns) (front (f .columns) (a ++ z)))) (lines (f .columns) y) q))) (sym at-tail)
@@ -294,7 +294,7 @@ unfolding sheets
 sheets-parts f a z h n g = rw (front-of (f .columns) a z h n g, tail-of (f .columns) a z h n g) refl
 
 -- ---- codes
-module _ (f : Format) (limit : ℕ) (b : List ℕ) (ample : Ample f) where
+module _ (f : Format) (b : List ℕ) (ample : Ample f) where
   abbrev ls : List Line
   ls = lines (f .columns) (front (f .columns) b)
 
@@ -308,7 +308,7 @@ module _ (f : Format) (limit : ℕ) (b : List ℕ) (ample : Ample f) where
   abbrev eight : Row
   eight = line-row 8 (count (f .columns) (front (f .columns) b)) (row8 ds ls)
 
-  first-eight : Every (Coding 1 13) (sheet-rows f limit b ++ (eight ∷ []))
+  first-eight : Every (Coding 1 13) (sheet-rows f b ++ (eight ∷ []))
   unfolding sheet-rows
   first-eight =
       (in-code _ _ _ _ _ _ (omega arith) (omega arith), (in-code _ _ _ _ _ _ (omega arith) (omega arith), (in-code _ _ _ _ _ _ (omega arith) (omega arith), (in-code _ _ _ _ _ _ (omega arith) (omega arith), (in-code _ _ _ _ _ _ (omega arith) (omega arith), (in-code _ _ _ _ _ _ (omega arith) (omega arith), (in-code _ _ _ _ _ _ (omega arith) (omega arith), (in-code _ _ _ _ _ _ (omega arith) (omega arith), (in-code _ _ _ _ _ _ (omega arith) (omega arith), (in-code _ _ _ _ _ _ (omega arith) (omega arith), (in-code _ _ _ _ _ _ (omega arith) (omega arith), tt)))))))))))
@@ -320,11 +320,11 @@ module _ (f : Format) (limit : ℕ) (b : List ℕ) (ample : Ample f) where
       ∷ tail-row 13 (count (f .columns) (front (f .columns) b)) (count (f .columns) (tail (f .columns) b)) (row13 ds (lines (f .columns) (tail (f .columns) b)))
       ∷ output-rows f b v l
 
-  rows-split : (v l : ℕ) → rows f limit b v l ≡ (sheet-rows f limit b ++ (eight ∷ [])) ++ rest v l
+  rows-split : (v l : ℕ) → rows f b v l ≡ (sheet-rows f b ++ (eight ∷ [])) ++ rest v l
   unfolding sheet-rows program-rows
   rows-split v l = refl
 
-  later-rows : (v l : ℕ) → AllClear (sheet-rows f limit b ++ (eight ∷ [])) → Every (Coding 1 13) (rest v l)
+  later-rows : (v l : ℕ) → AllClear (sheet-rows f b ++ (eight ∷ [])) → Every (Coding 1 13) (rest v l)
   unfolding sheet-rows output-rows row8 row9-10 fault-at
   later-rows v l h =
       let four : Clear (length ls) (row4 f ls) = λ i k. h .1 .1 .1 .1 .0 i (omega (arith, length-lines (f .columns) (front (f .columns) b))) in
@@ -340,21 +340,21 @@ module _ (f : Format) (limit : ℕ) (b : List ℕ) (ample : Ample f) where
       )
 
   -- no other code than 1 to 13
-  pub refusal-codes : (v l : ℕ) → InRange 1 13 (refusal (rows f limit b v l))
+  pub refusal-codes : (v l : ℕ) → InRange 1 13 (refusal (rows f b v l))
   refusal-codes v l =
-      subst (InRange 1 13) (sym (ap refusal (rows-split v l) ∙ refusal-append (sheet-rows f limit b ++ (eight ∷ [])) (rest v l)))
-      (go (refusal (sheet-rows f limit b ++ (eight ∷ []))) refl (refusal-in-range 1 13 (sheet-rows f limit b ++ (eight ∷ [])) first-eight))
+      subst (InRange 1 13) (sym (ap refusal (rows-split v l) ∙ refusal-append (sheet-rows f b ++ (eight ∷ [])) (rest v l)))
+      (go (refusal (sheet-rows f b ++ (eight ∷ []))) refl (refusal-in-range 1 13 (sheet-rows f b ++ (eight ∷ [])) first-eight))
     where
-      go : (q : Refusal) → refusal (sheet-rows f limit b ++ (eight ∷ [])) ≡ q → InRange 1 13 q → InRange 1 13 (or-later q (refusal (rest v l)))
-      go Accepted e k = refusal-in-range 1 13 (rest v l) (later-rows v l (accepted-clear (sheet-rows f limit b ++ (eight ∷ [])) e))
+      go : (q : Refusal) → refusal (sheet-rows f b ++ (eight ∷ [])) ≡ q → InRange 1 13 q → InRange 1 13 (or-later q (refusal (rest v l)))
+      go Accepted e k = refusal-in-range 1 13 (rest v l) (later-rows v l (accepted-clear (sheet-rows f b ++ (eight ∷ [])) e))
       go (Refused code place) e k = k
 
   -- the row of a refusal, and its code
-  pub answer-refuses : (v l : ℕ) → (answer f limit b v l .code ≡ 0 → ⊥) → Refuses (rows f limit b v l) (answer f limit b v l .code) (answer f limit b v l .place) × Within 1 13 (answer f limit b v l .code)
+  pub answer-refuses : (v l : ℕ) → (answer f b v l .code ≡ 0 → ⊥) → Refuses (rows f b v l) (answer f b v l .code) (answer f b v l .place) × Within 1 13 (answer f b v l .code)
   unfolding answer answered
-  answer-refuses v l h = go (refusal (rows f limit b v l)) h (refusal-refuses (rows f limit b v l)) (refusal-codes v l)
+  answer-refuses v l h = go (refusal (rows f b v l)) h (refusal-refuses (rows f b v l)) (refusal-codes v l)
     where
-      go : (q : Refusal) → (answered f b q .code ≡ 0 → ⊥) → RefusesAs (rows f limit b v l) q → InRange 1 13 q
-          → Refuses (rows f limit b v l) (answered f b q .code) (answered f b q .place) × Within 1 13 (answered f b q .code)
+      go : (q : Refusal) → (answered f b q .code ≡ 0 → ⊥) → RefusesAs (rows f b v l) q → InRange 1 13 q
+          → Refuses (rows f b v l) (answered f b q .code) (answered f b q .place) × Within 1 13 (answered f b q .code)
       go Accepted k r c = absurd (k refl)
       go (Refused code place) k r c = (r, c)

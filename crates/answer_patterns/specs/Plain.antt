@@ -26,14 +26,14 @@ use Rattle.answer_patterns.specs.Whole.{front, tail, tail-row, following
 use Rattle.answer_patterns.specs.Parts.{NoPattern, Begins, front-of, tail-of}
 
 -- ---- the rows by the parts
-abbrev pub sheet-rows-of : Format → ℕ → List ℕ → List ℕ → List ℕ → List Row
-sheet-rows-of f limit b a z =
+abbrev pub sheet-rows-of : Format → List ℕ → List ℕ → List ℕ → List Row
+sheet-rows-of f b a z =
     whole-row 1 0 (row1 f b)
     ∷ line-row 2 (count (f .columns) b) (λ i. isBad (line (f .columns) b i))
     ∷ line-row 3 (suc (count (f .columns) a)) (row3 (raws (f .columns) a))
     ∷ tail-row 3 (count (f .columns) a) (count (f .columns) z) (λ q. not (is pattern-line (raw (f .columns) z q)))
     ∷ line-row 4 (count (f .columns) a) (row4 f (lines (f .columns) a))
-    ∷ tail-row 4 (count (f .columns) a) (count (f .columns) z) (leb limit)
+    ∷ tail-row 4 (count (f .columns) a) (count (f .columns) z) (leb (f .patterns))
     ∷ line-row 5 (count (f .columns) a) (row5 (lines (f .columns) a))
     ∷ tail-row 5 (count (f .columns) a) (count (f .columns) z) (λ q. not (good-pattern (count-of name-line (lines (f .columns) a)) (lines (f .columns) z) q))
     ∷ line-row 6 (count (f .columns) a) (row6 (lines (f .columns) a))
@@ -55,8 +55,8 @@ program-rows-of f a z =
 abbrev pub output-rows-of : Format → List ℕ → ℕ → ℕ → ℕ → List Row
 output-rows-of f b needed v l = whole-row 11 (length b) (ltb v (length b)) ∷ whole-row 12 needed (ltb l needed) ∷ []
 
-module _ (f : Format) (limit : ℕ) (b a z : List ℕ) (at-front : front (f .columns) b ≡ a) (at-tail : tail (f .columns) b ≡ z) where
-  pub sheet-rows-are : sheet-rows f limit b ≡ sheet-rows-of f limit b a z
+module _ (f : Format) (b a z : List ℕ) (at-front : front (f .columns) b ≡ a) (at-tail : tail (f .columns) b ≡ z) where
+  pub sheet-rows-are : sheet-rows f b ≡ sheet-rows-of f b a z
   unfolding sheet-rows
   sheet-rows-are = rw (← at-front, ← at-tail) refl
 
@@ -94,7 +94,7 @@ module _ (w : ℕ) (b : List ℕ) (whole : Whole w b) (none : NoPattern w b) whe
   pub plain-tail : tail w b ≡ []
   plain-tail = ap (tail w) (sym (append-nil b)) ∙ tail-of w b [] whole none begins-none
 
-module _ (f : Format) (limit : ℕ) (b : List ℕ) where
+module _ (f : Format) (b : List ℕ) where
   -- of whole lines
   module _ (whole : Whole (f .columns) b) (none : NoPattern (f .columns) b) where
     at-front : front (f .columns) b ≡ b
@@ -103,22 +103,22 @@ module _ (f : Format) (limit : ℕ) (b : List ℕ) where
     at-tail : tail (f .columns) b ≡ []
     at-tail = plain-tail (f .columns) b whole none
 
-    pub sheet-refusal-plain : refusal (sheet-rows f limit b) ≡ refusal (old.sheet-rows f b)
+    pub sheet-refusal-plain : refusal (sheet-rows f b) ≡ refusal (old.sheet-rows f b)
     unfolding old.sheet-rows refusal first
-    sheet-refusal-plain = ap refusal (sheet-rows-are f limit b b [] at-front at-tail) ∙ rw (count-none (f .columns)) refl
+    sheet-refusal-plain = ap refusal (sheet-rows-are f b b [] at-front at-tail) ∙ rw (count-none (f .columns)) refl
 
     pub program-refusal-plain : refusal (program-rows f b) ≡ refusal (old.program-rows f b)
     unfolding old.program-rows refusal first
-    program-refusal-plain = ap refusal (program-rows-are f limit b b [] at-front at-tail) ∙ rw (count-none (f .columns)) refl
+    program-refusal-plain = ap refusal (program-rows-are f b b [] at-front at-tail) ∙ rw (count-none (f .columns)) refl
 
     pub output-rows-plain : (v l : ℕ) → output-rows f b v l ≡ old.output-rows f b v l
     unfolding old.output-rows
-    output-rows-plain v l = output-rows-are f limit b b [] at-front at-tail v l ∙ rw (lines-none (f .columns), left-sheet-plain f (lines (f .columns) b)) refl
+    output-rows-plain v l = output-rows-are f b b [] at-front at-tail v l ∙ rw (lines-none (f .columns), left-sheet-plain f (lines (f .columns) b)) refl
 
-    whole-rows : (v l : ℕ) → refusal (rows f limit b v l) ≡ refusal (old.rows f b v l)
+    whole-rows : (v l : ℕ) → refusal (rows f b v l) ≡ refusal (old.rows f b v l)
     whole-rows v l =
-        refusal-append (sheet-rows f limit b ++ program-rows f b) (output-rows f b v l)
-        ∙ (ap₂ or-later (refusal-append (sheet-rows f limit b) (program-rows f b) ∙ (ap₂ or-later sheet-refusal-plain program-refusal-plain ∙ sym (refusal-append (old.sheet-rows f b) (old.program-rows f b)))) (ap refusal (output-rows-plain v l))
+        refusal-append (sheet-rows f b ++ program-rows f b) (output-rows f b v l)
+        ∙ (ap₂ or-later (refusal-append (sheet-rows f b) (program-rows f b) ∙ (ap₂ or-later sheet-refusal-plain program-refusal-plain ∙ sym (refusal-append (old.sheet-rows f b) (old.program-rows f b)))) (ap refusal (output-rows-plain v l))
         ∙ sym (refusal-append (old.sheet-rows f b ++ old.program-rows f b) (old.output-rows f b v l)))
 
     whole-answered : (r : Refusal) → answered f b r ≡ old.answered f b r
@@ -126,13 +126,13 @@ module _ (f : Format) (limit : ℕ) (b : List ℕ) where
     whole-answered (Refused code place) = refl
     whole-answered Accepted = rw (at-front, at-tail, lines-none (f .columns), verdict-sheet-plain f (lines (f .columns) b), left-sheet-plain f (lines (f .columns) b)) refl
 
-    whole-answer : (v l : ℕ) → answer f limit b v l ≡ old.answer f b v l
+    whole-answer : (v l : ℕ) → answer f b v l ≡ old.answer f b v l
     unfolding answer old.answer
     whole-answer v l = ap (answered f b) (whole-rows v l) ∙ whole-answered (refusal (old.rows f b v l))
 
   -- of bytes that row 1 refuses
   module _ (first-row : row1 f b ≡ true) where
-    refused-new : (v l : ℕ) → refusal (rows f limit b v l) ≡ Refused 1 0
+    refused-new : (v l : ℕ) → refusal (rows f b v l) ≡ Refused 1 0
     unfolding sheet-rows refusal first
     refused-new v l = rw first-row refl
 
@@ -140,18 +140,18 @@ module _ (f : Format) (limit : ℕ) (b : List ℕ) where
     unfolding old.sheet-rows refusal first
     refused-old v l = rw first-row refl
 
-    refused-answer : (v l : ℕ) → answer f limit b v l ≡ old.answer f b v l
+    refused-answer : (v l : ℕ) → answer f b v l ≡ old.answer f b v l
     unfolding answer old.answer answered old.answered
     refused-answer v l = rw (refused-new v l, refused-old v l) refl
 
-  pub answer-plain : (v l : ℕ) → NoPattern (f .columns) b → answer f limit b v l ≡ old.answer f b v l
+  pub answer-plain : (v l : ℕ) → NoPattern (f .columns) b → answer f b v l ≡ old.answer f b v l
   unfolding row1
   answer-plain v l none = go (eqb (length b % lineBytes (f .columns)) 0) refl
     where
-      go : (c : Bool) → eqb (length b % lineBytes (f .columns)) 0 ≡ c → answer f limit b v l ≡ old.answer f b v l
+      go : (c : Bool) → eqb (length b % lineBytes (f .columns)) 0 ≡ c → answer f b v l ≡ old.answer f b v l
       go true e = whole-answer (eqb-true (length b % lineBytes (f .columns)) 0 e) none v l
       go false e = refused-answer (rw e (or-true (ltb (lineBytes (f .columns) * f .lines) (length b)))) v l
 
-  pub called-plain : (v l : List ℕ) → NoPattern (f .columns) b → called f limit b v l ≡ old.called f b v l
+  pub called-plain : (v l : List ℕ) → NoPattern (f .columns) b → called f b v l ≡ old.called f b v l
   unfolding called old.called
   called-plain v l none = rw (answer-plain (length v) (length l) none) refl

@@ -120,18 +120,18 @@ turn-pattern Accepted Accepted (Refused d q) x6 c p k3 k4 k5 n m o = absurd (o (
 turn-pattern Accepted Accepted Accepted x6 c p k3 k4 k5 n m o = refl
 
 -- ---- rows 1 and 2
-pub refusal-one : (f : Format) (limit : ℕ) (b : List ℕ) → row1 f b ≡ true → refusal (sheet-rows f limit b) ≡ Refused 1 0
+pub refusal-one : (f : Format) (b : List ℕ) → row1 f b ≡ true → refusal (sheet-rows f b) ≡ Refused 1 0
 unfolding sheet-rows refusal first
-refusal-one f limit b e = rw e refl
+refusal-one f b e = rw e refl
 
-pub refusal-two : (f : Format) (limit : ℕ) (b : List ℕ) → row1 f b ≡ false → (p : ℕ) → row2 (f .columns) b ≡ p → p < count (f .columns) b → refusal (sheet-rows f limit b) ≡ Refused 2 p
+pub refusal-two : (f : Format) (b : List ℕ) → row1 f b ≡ false → (p : ℕ) → row2 (f .columns) b ≡ p → p < count (f .columns) b → refusal (sheet-rows f b) ≡ Refused 2 p
 unfolding row2
-refusal-two f limit b one p e h =
-    ap refusal (sheet-rows-are f limit b (front (f .columns) b) (tail (f .columns) b) refl refl)
+refusal-two f b one p e h =
+    ap refusal (sheet-rows-are f b (front (f .columns) b) (tail (f .columns) b) refl refl)
     ∙ (refusal-skip (whole-row 1 0 (row1 f b)) _ (λ i k. one) ∙ row-first (line-row 2 (count (f .columns) b) (λ i. isBad (line (f .columns) b i))) _ p e h)
 
 -- ---- rows 1 to 7 of a sheet with the parts a and z
-module _ (f : Format) (limit : ℕ) (b a z : List ℕ) (at-front : front (f .columns) b ≡ a) (at-tail : tail (f .columns) b ≡ z)
+module _ (f : Format) (b a z : List ℕ) (at-front : front (f .columns) b ≡ a) (at-tail : tail (f .columns) b ≡ z)
     (one : row1 f b ≡ false) (two : Clear (count (f .columns) b) (λ i. isBad (line (f .columns) b i))) where
   parts : b ≡ a ++ z
   parts = parts-are (f .columns) b ∙ ap₂ (λ (x y : List ℕ). x ++ y) at-front at-tail
@@ -159,7 +159,7 @@ module _ (f : Format) (limit : ℕ) (b a z : List ℕ) (at-front : front (f .col
   front-refusal = refusal (old.sheet-rows f a)
 
   abbrev pub sheet-refusal : Refusal
-  sheet-refusal = refusal (sheet-rows f limit b)
+  sheet-refusal = refusal (sheet-rows f b)
 
   abbrev m : ℕ
   m = count (f .columns) a
@@ -180,7 +180,7 @@ module _ (f : Format) (limit : ℕ) (b a z : List ℕ) (at-front : front (f .col
   x4 = refusal (line-row 4 m (row4 f ls) ∷ [])
 
   abbrev y4 : Refusal
-  y4 = refusal (tail-row 4 m k (leb limit) ∷ [])
+  y4 = refusal (tail-row 4 m k (leb (f .patterns)) ∷ [])
 
   abbrev x5 : Refusal
   x5 = refusal (line-row 5 m (row5 ls) ∷ [])
@@ -202,7 +202,7 @@ module _ (f : Format) (limit : ℕ) (b a z : List ℕ) (at-front : front (f .col
 
   sheet-is : sheet-refusal ≡ in-turn x3 y3 x4 y4 x5 y5 (refusal last-rows)
   sheet-is =
-      ap refusal (sheet-rows-are f limit b a z at-front at-tail)
+      ap refusal (sheet-rows-are f b a z at-front at-tail)
       ∙ (refusal-skip (whole-row 1 0 (row1 f b)) _ (λ i h. one)
       ∙ (refusal-skip (line-row 2 (count (f .columns) b) (λ i. isBad (line (f .columns) b i))) _ two
       ∙ one-more _ _ _ (one-more _ _ _ (one-more _ _ _ (one-more _ _ _ (one-more _ _ _ (one-more _ _ _ refl)))))))
@@ -242,22 +242,22 @@ module _ (f : Format) (limit : ℕ) (b a z : List ℕ) (at-front : front (f .col
     refusal-four e = after-three ∙ (turn-four x3 x4 y4 x5 y5 (refusal last-rows) k5 k6 (ap code-of (sym front-is) ∙ e) ∙ sym front-is)
 
     -- else there are too many Q lines
-    pub refusal-limit : (code-of front-refusal ≡ 3 → ⊥) → (code-of front-refusal ≡ 4 → ⊥) → limit < k → sheet-refusal ≡ Refused 4 (m + limit)
+    pub refusal-limit : (code-of front-refusal ≡ 3 → ⊥) → (code-of front-refusal ≡ 4 → ⊥) → f .patterns < k → sheet-refusal ≡ Refused 4 (m + f .patterns)
     refusal-limit n o h =
         after-three
-        ∙ (ap (λ (y : Refusal). in-turn x3 Accepted x4 y x5 y5 (refusal last-rows)) (row-refused (tail-row 4 m k (leb limit)) limit (limit-place h) h)
-        ∙ turn-limit x3 x4 x5 y5 (refusal last-rows) 4 (m + limit) k3 k4 (λ c. n (ap code-of front-is ∙ c)) (λ c. o (ap code-of front-is ∙ c)))
+        ∙ (ap (λ (y : Refusal). in-turn x3 Accepted x4 y x5 y5 (refusal last-rows)) (row-refused (tail-row 4 m k (leb (f .patterns))) (f .patterns) (limit-place h) h)
+        ∙ turn-limit x3 x4 x5 y5 (refusal last-rows) 4 (m + f .patterns) k3 k4 (λ c. n (ap code-of front-is ∙ c)) (λ c. o (ap code-of front-is ∙ c)))
       where
-        limit-place : limit < k → first (leb limit) k ≡ limit
+        limit-place : f .patterns < k → first (leb (f .patterns)) k ≡ f .patterns
         limit-place h =
-            place-unique (leb limit) k (first (leb limit) k) limit (first-place (leb limit) k)
-            (record { within = omega arith; holds = λ _. le-leb limit limit (omega arith); before = λ i j. lt-leb limit i (omega arith) })
+            place-unique (leb (f .patterns)) k (first (leb (f .patterns)) k) (f .patterns) (first-place (leb (f .patterns)) k)
+            (record { within = omega arith; holds = λ _. le-leb (f .patterns) (f .patterns) (omega arith); before = λ i j. lt-leb (f .patterns) i (omega arith) })
 
-    module _ (few : k ≤ limit) where
+    module _ (few : k ≤ f .patterns) where
       after-four : sheet-refusal ≡ in-turn x3 Accepted x4 Accepted x5 y5 (refusal last-rows)
       after-four =
           after-three
-          ∙ ap (λ (y : Refusal). in-turn x3 Accepted x4 y x5 y5 (refusal last-rows)) (row-passed (tail-row 4 m k (leb limit)) (first-none (leb limit) k (λ i j. lt-leb limit i (omega arith))))
+          ∙ ap (λ (y : Refusal). in-turn x3 Accepted x4 y x5 y5 (refusal last-rows)) (row-passed (tail-row 4 m k (leb (f .patterns))) (first-none (leb (f .patterns)) k (λ i j. lt-leb (f .patterns) i (omega arith))))
 
       -- else the front breaks row 5
       pub refusal-five : code-of front-refusal ≡ 5 → sheet-refusal ≡ front-refusal
@@ -285,14 +285,14 @@ module _ (f : Format) (limit : ℕ) (b a z : List ℕ) (at-front : front (f .col
       (λ q h. ap (λ (n : ℕ). not (eqb n pattern-line)) (raw-rawly (f .columns) z q (tail-good q h) .letters ∙ ap letter (sym (getD-lines (f .columns) z q))))
 
 -- ---- a line of another letter that does not fit, or an end that does not: row 3 refuses with the tail as without it
-module _ (f : Format) (limit : ℕ) (b : List ℕ) (one : row1 f b ≡ false) (two : Clear (count (f .columns) b) (λ i. isBad (line (f .columns) b i)))
+module _ (f : Format) (b : List ℕ) (one : row1 f b ≡ false) (two : Clear (count (f .columns) b) (λ i. isBad (line (f .columns) b i)))
     (p : ℕ) (broken : first (row3 (raws (f .columns) b)) (suc (count (f .columns) b)) ≡ p) (inside : p ≤ count (f .columns) b)
     (other : p < count (f .columns) b → is pattern-line (raw (f .columns) b p) ≡ false) where
-  pub broken-new : refusal (sheet-rows f limit b) ≡ Refused 3 p
+  pub broken-new : refusal (sheet-rows f b) ≡ Refused 3 p
   broken-new =
       let whole : Whole (f .columns) b = row1-whole f b one in
       let r = broken-front (f .columns) b p broken whole inside other in
-      ap refusal (sheet-rows-are f limit b (front (f .columns) b) (tail (f .columns) b) refl refl)
+      ap refusal (sheet-rows-are f b (front (f .columns) b) (tail (f .columns) b) refl refl)
       ∙ (refusal-skip (whole-row 1 0 (row1 f b)) _ (λ i h. one)
       ∙ (refusal-skip (line-row 2 (count (f .columns) b) (λ i. isBad (line (f .columns) b i))) _ two
       ∙ row-first (line-row 3 (suc (count (f .columns) (front (f .columns) b))) (row3 (raws (f .columns) (front (f .columns) b)))) _ p (r .0) (omega (arith, r .1))))

@@ -40,10 +40,10 @@ row13-alone f a z = refusal (tail-row 13 (count (f .columns) a) (count (f .colum
 abbrev pub needed : Format → List ℕ → List ℕ → ℕ
 needed f a z = length (left-sheet f (lines (f .columns) a) (lines (f .columns) z))
 
-module _ (f : Format) (limit : ℕ) (b a z : List ℕ) (at-front : front (f .columns) b ≡ a) (at-tail : tail (f .columns) b ≡ z) where
+module _ (f : Format) (b a z : List ℕ) (at-front : front (f .columns) b ≡ a) (at-tail : tail (f .columns) b ≡ z) where
   program-is : refusal (program-rows f b) ≡ or-later (row8-alone f a) (or-later (faults-alone f a) (row13-alone f a z))
   program-is =
-      ap refusal (program-rows-are f limit b a z at-front at-tail)
+      ap refusal (program-rows-are f b a z at-front at-tail)
       ∙ (refusal-append (line-row 8 (count (f .columns) a) (row8 (program (lines (f .columns) a)) (lines (f .columns) a)) ∷ []) _
       ∙ ap (or-later (row8-alone f a))
       (refusal-append
@@ -56,43 +56,43 @@ module _ (f : Format) (limit : ℕ) (b a z : List ℕ) (at-front : front (f .col
       ∷ [])
       (tail-row 13 (count (f .columns) a) (count (f .columns) z) (row13 (program (lines (f .columns) a)) (lines (f .columns) z)) ∷ [])))
 
-  input-is : refusal (input-rows f limit b) ≡ or-later (refusal (sheet-rows f limit b)) (or-later (row8-alone f a) (or-later (faults-alone f a) (row13-alone f a z)))
-  input-is = refusal-append (sheet-rows f limit b) (program-rows f b) ∙ ap (or-later (refusal (sheet-rows f limit b))) program-is
+  input-is : refusal (input-rows f b) ≡ or-later (refusal (sheet-rows f b)) (or-later (row8-alone f a) (or-later (faults-alone f a) (row13-alone f a z)))
+  input-is = refusal-append (sheet-rows f b) (program-rows f b) ∙ ap (or-later (refusal (sheet-rows f b))) program-is
 
   -- where no row of the input applies
-  pub input-accepted : refusal (sheet-rows f limit b) ≡ Accepted → row8-alone f a ≡ Accepted → faults-alone f a ≡ Accepted
-      → first (row13 (program (lines (f .columns) a)) (lines (f .columns) z)) (count (f .columns) z) ≡ count (f .columns) z → refusal (input-rows f limit b) ≡ Accepted
+  pub input-accepted : refusal (sheet-rows f b) ≡ Accepted → row8-alone f a ≡ Accepted → faults-alone f a ≡ Accepted
+      → first (row13 (program (lines (f .columns) a)) (lines (f .columns) z)) (count (f .columns) z) ≡ count (f .columns) z → refusal (input-rows f b) ≡ Accepted
   input-accepted s e g h =
       input-is ∙ rw (s, e, g) (row-passed (tail-row 13 (count (f .columns) a) (count (f .columns) z) (row13 (program (lines (f .columns) a)) (lines (f .columns) z))) h)
 
   module _ (v l : ℕ) where
-    rows-are : refusal (rows f limit b v l) ≡ or-later (refusal (input-rows f limit b)) (refusal (output-rows f b v l))
-    rows-are = refusal-append (input-rows f limit b) (output-rows f b v l)
+    rows-are : refusal (rows f b v l) ≡ or-later (refusal (input-rows f b)) (refusal (output-rows f b v l))
+    rows-are = refusal-append (input-rows f b) (output-rows f b v l)
 
-    pub rows-input : (code place : ℕ) → refusal (input-rows f limit b) ≡ Refused code place → refusal (rows f limit b v l) ≡ Refused code place
+    pub rows-input : (code place : ℕ) → refusal (input-rows f b) ≡ Refused code place → refusal (rows f b v l) ≡ Refused code place
     rows-input code place e = rows-are ∙ rw e
 
-    pub rows-sheet : (code place : ℕ) → refusal (sheet-rows f limit b) ≡ Refused code place → refusal (rows f limit b v l) ≡ Refused code place
+    pub rows-sheet : (code place : ℕ) → refusal (sheet-rows f b) ≡ Refused code place → refusal (rows f b v l) ≡ Refused code place
     rows-sheet code place e = rows-input code place (input-is ∙ rw e)
 
-    module _ (sheet : refusal (sheet-rows f limit b) ≡ Accepted) where
-      pub rows-eight : (code place : ℕ) → row8-alone f a ≡ Refused code place → refusal (rows f limit b v l) ≡ Refused code place
+    module _ (sheet : refusal (sheet-rows f b) ≡ Accepted) where
+      pub rows-eight : (code place : ℕ) → row8-alone f a ≡ Refused code place → refusal (rows f b v l) ≡ Refused code place
       rows-eight code place e = rows-input code place (input-is ∙ rw (sheet, e))
 
       module _ (eight : row8-alone f a ≡ Accepted) where
-        pub rows-faults : (code place : ℕ) → faults-alone f a ≡ Refused code place → refusal (rows f limit b v l) ≡ Refused code place
+        pub rows-faults : (code place : ℕ) → faults-alone f a ≡ Refused code place → refusal (rows f b v l) ≡ Refused code place
         rows-faults code place e = rows-input code place (input-is ∙ rw (sheet, eight, e))
 
         pub rows-thirteen : faults-alone f a ≡ Accepted
             → (q : ℕ) → first (row13 (program (lines (f .columns) a)) (lines (f .columns) z)) (count (f .columns) z) ≡ q → q < count (f .columns) z
-            → refusal (rows f limit b v l) ≡ Refused 13 (count (f .columns) a + q)
+            → refusal (rows f b v l) ≡ Refused 13 (count (f .columns) a + q)
         rows-thirteen e q p h =
             rows-input 13 (count (f .columns) a + q)
             (input-is ∙ rw (sheet, eight, e) (row-refused (tail-row 13 (count (f .columns) a) (count (f .columns) z) (row13 (program (lines (f .columns) a)) (lines (f .columns) z))) q p h))
 
-    module _ (input : refusal (input-rows f limit b) ≡ Accepted) where
-      past-input : refusal (rows f limit b v l) ≡ refusal (output-rows-of f b (needed f a z) v l)
-      past-input = rows-are ∙ (ap (λ (r : Refusal). or-later r (refusal (output-rows f b v l))) input ∙ ap refusal (output-rows-are f limit b a z at-front at-tail v l))
+    module _ (input : refusal (input-rows f b) ≡ Accepted) where
+      past-input : refusal (rows f b v l) ≡ refusal (output-rows-of f b (needed f a z) v l)
+      past-input = rows-are ∙ (ap (λ (r : Refusal). or-later r (refusal (output-rows f b v l))) input ∙ ap refusal (output-rows-are f b a z at-front at-tail v l))
 
       output-is : refusal (output-rows-of f b (needed f a z) v l)
           ≡ or-later (elim (ltb v (length b)) [ true ↦ Refused 11 (length b) | false ↦ Accepted ]) (or-later (elim (ltb l (needed f a z)) [ true ↦ Refused 12 (needed f a z) | false ↦ Accepted ]) Accepted)
@@ -105,22 +105,22 @@ module _ (f : Format) (limit : ℕ) (b a z : List ℕ) (at-front : front (f .col
           go false true = refl
           go false false = refl
 
-      pub rows-eleven : v < length b → refusal (rows f limit b v l) ≡ Refused 11 (length b)
+      pub rows-eleven : v < length b → refusal (rows f b v l) ≡ Refused 11 (length b)
       rows-eleven h = past-input ∙ (output-is ∙ rw (lt-ltb v (length b) h))
 
-      pub rows-twelve : length b ≤ v → l < needed f a z → refusal (rows f limit b v l) ≡ Refused 12 (needed f a z)
+      pub rows-twelve : length b ≤ v → l < needed f a z → refusal (rows f b v l) ≡ Refused 12 (needed f a z)
       rows-twelve h k = past-input ∙ (output-is ∙ rw (le-ltb v (length b) h, lt-ltb l (needed f a z) k))
 
-      pub rows-none : length b ≤ v → needed f a z ≤ l → refusal (rows f limit b v l) ≡ Accepted
+      pub rows-none : length b ≤ v → needed f a z ≤ l → refusal (rows f b v l) ≡ Accepted
       rows-none h k = past-input ∙ (output-is ∙ rw (le-ltb v (length b) h, le-ltb l (needed f a z) k))
 
   -- ---- the answer, and what a call gives
-  pub answer-refused : (v l code place : ℕ) → refusal (rows f limit b v l) ≡ Refused code place → answer f limit b v l ≡ record { code = code; place = place; rounds = 0; verdict = []; left = [] }
+  pub answer-refused : (v l code place : ℕ) → refusal (rows f b v l) ≡ Refused code place → answer f b v l ≡ record { code = code; place = place; rounds = 0; verdict = []; left = [] }
   unfolding answer answered
   answer-refused v l code place e = rw e refl
 
-  pub answer-accepted : (v l : ℕ) → refusal (rows f limit b v l) ≡ Accepted
-      → answer f limit b v l
+  pub answer-accepted : (v l : ℕ) → refusal (rows f b v l) ≡ Accepted
+      → answer f b v l
       ≡ record {
         code = 0;
         place = 0;
@@ -131,13 +131,13 @@ module _ (f : Format) (limit : ℕ) (b a z : List ℕ) (at-front : front (f .col
   unfolding answer answered
   answer-accepted v l e = rw (e, at-front, at-tail) refl
 
-  pub called-refused : (v l : List ℕ) (code place : ℕ) → refusal (rows f limit b (length v) (length l)) ≡ Refused code place
-      → called f limit b v l ≡ record { code = code; place = place; rounds = 0; verdict-output = v; left-output = l }
+  pub called-refused : (v l : List ℕ) (code place : ℕ) → refusal (rows f b (length v) (length l)) ≡ Refused code place
+      → called f b v l ≡ record { code = code; place = place; rounds = 0; verdict-output = v; left-output = l }
   unfolding called
   called-refused v l code place e = rw (answer-refused (length v) (length l) code place e) refl
 
-  pub called-accepted : (v l : List ℕ) → refusal (rows f limit b (length v) (length l)) ≡ Accepted
-      → called f limit b v l
+  pub called-accepted : (v l : List ℕ) → refusal (rows f b (length v) (length l)) ≡ Accepted
+      → called f b v l
       ≡ record {
         code = 0;
         place = 0;

@@ -53,9 +53,8 @@ unfoldable pub left-sheet : Format → List Line → List Line → List ℕ
 left-sheet f ls qs = encodes (f .columns) (left-lines ls (left-program (run (f .fuel) (program ls))) ++ following f ls qs)
 
 -- ---- the rows, in the order in which they are tested
--- limit: at most so many Q lines
-unfoldable pub sheet-rows : Format → ℕ → List ℕ → List Row
-sheet-rows f limit b =
+unfoldable pub sheet-rows : Format → List ℕ → List Row
+sheet-rows f b =
     let w : ℕ = f .columns in
     let a : List ℕ = front w b in
     let z : List ℕ = tail w b in
@@ -67,7 +66,7 @@ sheet-rows f limit b =
     ∷ line-row 3 (suc m) (row3 (raws w a))
     ∷ tail-row 3 m k (λ q. not (is pattern-line (raw w z q)))
     ∷ line-row 4 m (row4 f ls)
-    ∷ tail-row 4 m k (leb limit)
+    ∷ tail-row 4 m k (leb (f .patterns))
     ∷ line-row 5 m (row5 ls)
     ∷ tail-row 5 m k (λ q. not (good-pattern (count-of name-line ls) (lines w z) q))
     ∷ line-row 6 m (row6 ls)
@@ -86,8 +85,8 @@ program-rows f b =
     ∷ []
 
 -- every row that looks at no output
-abbrev pub input-rows : Format → ℕ → List ℕ → List Row
-input-rows f limit b = sheet-rows f limit b ++ program-rows f b
+abbrev pub input-rows : Format → List ℕ → List Row
+input-rows f b = sheet-rows f b ++ program-rows f b
 
 -- rows 11 and 12: v and l are the outputs' lengths
 unfoldable pub output-rows : Format → List ℕ → ℕ → ℕ → List Row
@@ -98,8 +97,8 @@ output-rows f b v l =
     ∷ whole-row 12 needed (ltb l needed)
     ∷ []
 
-abbrev pub rows : Format → ℕ → List ℕ → ℕ → ℕ → List Row
-rows f limit b v l = input-rows f limit b ++ output-rows f b v l
+abbrev pub rows : Format → List ℕ → ℕ → ℕ → List Row
+rows f b v l = input-rows f b ++ output-rows f b v l
 
 -- ---- the answer
 unfoldable pub answered : Format → List ℕ → Refusal → Answer
@@ -109,10 +108,10 @@ answered f b Accepted =
     let qs : List Line = lines (f .columns) (tail (f .columns) b) in
     record { code = 0; place = 0; rounds = run (f .fuel) (program ls) .rounds; verdict = verdict-sheet f ls qs; left = left-sheet f ls qs }
 
-unfoldable pub answer : Format → ℕ → List ℕ → ℕ → ℕ → Answer
-answer f limit b v l = answered f b (refusal (rows f limit b v l))
+unfoldable pub answer : Format → List ℕ → ℕ → ℕ → Answer
+answer f b v l = answered f b (refusal (rows f b v l))
 
-unfoldable pub called : Format → ℕ → List ℕ → List ℕ → List ℕ → Given
-called f limit sheet verdict left =
-    let a : Answer = answer f limit sheet (length verdict) (length left) in
+unfoldable pub called : Format → List ℕ → List ℕ → List ℕ → Given
+called f sheet verdict left =
+    let a : Answer = answer f sheet (length verdict) (length left) in
     record { code = a .code; place = a .place; rounds = a .rounds; verdict-output = after (a .verdict) verdict; left-output = after (a .left) left }

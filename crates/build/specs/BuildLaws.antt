@@ -142,7 +142,7 @@ tailed-none b short e =
     let plain : NoPattern 6 b = passed-plain 6 b (none-first (row3 (raws 6 b)) (suc (count 6 b)) (accepted-rows b e .in-order)) in
     record {
       parted = record { front-whole = row1-whole base b short; plain = plain; tail-whole = refl; begins = λ h. absurd (omega (arith, h)); no-bad = λ i h. absurd (omega (arith, h)) };
-      sheet = ap (λ (x : List ℕ). refusal (whole.sheet-rows base 256 x)) (append-nil b) ∙ (sheet-refusal-plain base 256 b (row1-whole base b short) plain ∙ e);
+      sheet = ap (λ (x : List ℕ). refusal (whole.sheet-rows base x)) (append-nil b) ∙ (sheet-refusal-plain base b (row1-whole base b short) plain ∙ e);
       cells = refl;
       sized = refl;
       few = omega arith;
@@ -164,12 +164,12 @@ unfolding checked-of
 refuses-of b room code place short e h = record { short = short; refused = refused-of b (refusal (sheet-rows base b)) (counts-of (lines 6 b)) code place refl e; roomy = h }
 
 -- by the rows of both parts
-pub gives-sheet : (b v l : List ℕ) (code place : ℕ) → refusal (whole.sheet-rows base 256 b) ≡ Refused code place → Gives b v l (refused-as code place) v l
+pub gives-sheet : (b v l : List ℕ) (code place : ℕ) → refusal (whole.sheet-rows base b) ≡ Refused code place → Gives b v l (refused-as code place) v l
 gives-sheet b v l code place e =
-    gives-refused b (front 6 b) (tail 6 b) v l refl refl code place (rows-sheet base 256 b (front 6 b) (tail 6 b) refl refl (length v) (length l) code place e)
+    gives-refused b (front 6 b) (tail 6 b) v l refl refl code place (rows-sheet base b (front 6 b) (tail 6 b) refl refl (length v) (length l) code place e)
 
 -- row 1 refuses
-one-refused : (b : List ℕ) → row1 base b ≡ true → refusal (whole.sheet-rows base 256 b) ≡ Refused 1 0
+one-refused : (b : List ℕ) → row1 base b ≡ true → refusal (whole.sheet-rows base b) ≡ Refused 1 0
 unfolding whole.sheet-rows refusal first
 one-refused b e = rw e refl
 
@@ -208,24 +208,24 @@ module _ (b : List ℕ) (room m at : ℕ) (r : Breaks b room m) (e : at ≡ m * 
       })
 
   pub front-short : row1 base (take at b) ≡ false
-  front-short = rw first-is (front-row1 base 256 b (front 6 b) (tail 6 b) refl refl (r .short) two)
+  front-short = rw first-is (front-row1 base b (front 6 b) (tail 6 b) refl refl (r .short) two)
 
   pub front-good : Clear (count 6 (take at b)) (λ i. isBad (line 6 (take at b) i))
-  front-good = rw first-is (refusals.front-good base 256 b (front 6 b) (tail 6 b) refl refl (r .short) two)
+  front-good = rw first-is (refusals.front-good base b (front 6 b) (tail 6 b) refl refl (r .short) two)
 
   pub front-lines : count 6 (take at b) ≡ m
   front-lines = ap (count 6) first-is ∙ (count-front 6 b ∙ r .begins)
 
   -- where no row applies to both parts, none applies to the declarations
-  pub front-passes : refusal (whole.sheet-rows base 256 b) ≡ Accepted → refusal (sheet-rows base (take at b)) ≡ Accepted
+  pub front-passes : refusal (whole.sheet-rows base b) ≡ Accepted → refusal (sheet-rows base (take at b)) ≡ Accepted
   unfolding whole.sheet-rows sheet-rows
   front-passes e =
-      let h = accepted-clear (whole.sheet-rows base 256 b) e in
+      let h = accepted-clear (whole.sheet-rows base b) e in
       rw first-is
       (clear-accepted (sheet-rows base (front 6 b)) (
-        (λ i k. front-row1 base 256 b (front 6 b) (tail 6 b) refl refl (r .short) two),
+        (λ i k. front-row1 base b (front 6 b) (tail 6 b) refl refl (r .short) two),
         (
-          refusals.front-good base 256 b (front 6 b) (tail 6 b) refl refl (r .short) two,
+          refusals.front-good base b (front 6 b) (tail 6 b) refl refl (r .short) two,
           (h .1 .1 .0, (h .1 .1 .1 .1 .0, (h .1 .1 .1 .1 .1 .1 .0, (h .1 .1 .1 .1 .1 .1 .1 .1 .0, (h .1 .1 .1 .1 .1 .1 .1 .1 .1 .0, tt))))),
         ),
       ))
@@ -263,10 +263,10 @@ module _ (b : List ℕ) (room m : ℕ) (r : Breaks b room m) where
   cut-lines = ap (count 6) (cut-first b (m * 32)) ∙ front-lines b room m (m * 32) r refl
 
   -- what the test of both parts tells, where no row applies
-  module _ (e : refusal (whole.sheet-rows base 256 (before ++ behind-it)) ≡ Accepted) where
+  module _ (e : refusal (whole.sheet-rows base (before ++ behind-it)) ≡ Accepted) where
     pub cut-passes : refusal (sheet-rows base before) ≡ Accepted
     cut-passes =
-        let k : refusal (whole.sheet-rows base 256 b) ≡ Accepted = ap (λ (x : List ℕ). refusal (whole.sheet-rows base 256 x)) (sym cut-joined) ∙ e in
+        let k : refusal (whole.sheet-rows base b) ≡ Accepted = ap (λ (x : List ℕ). refusal (whole.sheet-rows base x)) (sym cut-joined) ∙ e in
         ap (λ (x : List ℕ). refusal (sheet-rows base x)) (cut-first b (m * 32)) ∙ front-passes b room m (m * 32) r refl k
 
     pub tailed-of : (q p : List ℕ) → Held before behind-it q → 1536 ≤ length q → p ≡ take (6 * count 6 behind-it) q → Tailed before behind-it p
@@ -304,5 +304,5 @@ part-length m n h = let e : n - 0 ≡ n = omega arith in rw e (length-take-le n 
 
 -- ---- calls
 -- A call of the build is a call that the claims speak of (`cut-calls`).
-pub call-of : (b v l : List ℕ) (r : Built) (v′ l′ : List ℕ) → Gives b v l r v′ l′ → Call base 256
+pub call-of : (b v l : List ℕ) (r : Built) (v′ l′ : List ℕ) → Gives b v l r v′ l′ → Call base
 call-of b v l r v′ l′ g = record { sheet = b; verdict = v; left = l; gave = given r v′ l′; is-called = g .is-called }

@@ -41,7 +41,7 @@ raw-letter b i =
 
 module _ (b : List ℕ) (one : row1 base b ≡ false) where
   -- a bad line, with Q lines as without
-  bad-new : row2 6 b < count 6 b → refusal (sheet-rows base 256 b) ≡ Refused 2 (row2 6 b)
+  bad-new : row2 6 b < count 6 b → refusal (sheet-rows base b) ≡ Refused 2 (row2 6 b)
   unfolding sheet-rows row2
   bad-new h = refusal-skip (whole-row 1 0 (row1 base b)) _ (λ i k. one) ∙ row-first (line-row 2 (count 6 b) (λ i. isBad (line 6 b i))) _ (row2 6 b) refl h
 
@@ -98,21 +98,21 @@ module _ (b : List ℕ) (room code place : ℕ) (r : Refuses b room code place) 
   told c q e = (ap code-of (sym (r .refused) ∙ e), ap place-in (sym (r .refused) ∙ e))
 
   -- refused with Q lines as without
-  pub same-refused : (code ≡ 3 → place < count 6 b → is pattern-line (raw 6 b place) ≡ false) → refusal (sheet-rows base 256 b) ≡ Refused code place
-  same-refused other = decide (refusal (sheet-rows base 256 b) ≡ Refused code place) (row2 6 b) (count 6 b) bad (λ h. good (omega (arith, row2-le, h)))
+  pub same-refused : (code ≡ 3 → place < count 6 b → is pattern-line (raw 6 b place) ≡ false) → refusal (sheet-rows base b) ≡ Refused code place
+  same-refused other = decide (refusal (sheet-rows base b) ≡ Refused code place) (row2 6 b) (count 6 b) bad (λ h. good (omega (arith, row2-le, h)))
     where
-      bad : row2 6 b < count 6 b → refusal (sheet-rows base 256 b) ≡ Refused code place
+      bad : row2 6 b < count 6 b → refusal (sheet-rows base b) ≡ Refused code place
       bad h = let t = told 2 (row2 6 b) (bad-old b (r .short) h) in bad-new b (r .short) h ∙ rw (t .0, t .1) refl
 
-      broken : row2 6 b ≡ count 6 b → p ≤ count 6 b → refusal (sheet-rows base 256 b) ≡ Refused code place
+      broken : row2 6 b ≡ count 6 b → p ≤ count 6 b → refusal (sheet-rows base b) ≡ Refused code place
       broken n h =
           let t = told 3 p (order-old b (r .short) n h) in
           let o : p < count 6 b → is pattern-line (raw 6 b p) ≡ false = λ k. rw (t .1) at (other (t .0) (omega (arith, k, t .1))) in
-          broken-new base 256 b (r .short) (two b (r .short) n) p refl h o ∙ rw (t .0, t .1) refl
+          broken-new base b (r .short) (two b (r .short) n) p refl h o ∙ rw (t .0, t .1) refl
 
-      good : row2 6 b ≡ count 6 b → refusal (sheet-rows base 256 b) ≡ Refused code place
-      good n = decide (refusal (sheet-rows base 256 b) ≡ Refused code place) p (suc (count 6 b)) (λ h. broken n (omega (arith, h)))
-          (λ h. sheet-refusal-plain base 256 b (row1-whole base b (r .short)) (passed-plain 6 b (none-first (row3 (raws 6 b)) (suc (count 6 b)) (omega (arith, h, first-le (row3 (raws 6 b)) (suc (count 6 b)))))) ∙ r .refused)
+      good : row2 6 b ≡ count 6 b → refusal (sheet-rows base b) ≡ Refused code place
+      good n = decide (refusal (sheet-rows base b) ≡ Refused code place) p (suc (count 6 b)) (λ h. broken n (omega (arith, h)))
+          (λ h. sheet-refusal-plain base b (row1-whole base b (r .short)) (passed-plain 6 b (none-first (row3 (raws 6 b)) (suc (count 6 b)) (omega (arith, h, first-le (row3 (raws 6 b)) (suc (count 6 b)))))) ∙ r .refused)
 
   -- a Q line that is out of order: the Q lines begin there
   pub breaks-of : code ≡ 3 → place < count 6 b → is pattern-line (raw 6 b place) ≡ true → Breaks b room place

@@ -53,7 +53,7 @@ module _ (b t keep u z q : List ℕ) (r : Run) (rank rank′ : List ℕ) (read :
       let x = parted-front b z (tailed .parted) in
       let y = parted-tail b z (tailed .parted) in
       gives-refused (b ++ z) b z v l x y 8 (start ls (r .returning))
-      (rows-eight base 256 (b ++ z) b z x y (length v) (length l) (tailed .sheet) 8 (start ls (r .returning))
+      (rows-eight base (b ++ z) b z x y (length v) (length l) (tailed .sheet) 8 (start ls (r .returning))
       (sym (eight-same b t (read .of)) ∙ rows.row8-alone ls (r .returning) rank rank′ (ran .judged .first-of) ∙ rw (lt-ltb (r .returning) n h)))
 
   all : n ≤ r .returning → r .returning ≡ n
@@ -95,7 +95,7 @@ module _ (b t u rank keep z q : List ℕ) (f : Found b t u rank keep) (tailed : 
   pub gives-faults : (v l : List ℕ) (code place : ℕ) → refusal (faults-row base (lines-in t) ∷ []) ≡ Refused code place → Gives (b ++ z) v l (refused-as code place) v l
   gives-faults v l code place e =
       gives-refused (b ++ z) b z v l at-front at-tail code place
-      (rows-faults base 256 (b ++ z) b z at-front at-tail (length v) (length l) (tailed .sheet) eight-bytes code place (sym (faults-same b t (f .read .of)) ∙ e))
+      (rows-faults base (b ++ z) b z at-front at-tail (length v) (length l) (tailed .sheet) eight-bytes code place (sym (faults-same b t (f .read .of)) ∙ e))
 
   pub clear-of : refusal (faults-row base (lines-in t) ∷ []) ≡ Accepted → Clear b t u rank keep
   clear-of e = record { found = f; faults = e; accepted = front-input b (f .read .sheet) eight-bytes (sym (faults-same b t (f .read .of)) ∙ e) }

@@ -21,7 +21,7 @@ behind p = 32 * (length p / 6)
 pub record Follows (a z t p u rank keep v : List ℕ) : Type 0 where
   pub lent : Lent a t u rank keep v 98496 1024 1024
   pub parted : Parted 6 a z
-  pub input : refusal (input-rows base 256 (a ++ z)) ≡ Accepted
+  pub input : refusal (input-rows base (a ++ z)) ≡ Accepted
   pub verdict-room : length a + length z ≤ length v
   pub lines-are : lines-of p ≡ following base (lines 6 a) (lines 6 z)
   pub bytes : Bytes p

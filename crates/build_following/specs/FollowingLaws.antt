@@ -101,7 +101,7 @@ module _ (a z t p u rank keep v : List ℕ) (h : Follows a z t p u rank keep v) 
   both-twelve l n e k =
       rw (e ∙ sym both-long)
       (gives-refused (a ++ z) a z v l at-front at-tail 12 (length (whole.left-sheet base (lines 6 a) (lines 6 z)))
-      (rows-twelve base 256 (a ++ z) a z at-front at-tail (length v) (length l) (h .input) long (omega (arith, both-long, e, k))))
+      (rows-twelve base (a ++ z) a z at-front at-tail (length v) (length l) (h .input) long (omega (arith, both-long, e, k))))
 
   -- ---- what was lent
   pub lent-first : Lent a t u rank keep (midOf 0 (length a - 0) v) 98496 1024 1024
@@ -191,7 +191,7 @@ module _ (a z t p u rank keep v : List ℕ) (h : Follows a z t p u rank keep v) 
           → Gives (a ++ z) v l (record { code = 0; place = 0; rounds = f .rounds; verdict = length a + length z; left = f .left + behind p }) v″ l″
       gives-both v″ l″ d e =
           gives-accepted (a ++ z) a z v l at-front at-tail (f .rounds) (length a + length z) (f .left + behind p) v″ l″
-          (rows-none base 256 (a ++ z) a z at-front at-tail (length v) (length l) (h .input) long (omega (arith, both-long, fits)))
+          (rows-none base (a ++ z) a z at-front at-tail (length v) (length l) (h .input) long (omega (arith, both-long, fits)))
           (read .rounds-are)
           (d ∙ rw (verdict-first, verdict-is) (behind-written verdict z v (length a) (length z) (sym verdict-long) refl))
           (e ∙ rw (left-first, left-is) (behind-written left more l (f .left) (behind p) (read .left-is) (sym more-long)))

@@ -36,7 +36,7 @@ Good names q = first (links.row5 names (lines-of q)) (length (lines-of q)) ≡ l
 -- Q lines behind declarations, or none, to which none of rows 1 to 7 applies.
 pub record Tailed (a z q : List ℕ) : Type 0 where
   pub parted : Parted 6 a z
-  pub sheet : refusal (sheet-rows base 256 (a ++ z)) ≡ Accepted
+  pub sheet : refusal (sheet-rows base (a ++ z)) ≡ Accepted
   pub cells : lines-of q ≡ lines 6 z
   pub sized : length q ≡ 6 * count 6 z
   pub few : length q ≤ 1536

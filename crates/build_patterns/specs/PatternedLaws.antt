@@ -114,7 +114,7 @@ module _ (a z t q u rank keep : List ℕ) (p : Patterned a z t q u rank keep) wh
       → Gives (a ++ z) v l (refused-as 13 (length a / 32 + w)) v l
   gives-thirteen v l w e h =
       gives-refused (a ++ z) a z v l at-front at-tail 13 (length a / 32 + w)
-      (rows-thirteen base 256 (a ++ z) a z at-front at-tail (length v) (length l) (p .tailed .sheet) eight faults w (told w e) (omega (arith, h, length-lines-of q, lines-many)))
+      (rows-thirteen base (a ++ z) a z at-front at-tail (length v) (length l) (p .tailed .sheet) eight faults w (told w e) (omega (arith, h, length-lines-of q, lines-many)))
     where
       told : (w : ℕ) → w ≡ first (row13 (program (lines-in t)) (lines-of q)) (length (lines-of q)) → first (row13 (program (lines 6 a)) (lines 6 z)) (count 6 z) ≡ w
       told w e = sym (e ∙ (ap (λ (ds : List Decl). first (row13 ds (lines-of q)) (length (lines-of q))) (program-same a t of) ∙ ap₂ (λ (qs : List Line) (n : ℕ). first (row13 (program (lines 6 a)) qs) n) (p .tailed .cells) lines-many))
@@ -127,13 +127,13 @@ module _ (a z t q u rank keep : List ℕ) (p : Patterned a z t q u rank keep) wh
       omega (arith, f, x, h, length-lines-of q, lines-many)
 
   module _ (counts : first (row13 (program (lines 6 a)) (lines 6 z)) (count 6 z) ≡ count 6 z) where
-    pub input-of : refusal (input-rows base 256 (a ++ z)) ≡ Accepted
-    input-of = input-accepted base 256 (a ++ z) a z at-front at-tail (p .tailed .sheet) eight faults counts
+    pub input-of : refusal (input-rows base (a ++ z)) ≡ Accepted
+    input-of = input-accepted base (a ++ z) a z at-front at-tail (p .tailed .sheet) eight faults counts
 
     pub gives-eleven : (v l : List ℕ) (n : ℕ) → n ≡ length a + length z → length v < n → Gives (a ++ z) v l (refused-as 11 n) v l
     gives-eleven v l n e h =
         let k : n ≡ length (a ++ z) = e ∙ sym (length-append a z) in
-        rw k (gives-refused (a ++ z) a z v l at-front at-tail 11 (length (a ++ z)) (rows-eleven base 256 (a ++ z) a z at-front at-tail (length v) (length l) input-of (rw k at h)))
+        rw k (gives-refused (a ++ z) a z v l at-front at-tail 11 (length (a ++ z)) (rows-eleven base (a ++ z) a z at-front at-tail (length v) (length l) input-of (rw k at h)))
 
 -- ---- lines of a letter and five numbers
 abbrev Rowed : Line → Type 0

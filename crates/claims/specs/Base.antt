@@ -1,7 +1,7 @@
 -- What is promised of every call of the layout build, in the base format (FORMAT): the claims of
 -- `Claims`, in short and with nothing assumed of the format. Read this first; `Claims` has the words in full.
 --
--- b is the sheet, v and l the lengths of the outputs for the verdict sheet and the left sheet. There may be 256 Q lines.
+-- b is the sheet, v and l the lengths of the outputs for the verdict sheet and the left sheet.
 -- Assumes nothing.
 use mathlib.Core.Logic.{_↔_}
 use mathlib.Core.Path.{_≡_}
@@ -38,72 +38,72 @@ use Rattle.claims.specs.Claims as claims
 
 -- ---- demand 1: refusals
 -- code 0 exactly where no row of the table applies
-pub refused : (b : List ℕ) (v l : ℕ) → Accepts base 256 b v l ↔ Passes base 256 b v l
-refused = claims.refused base 256
+pub refused : (b : List ℕ) (v l : ℕ) → Accepts base b v l ↔ Passes base b v l
+refused = claims.refused base
 
 -- else one of the codes 1 to 13, of the first row that applies, at the first place where it does
-pub refused-by : (b : List ℕ) (v l : ℕ) → (Accepts base 256 b v l → ⊥) → Refuses (rows base 256 b v l) (answer base 256 b v l .code) (answer base 256 b v l .place) × (1 ≤ answer base 256 b v l .code) × (answer base 256 b v l .code ≤ 13)
-refused-by b v l = claims.refused-by base 256 b v l base-ample
+pub refused-by : (b : List ℕ) (v l : ℕ) → (Accepts base b v l → ⊥) → Refuses (rows base b v l) (answer base b v l .code) (answer base b v l .place) × (1 ≤ answer base b v l .code) × (answer base b v l .code ≤ 13)
+refused-by b v l = claims.refused-by base b v l base-ample
 
 -- then both outputs keep their bytes
-pub unchanged : (b : List ℕ) (v l : ℕ) → (Accepts base 256 b v l → ⊥) → Unchanged (answer base 256 b v l)
-unchanged = claims.unchanged base 256
+pub unchanged : (b : List ℕ) (v l : ℕ) → (Accepts base b v l → ⊥) → Unchanged (answer base b v l)
+unchanged = claims.unchanged base
 
 -- and on acceptance each begins with its sheet and keeps its bytes past it
-pub written : (b : List ℕ) (v l : ℕ) → Accepts base 256 b v l → (old old' : List ℕ) → length old ≡ v → length old' ≡ l → Holds (answer base 256 b v l .verdict) old × Holds (answer base 256 b v l .left) old'
-written b v l = claims.written base 256 b v l (omega arith)
+pub written : (b : List ℕ) (v l : ℕ) → Accepts base b v l → (old old' : List ℕ) → length old ≡ v → length old' ≡ l → Holds (answer base b v l .verdict) old × Holds (answer base b v l .left) old'
+written b v l = claims.written base b v l (omega arith)
 
 -- ---- demand 2: the source's answer
 -- erasure is the least solution of the rules
-pub least : (b : List ℕ) (v l : ℕ) → Accepts base 256 b v l → Least (decls base b)
-least = claims.least base 256
+pub least : (b : List ℕ) (v l : ℕ) → Accepts base b v l → Least (decls base b)
+least = claims.least base
 
 -- found in the rounds that are told, at most one more than there are local types
-pub rounds : (b : List ℕ) (v l : ℕ) → Accepts base 256 b v l → Rounds (decls base b) (answer base 256 b v l .rounds)
-rounds = claims.rounds base 256
+pub rounds : (b : List ℕ) (v l : ℕ) → Accepts base b v l → Rounds (decls base b) (answer base b v l .rounds)
+rounds = claims.rounds base
 
 -- a local type keeps the fields that are not erased, in order; its layout and record number
-pub kept-fields : (b : List ℕ) (v l : ℕ) → Accepts base 256 b v l → (i : ℕ) → i < length (decls base b) → origin-at (decls base b) i ≡ here
+pub kept-fields : (b : List ℕ) (v l : ℕ) → Accepts base b v l → (i : ℕ) → i < length (decls base b) → origin-at (decls base b) i ≡ here
     → (d : TypeInfo) → LocalVerdict 100 (decls base b) i (getD (run 100 (decls base b) .infos) i d)
-kept-fields = claims.kept-fields base 256
+kept-fields = claims.kept-fields base
 
 -- a constructor collapses exactly where the guards allow
-pub collapsed : (b : List ℕ) (v l : ℕ) → Accepts base 256 b v l → (i : ℕ) → i < length (decls base b) → origin-at (decls base b) i ≡ here → (nt : NewtypeLayout)
+pub collapsed : (b : List ℕ) (v l : ℕ) → Accepts base b v l → (i : ℕ) → i < length (decls base b) → origin-at (decls base b) i ≡ here → (nt : NewtypeLayout)
     → (layout-of-decl (decls base b) i ≡ L-newtype nt)
     ↔ (Candidate (erased (decls base b)) (dtype-at (decls base b) i) (getD (marks (decls base b)) i false) nt
     × (Reach (guard-next (decls base b) (candidates-of (decls base b) (marks (decls base b)))) i i → ⊥))
-collapsed = claims.collapsed base 256
+collapsed = claims.collapsed base
 
 -- imports keep what their lines say
-pub imports : (b : List ℕ) (v l : ℕ) → Accepts base 256 b v l → (i : ℕ) (ti : TypeInfo) → i < length (decls base b) → origin-at (decls base b) i ≡ imported ti
+pub imports : (b : List ℕ) (v l : ℕ) → Accepts base b v l → (i : ℕ) (ti : TypeInfo) → i < length (decls base b) → origin-at (decls base b) i ≡ imported ti
     → ((d : TypeInfo) → getD (run 100 (decls base b) .infos) i d ≡ ti) × (layout-of-decl (decls base b) i ≡ ti .ti-layout)
-imports = claims.imports base 256
+imports = claims.imports base
 
 -- every type is resolved to the end, the fuel of 100 never spent
-pub unspent : (b : List ℕ) (v l : ℕ) → Accepts base 256 b v l → (i : ℕ) → i < length (decls base b) → (c : Cty) → List·Memᴰ c (resolves (layout-of-decl (decls base b) i)) → Unspent base (decls base b) c
-unspent b v l = claims.unspent base 256 b v l base-ample
+pub unspent : (b : List ℕ) (v l : ℕ) → Accepts base b v l → (i : ℕ) → i < length (decls base b) → (c : Cty) → List·Memᴰ c (resolves (layout-of-decl (decls base b) i)) → Unspent base (decls base b) c
+unspent b v l = claims.unspent base b v l base-ample
 
 -- the two sheets are those of the source's `run`
-pub run-of-source : (b : List ℕ) (v l : ℕ) → Accepts base 256 b v l → OfSource base b (answer base 256 b v l)
-run-of-source = claims.run-of-source base 256
+pub run-of-source : (b : List ℕ) (v l : ℕ) → Accepts base b v l → OfSource base b (answer base b v l)
+run-of-source = claims.run-of-source base
 
 -- where there are Q lines, the new pattern and the freed names follow what is left
-pub pattern-of-source : (b : List ℕ) (v l : ℕ) → Accepts base 256 b v l → PatternOfSource base b (answer base 256 b v l)
-pattern-of-source = claims.pattern-of-source base 256
+pub pattern-of-source : (b : List ℕ) (v l : ℕ) → Accepts base b v l → PatternOfSource base b (answer base b v l)
+pattern-of-source = claims.pattern-of-source base
 
 -- in which constructors of declared types have their kept fields alone
-pub fields-lost : (b : List ℕ) (v l : ℕ) → Accepts base 256 b v l
+pub fields-lost : (b : List ℕ) (v l : ℕ) → Accepts base b v l
     → Fitting (ctor-owner (run 100 (decls base b) .infos)) (type-layout (decls base b) (run 100 (decls base b) .infos)) (sheet-rewritten base b .pat)
-fields-lost = claims.fields-lost base 256
+fields-lost = claims.fields-lost base
 
 -- no variable is lost, and none is made
-pub names-accounted : (b : List ℕ) (v l : ℕ) → Accepts base 256 b v l → Once (sheet-pattern base b)
+pub names-accounted : (b : List ℕ) (v l : ℕ) → Accepts base b v l → Once (sheet-pattern base b)
     → (n : ℕ) → occurrences n (pat-vars (sheet-pattern base b)) ≡ occurrences n (pat-vars (sheet-rewritten base b .pat)) + occurrences n (sheet-rewritten base b .freed)
-names-accounted = claims.names-accounted base 256
+names-accounted = claims.names-accounted base
 
 -- and no more lines follow than there are Q lines
-pub lines-bounded : (b : List ℕ) (v l : ℕ) → Accepts base 256 b v l → length (following base (decl-lines base b) (pattern-lines base b)) ≤ count 6 (tail 6 b)
-lines-bounded = claims.lines-bounded base 256
+pub lines-bounded : (b : List ℕ) (v l : ℕ) → Accepts base b v l → length (following base (decl-lines base b) (pattern-lines base b)) ≤ count 6 (tail 6 b)
+lines-bounded = claims.lines-bounded base
 
 -- which denote the new pattern
 pub read-back : (b : List ℕ) → pattern (map (row pattern-line) (pat-lines (sheet-rewritten base b .pat) 0 0 0)) ≡ sheet-rewritten base b .pat
@@ -111,40 +111,40 @@ read-back = claims.read-back base
 
 -- ---- demand 3: the cut
 -- units built in turn, the last with the Q lines z, give what the whole gives
-pub cut : (v l : ℕ) (b header u : List ℕ) (us : List (List ℕ)) (z : List ℕ) → Cut 6 b header (u ∷ us) z → builds base 256 v l header u us z ≡ build base 256 v l b
-cut v l b header u us z = claims.cut base 256 v l b header u us z (omega arith)
+pub cut : (v l : ℕ) (b header u : List ℕ) (us : List (List ℕ)) (z : List ℕ) → Cut 6 b header (u ∷ us) z → builds base v l header u us z ≡ build base v l b
+cut v l b header u us z = claims.cut base v l b header u us z (omega arith)
 
 -- and so do calls
 pub cut-calls : (v l : ℕ) (b header u : List ℕ) (us : List (List ℕ)) (z : List ℕ) → Cut 6 b header (u ∷ us) z
-    → (c : Call base 256) (cs : List (Call base 256)) → InTurn base 256 v l header u us z c cs → (whole : Call base 256) → Over base 256 v l [] b whole
+    → (c : Call base) (cs : List (Call base)) → InTurn base v l header u us z c cs → (whole : Call base) → Over base v l [] b whole
     → (AllAccept c cs ↔ (whole .gave .code ≡ 0)) × (whole .gave .code ≡ 0 → (x : Sheets) × Wrote whole x × Wrote (last-call c cs) x)
-cut-calls v l b header u us z = claims.cut-calls base 256 v l b header u us z (omega arith)
+cut-calls v l b header u us z = claims.cut-calls base v l b header u us z (omega arith)
 
 -- ---- the operator's checklist
 -- 1: the verdict sheet is as long as the sheet; built again it gives itself
-pub verdict-length : (b : List ℕ) (v l : ℕ) → Accepts base 256 b v l → length (answer base 256 b v l .verdict) ≡ length b
-verdict-length b v l = claims.verdict-length base 256 b v l (omega arith)
+pub verdict-length : (b : List ℕ) (v l : ℕ) → Accepts base b v l → length (answer base b v l .verdict) ≡ length b
+verdict-length b v l = claims.verdict-length base b v l (omega arith)
 
 -- line by line: D has become I, and local declarations have their keep and V numbers
-pub verdict-lines-told : (b : List ℕ) (v l : ℕ) → Accepts base 256 b v l → (i : ℕ) → i < count 6 (front 6 b)
-    → line-at (lines 6 (answer base 256 b v l .verdict)) i
+pub verdict-lines-told : (b : List ℕ) (v l : ℕ) → Accepts base b v l → (i : ℕ) → i < count 6 (front 6 b)
+    → line-at (lines 6 (answer base b v l .verdict)) i
     ≡ verdict-line-of (erased (decls base b)) (trees (decl-lines base b)) (info-at 100 (decls base b) (heads-before (decl-lines base b) (suc i) - 1)) (head-of (decl-lines base b) i) (line-at (decl-lines base b) i)
-verdict-lines-told b v l = claims.verdict-lines-told base 256 b v l (omega arith)
+verdict-lines-told b v l = claims.verdict-lines-told base b v l (omega arith)
 
 -- Q lines stay
-pub verdict-patterns-stay : (b : List ℕ) (v l : ℕ) → Accepts base 256 b v l → (i : ℕ) → line-at (lines 6 (answer base 256 b v l .verdict)) (count 6 (front 6 b) + i) ≡ line-at (pattern-lines base b) i
-verdict-patterns-stay b v l = claims.verdict-patterns-stay base 256 b v l (omega arith)
+pub verdict-patterns-stay : (b : List ℕ) (v l : ℕ) → Accepts base b v l → (i : ℕ) → line-at (lines 6 (answer base b v l .verdict)) (count 6 (front 6 b) + i) ≡ line-at (pattern-lines base b) i
+verdict-patterns-stay b v l = claims.verdict-patterns-stay base b v l (omega arith)
 
-pub verdict-again : (b : List ℕ) (v l : ℕ) (x : Sheets) → build base 256 v l b ≡ some x → build base 256 v l (x .verdict) ≡ some x
-verdict-again b v l = claims.verdict-again base 256 b v l (omega arith)
+pub verdict-again : (b : List ℕ) (v l : ℕ) (x : Sheets) → build base v l b ≡ some x → build base v l (x .verdict) ≡ some x
+verdict-again b v l = claims.verdict-again base b v l (omega arith)
 
 -- 2: a record keeps the same fields in every unit
-pub same-fields : (v l : ℕ) (b header u : List ℕ) (us ys : List (List ℕ)) (z : List ℕ) → Cut 6 b header (u ∷ (us ++ ys)) z → (y : Sheets) → build base 256 v l b ≡ some y → FirstUnits base 256 v l b header u us y
-same-fields v l b header u us ys z = claims.same-fields base 256 v l b header u us ys z (omega arith)
+pub same-fields : (v l : ℕ) (b header u : List ℕ) (us ys : List (List ℕ)) (z : List ℕ) → Cut 6 b header (u ∷ (us ++ ys)) z → (y : Sheets) → build base v l b ≡ some y → FirstUnits base v l b header u us y
+same-fields v l b header u us ys z = claims.same-fields base v l b header u us ys z (omega arith)
 
 -- 3: nothing in the left sheet names a collapsed or erased type
-pub resolved : (b : List ℕ) (v l : ℕ) → Accepts base 256 b v l → (y : Line) → List·Memᴰ y (lines 6 (answer base 256 b v l .left)) → letter y ≡ type-line → number y 0 ≡ 8 → lay (decls base b) (number y 1) ≡ stays
-resolved b v l = claims.resolved base 256 b v l base-ample
+pub resolved : (b : List ℕ) (v l : ℕ) → Accepts base b v l → (y : Line) → List·Memᴰ y (lines 6 (answer base b v l .left)) → letter y ≡ type-line → number y 0 ≡ 8 → lay (decls base b) (number y 1) ≡ stays
+resolved b v l = claims.resolved base b v l base-ample
 
 -- 4: the refusal line shows 0 exactly on acceptance (`refused`)
 

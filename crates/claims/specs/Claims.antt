@@ -4,7 +4,7 @@
 --
 -- A sheet b is a list of bytes. v and l are the lengths of the outputs that are lent for the verdict sheet
 -- and the left sheet. f is the format; `base` is the one of FORMAT, and `Ample f` says that its limits do
--- not outgrow its columns and the fuel, which `base-ample` of `FormatLaws` shows of it. `limit` is how many Q lines there may be.
+-- not outgrow its columns and the fuel, which `base-ample` of `FormatLaws` shows of it.
 -- Assumes nothing.
 use mathlib.Core.Logic.{_↔_, ⊎-elim}
 use mathlib.Core.Path.{_≡_, refl, sym, _∙_, ap, subst}
@@ -84,8 +84,8 @@ use Rattle.claims.specs.ClaimsLaws.{true-of, answer-rounds, answer-verdi
 
 -- ---- words
 -- accepted: the refusal line shows code 0
-abbrev pub Accepts : Format → ℕ → List ℕ → ℕ → ℕ → Type 0
-Accepts f limit b v l = answer f limit b v l .code ≡ 0
+abbrev pub Accepts : Format → List ℕ → ℕ → ℕ → Type 0
+Accepts f b v l = answer f b v l .code ≡ 0
 
 -- the lines before the Q lines, and the Q lines
 abbrev pub decl-lines : Format → List ℕ → List Line
@@ -113,8 +113,8 @@ pub record Least (ds : List Decl) : Type 0 where
       (t : List Bool) → length t ≡ length ds → ((i : ℕ) → i < length ds → getD t i false ≡ rule ds t i)
       → (i : ℕ) → getD (marks ds) i false ≡ true → getD t i false ≡ true
 
-pub least : (f : Format) (limit : ℕ) (b : List ℕ) (v l : ℕ) → Accepts f limit b v l → Least (decls f b)
-least f limit b v l a =
+pub least : (f : Format) (b : List ℕ) (v l : ℕ) → Accepts f b v l → Least (decls f b)
+least f b v l a =
     let ds : List Decl = decls f b in
     record {
       solves = erasure-solves ds;
@@ -128,10 +128,10 @@ pub record Rounds (ds : List Decl) (n : ℕ) : Type 0 where
   pub made : Made (rule ds) (start ds) (erasure-fixpoint ds)
   pub few : n ≤ suc (locals ds)
 
-pub rounds : (f : Format) (limit : ℕ) (b : List ℕ) (v l : ℕ) → Accepts f limit b v l → Rounds (decls f b) (answer f limit b v l .rounds)
-rounds f limit b v l a =
+pub rounds : (f : Format) (b : List ℕ) (v l : ℕ) → Accepts f b v l → Rounds (decls f b) (answer f b v l .rounds)
+rounds f b v l a =
     let ds : List Decl = decls f b in
-    let e : answer f limit b v l .rounds ≡ erasure-fixpoint ds .rounds = answer-rounds f limit b v l a in
+    let e : answer f b v l .rounds ≡ erasure-fixpoint ds .rounds = answer-rounds f b v l a in
     record { reported = e; made = erasure-made ds; few = rw e (erasure-rounds ds) }
 
 -- KEPT. A local type keeps exactly the fields whose types are not erased, in order. Its verdict says
@@ -145,19 +145,19 @@ pub record LocalVerdict (fuel : ℕ) (ds : List Decl) (i : ℕ) (ti : TypeInfo) 
       ≡ map (λ c. record { cl-name = c .ct-name; cl-slots = map (λ x. not (cty-erased (erased ds) (x .fd-type))) (c .ct-fields); cl-fields = unerased (erased ds) (c .ct-fields) }) (ctors-of-tydef (dtype-at ds i))
   pub record-number : ti .ti-record ≡ record-of (left-at fuel ds i)
 
-pub kept-fields : (f : Format) (limit : ℕ) (b : List ℕ) (v l : ℕ) → Accepts f limit b v l → (i : ℕ) → i < length (decls f b) → origin-at (decls f b) i ≡ here
+pub kept-fields : (f : Format) (b : List ℕ) (v l : ℕ) → Accepts f b v l → (i : ℕ) → i < length (decls f b) → origin-at (decls f b) i ≡ here
     → (d : TypeInfo) → LocalVerdict (f .fuel) (decls f b) i (getD (run (f .fuel) (decls f b) .infos) i d)
 unfolding ctor-layouts
-kept-fields f limit b v l a i h o d =
+kept-fields f b v l a i h o d =
     let ds : List Decl = decls f b in
     rw (getD-infos (f .fuel) ds i d h, local-info (f .fuel) ds i o)
     (record { is-erased = refl; layout = refl; fields = map-ctors (erased ds) (ctors-of-tydef (dtype-at ds i)); record-number = refl })
 
 -- IMPORTS. An import keeps what its lines say: erasure, layout, kept fields and record; and the layout that
 -- its lines say is the one that resolution goes by.
-pub imports : (f : Format) (limit : ℕ) (b : List ℕ) (v l : ℕ) → Accepts f limit b v l → (i : ℕ) (ti : TypeInfo) → i < length (decls f b) → origin-at (decls f b) i ≡ imported ti
+pub imports : (f : Format) (b : List ℕ) (v l : ℕ) → Accepts f b v l → (i : ℕ) (ti : TypeInfo) → i < length (decls f b) → origin-at (decls f b) i ≡ imported ti
     → ((d : TypeInfo) → getD (run (f .fuel) (decls f b) .infos) i d ≡ ti) × (layout-of-decl (decls f b) i ≡ ti .ti-layout)
-imports f limit b v l a i ti h o = (
+imports f b v l a i ti h o = (
   λ d. getD-infos (f .fuel) (decls f b) i d h ∙ import-info (f .fuel) (decls f b) i ti o,
   import-layout (decls f b) i ti h o,
 )
@@ -165,22 +165,22 @@ imports f limit b v l a i ti h o = (
 -- COLLAPSED. A local type is a newtype exactly where its guards allow it (`Candidate`: not erased, without
 -- `NoNewtype`, one constructor, one kept field, whose type less one `TInline` is the payload) and no steps
 -- from its payload, through payloads of candidates, also of those that are dropped, lead back to its name.
-pub collapsed : (f : Format) (limit : ℕ) (b : List ℕ) (v l : ℕ) → Accepts f limit b v l → (i : ℕ) → i < length (decls f b) → origin-at (decls f b) i ≡ here → (nt : NewtypeLayout)
+pub collapsed : (f : Format) (b : List ℕ) (v l : ℕ) → Accepts f b v l → (i : ℕ) → i < length (decls f b) → origin-at (decls f b) i ≡ here → (nt : NewtypeLayout)
     → (layout-of-decl (decls f b) i ≡ L-newtype nt)
     ↔ (Candidate (erased (decls f b)) (dtype-at (decls f b) i) (getD (marks (decls f b)) i false) nt
     × (Reach (guard-next (decls f b) (candidates-of (decls f b) (marks (decls f b)))) i i → ⊥))
 unfolding layouts-of
-collapsed f limit b v l a i h o nt = layouts.collapsed (decls f b) (marks (decls f b)) i h o nt
+collapsed f b v l a i h o nt = layouts.collapsed (decls f b) (marks (decls f b)) i h o nt
 
 -- RESOLVED. No type in the left sheet names a collapsed, erased or unfolded type: the name of every `TApp`
 -- line read from its bytes stays. (The checklist's third line.)
-pub resolved : (f : Format) (limit : ℕ) (b : List ℕ) (v l : ℕ) → Ample f → Accepts f limit b v l → (y : Line) → List·Memᴰ y (lines (f .columns) (answer f limit b v l .left))
+pub resolved : (f : Format) (b : List ℕ) (v l : ℕ) → Ample f → Accepts f b v l → (y : Line) → List·Memᴰ y (lines (f .columns) (answer f b v l .left))
     → letter y ≡ type-line → number y 0 ≡ 8 → lay (decls f b) (number y 1) ≡ stays
-resolved f limit b v l ample a y m e k =
-    let p : alone.Passes f (front (f .columns) b) v l = front-passes f limit b v l a in
+resolved f b v l ample a y m e k =
+    let p : alone.Passes f (front (f .columns) b) v l = front-passes f b v l a in
     let n : length (alone.left-sheet f (decl-lines f b)) ≡ lineBytes (f .columns) * length (left-lines (decl-lines f b) (left-program (run (f .fuel) (decls f b)))) = left-length f (decl-lines f b) (pass-fit f (front (f .columns) b) v l ample p) in
-    let q : lines (f .columns) (answer f limit b v l .left) ≡ lines (f .columns) (alone.left-sheet f (decl-lines f b)) ++ lines (f .columns) (encodes (f .columns) (following f (decl-lines f b) (pattern-lines f b))) =
-    ap (lines (f .columns)) (answer-left f limit b v l a ∙ left-sheet-tail f (decl-lines f b) (pattern-lines f b))
+    let q : lines (f .columns) (answer f b v l .left) ≡ lines (f .columns) (alone.left-sheet f (decl-lines f b)) ++ lines (f .columns) (encodes (f .columns) (following f (decl-lines f b) (pattern-lines f b))) =
+    ap (lines (f .columns)) (answer-left f b v l a ∙ left-sheet-tail f (decl-lines f b) (pattern-lines f b))
     ∙ lines-append (f .columns) (length (left-lines (decl-lines f b) (left-program (run (f .fuel) (decls f b))))) (alone.left-sheet f (decl-lines f b)) (encodes (f .columns) (following f (decl-lines f b) (pattern-lines f b))) n in
     ⊎-elim
     (λ z. left-sheet-names f (front (f .columns) b) v l ample p y z e k)
@@ -193,10 +193,10 @@ pub record Unspent (f : Format) (ds : List Decl) (c : Cty) : Type 0 where
   pub to-the-end : resolve-checked (f .nodes) (lay ds) (f .fuel) c ≡ ok (resolve (lay ds) (f .fuel) c)
   pub more : (m : ℕ) → f .fuel ≤ m → resolve (lay ds) m c ≡ resolve (lay ds) (f .fuel) c
 
-pub unspent : (f : Format) (limit : ℕ) (b : List ℕ) (v l : ℕ) → Ample f → Accepts f limit b v l → (i : ℕ) → i < length (decls f b)
+pub unspent : (f : Format) (b : List ℕ) (v l : ℕ) → Ample f → Accepts f b v l → (i : ℕ) → i < length (decls f b)
     → (c : Cty) → List·Memᴰ c (resolves (layout-of-decl (decls f b) i)) → Unspent f (decls f b) c
-unspent f limit b v l ample a i h c m =
-    let p : alone.Passes f (front (f .columns) b) v l = front-passes f limit b v l a in
+unspent f b v l ample a i h c m =
+    let p : alone.Passes f (front (f .columns) b) v l = front-passes f b v l a in
     let few : length (decls f b) < f .fuel = few-decls f (front (f .columns) b) v l ample p in
     record {
       to-the-end = every-mem _ (resolves (layout-of-decl (decls f b) i)) (pass-resolved f (front (f .columns) b) v l ample p i h) c m .answers;
@@ -209,50 +209,50 @@ pub record OfSource (f : Format) (b : List ℕ) (a : Answer) : Type 0 where
   pub verdicts : a .verdict ≡ encodes (f .columns) (verdict-lines (decl-lines f b) (run (f .fuel) (decls f b) .infos)) ++ tail (f .columns) b
   pub declarations : a .left ≡ encodes (f .columns) (left-lines (decl-lines f b) (left-program (run (f .fuel) (decls f b)))) ++ encodes (f .columns) (following f (decl-lines f b) (pattern-lines f b))
 
-pub run-of-source : (f : Format) (limit : ℕ) (b : List ℕ) (v l : ℕ) → Accepts f limit b v l → OfSource f b (answer f limit b v l)
+pub run-of-source : (f : Format) (b : List ℕ) (v l : ℕ) → Accepts f b v l → OfSource f b (answer f b v l)
 unfolding alone.verdict-sheet alone.left-sheet
-run-of-source f limit b v l a =
-    record { verdicts = answer-verdict f limit b v l a; declarations = answer-left f limit b v l a ∙ left-sheet-tail f (decl-lines f b) (pattern-lines f b) }
+run-of-source f b v l a =
+    record { verdicts = answer-verdict f b v l a; declarations = answer-left f b v l a ∙ left-sheet-tail f (decl-lines f b) (pattern-lines f b) }
 
 -- VERDICT LENGTH. The verdict sheet is as long as the sheet (the checklist's first line), and building it
 -- alone is accepted and gives it back with the same left sheet.
-pub verdict-length : (f : Format) (limit : ℕ) (b : List ℕ) (v l : ℕ) → 0 < f .columns → Accepts f limit b v l → length (answer f limit b v l .verdict) ≡ length b
-verdict-length f limit b v l pos a =
-    let p : Passes f limit b v l = passes.accepted-passes f limit b v l a in
-    ap length (answer-verdict f limit b v l a ∙ sym (calls.verdict-parts f limit b v l p)) ∙ calls.verdict-length f limit b v l p pos
+pub verdict-length : (f : Format) (b : List ℕ) (v l : ℕ) → 0 < f .columns → Accepts f b v l → length (answer f b v l .verdict) ≡ length b
+verdict-length f b v l pos a =
+    let p : Passes f b v l = passes.accepted-passes f b v l a in
+    ap length (answer-verdict f b v l a ∙ sym (calls.verdict-parts f b v l p)) ∙ calls.verdict-length f b v l p pos
 
 -- VERDICT LINES. Line i of the verdict sheet is line i of the sheet, but for D lines and the F and V lines of
 -- D declarations (`verdict-line-of`): there D has become I, the keep number is 1 exactly where the field's
 -- type is not erased, and V has the verdict's numbers. Q lines stay.
-pub verdict-lines-told : (f : Format) (limit : ℕ) (b : List ℕ) (v l : ℕ) → 0 < f .columns → Accepts f limit b v l → (i : ℕ) → i < count (f .columns) (front (f .columns) b)
-    → line-at (lines (f .columns) (answer f limit b v l .verdict)) i
+pub verdict-lines-told : (f : Format) (b : List ℕ) (v l : ℕ) → 0 < f .columns → Accepts f b v l → (i : ℕ) → i < count (f .columns) (front (f .columns) b)
+    → line-at (lines (f .columns) (answer f b v l .verdict)) i
     ≡ verdict-line-of (erased (decls f b)) (trees (decl-lines f b)) (info-at (f .fuel) (decls f b) (heads-before (decl-lines f b) (suc i) - 1)) (head-of (decl-lines f b) i) (line-at (decl-lines f b) i)
-verdict-lines-told f limit b v l pos a i h =
-    let p : alone.Passes f (front (f .columns) b) v l = front-passes f limit b v l a in
+verdict-lines-told f b v l pos a i h =
+    let p : alone.Passes f (front (f .columns) b) v l = front-passes f b v l a in
     let n : i < length (verdicts f (decl-lines f b)) = omega (arith, length-verdicts f (decl-lines f b), length-lines (f .columns) (front (f .columns) b)) in
-    ap (λ (ls : List Line). line-at ls i) (told-lines f limit b v l a pos)
+    ap (λ (ls : List Line). line-at ls i) (told-lines f b v l a pos)
     ∙ (List·getD-append (verdicts f (decl-lines f b)) (pattern-lines f b) bad i n
     ∙ verdict-line-at (f .fuel) (decl-lines f b) (passes-whole f (front (f .columns) b) v l p) i (omega (arith, length-lines (f .columns) (front (f .columns) b))))
 
-pub verdict-patterns-stay : (f : Format) (limit : ℕ) (b : List ℕ) (v l : ℕ) → 0 < f .columns → Accepts f limit b v l → (i : ℕ)
-    → line-at (lines (f .columns) (answer f limit b v l .verdict)) (count (f .columns) (front (f .columns) b) + i) ≡ line-at (pattern-lines f b) i
-verdict-patterns-stay f limit b v l pos a i =
+pub verdict-patterns-stay : (f : Format) (b : List ℕ) (v l : ℕ) → 0 < f .columns → Accepts f b v l → (i : ℕ)
+    → line-at (lines (f .columns) (answer f b v l .verdict)) (count (f .columns) (front (f .columns) b) + i) ≡ line-at (pattern-lines f b) i
+verdict-patterns-stay f b v l pos a i =
     let n : count (f .columns) (front (f .columns) b) + i ≡ length (verdicts f (decl-lines f b)) + i = omega (arith, length-verdicts f (decl-lines f b), length-lines (f .columns) (front (f .columns) b)) in
-    ap (λ (ls : List Line). line-at ls (count (f .columns) (front (f .columns) b) + i)) (told-lines f limit b v l a pos)
+    ap (λ (ls : List Line). line-at ls (count (f .columns) (front (f .columns) b) + i)) (told-lines f b v l a pos)
     ∙ (ap (λ (k : ℕ). line-at (verdicts f (decl-lines f b) ++ pattern-lines f b) k) n ∙ getD-append-add (verdicts f (decl-lines f b)) (pattern-lines f b) i bad)
 
-pub verdict-again : (f : Format) (limit : ℕ) (b : List ℕ) (v l : ℕ) → 0 < f .columns → (x : Sheets) → build f limit v l b ≡ some x → build f limit v l (x .verdict) ≡ some x
+pub verdict-again : (f : Format) (b : List ℕ) (v l : ℕ) → 0 < f .columns → (x : Sheets) → build f v l b ≡ some x → build f v l (x .verdict) ≡ some x
 verdict-again = calls.verdict-again
 
 -- REFUSED. The refusal line shows 0 exactly where no row of the table applies (the checklist's fourth
 -- line). Any other code is one of 1 to 13, and its row is the first that applies: it applies at the given
 -- place, at no earlier one, and no row before it applies anywhere.
-pub refused : (f : Format) (limit : ℕ) (b : List ℕ) (v l : ℕ) → Accepts f limit b v l ↔ Passes f limit b v l
-refused f limit b v l = (passes.accepted-passes f limit b v l, passes.passes-accepted f limit b v l)
+pub refused : (f : Format) (b : List ℕ) (v l : ℕ) → Accepts f b v l ↔ Passes f b v l
+refused f b v l = (passes.accepted-passes f b v l, passes.passes-accepted f b v l)
 
-pub refused-by : (f : Format) (limit : ℕ) (b : List ℕ) (v l : ℕ) → Ample f → (Accepts f limit b v l → ⊥)
-    → Refuses (rows f limit b v l) (answer f limit b v l .code) (answer f limit b v l .place) × (1 ≤ answer f limit b v l .code) × (answer f limit b v l .code ≤ 13)
-refused-by f limit b v l ample h = let r = passes.answer-refuses f limit b ample v l h in (r .0, r .1 .0, r .1 .1)
+pub refused-by : (f : Format) (b : List ℕ) (v l : ℕ) → Ample f → (Accepts f b v l → ⊥)
+    → Refuses (rows f b v l) (answer f b v l .code) (answer f b v l .place) × (1 ≤ answer f b v l .code) × (answer f b v l .code ≤ 13)
+refused-by f b v l ample h = let r = passes.answer-refuses f b ample v l h in (r .0, r .1 .0, r .1 .1)
 
 -- On every refusal both outputs keep their bytes. On acceptance both sheets fit their outputs, and past a
 -- sheet its output keeps its bytes.
@@ -261,9 +261,9 @@ pub record Unchanged (a : Answer) : Type 0 where
   pub verdict-output : (old : List ℕ) → after (a .verdict) old ≡ old
   pub left-output : (old : List ℕ) → after (a .left) old ≡ old
 
-pub unchanged : (f : Format) (limit : ℕ) (b : List ℕ) (v l : ℕ) → (Accepts f limit b v l → ⊥) → Unchanged (answer f limit b v l)
-unchanged f limit b v l h =
-    let n : Nothing (answer f limit b v l) = passes.refused-nothing f limit b v l h in
+pub unchanged : (f : Format) (b : List ℕ) (v l : ℕ) → (Accepts f b v l → ⊥) → Unchanged (answer f b v l)
+unchanged f b v l h =
+    let n : Nothing (answer f b v l) = passes.refused-nothing f b v l h in
     record {
       no-rounds = n .no-rounds;
       verdict-output = λ old. ap (λ (x : List ℕ). after x old) (n .no-verdict);
@@ -275,12 +275,12 @@ pub record Holds (sheet old : List ℕ) : Type 0 where
   pub begins : (k : ℕ) → k < length sheet → getD (after sheet old) k 0 ≡ getD sheet k 0
   pub past : (k : ℕ) → length sheet ≤ k → getD (after sheet old) k 0 ≡ getD old k 0
 
-pub written : (f : Format) (limit : ℕ) (b : List ℕ) (v l : ℕ) → 0 < f .columns → Accepts f limit b v l → (old old' : List ℕ) → length old ≡ v → length old' ≡ l
-    → Holds (answer f limit b v l .verdict) old × Holds (answer f limit b v l .left) old'
-written f limit b v l pos a old old' e e' =
-    let p : Passes f limit b v l = passes.accepted-passes f limit b v l a in (
-      fitted (answer f limit b v l .verdict) old (omega (arith, verdict-length f limit b v l pos a, p .pass11)),
-      fitted (answer f limit b v l .left) old' (omega (arith, ap length (answer-left f limit b v l a), p .pass12)),
+pub written : (f : Format) (b : List ℕ) (v l : ℕ) → 0 < f .columns → Accepts f b v l → (old old' : List ℕ) → length old ≡ v → length old' ≡ l
+    → Holds (answer f b v l .verdict) old × Holds (answer f b v l .left) old'
+written f b v l pos a old old' e e' =
+    let p : Passes f b v l = passes.accepted-passes f b v l a in (
+      fitted (answer f b v l .verdict) old (omega (arith, verdict-length f b v l pos a, p .pass11)),
+      fitted (answer f b v l .left) old' (omega (arith, ap length (answer-left f b v l a), p .pass12)),
     )
   where
     fitted : (w o : List ℕ) → length w ≤ length o → Holds w o
@@ -323,8 +323,8 @@ locality-by-names = locality-renamed
 -- returned and its own declarations, the last with the Q lines behind them, stopping at a refusal. All units are accepted
 -- exactly where one build of the whole, with outputs of the same lengths, is accepted; then the last unit's two sheets and
 -- the whole's are the same bytes, pattern and freed names included. Of the sheet nothing more is asked: it may break any row.
-pub cut : (f : Format) (limit v l : ℕ) (b header u : List ℕ) (us : List (List ℕ)) (z : List ℕ) → 0 < f .columns → Cut (f .columns) b header (u ∷ us) z
-    → builds f limit v l header u us z ≡ build f limit v l b
+pub cut : (f : Format) (v l : ℕ) (b header u : List ℕ) (us : List (List ℕ)) (z : List ℕ) → 0 < f .columns → Cut (f .columns) b header (u ∷ us) z
+    → builds f v l header u us z ≡ build f v l b
 cut = cuts.cut-builds
 
 -- The same of calls, each of which does what the build's contract says of it (`Call`). The calls build the
@@ -334,35 +334,35 @@ cut = cuts.cut-builds
 -- shows code 0 exactly where the whole's does, and then the last call's outputs and the whole's begin with
 -- the same two sheets, past which each output holds what it held.
 -- How this is about the code: a `Call` holds the equation that the build's contract states of a call.
-pub cut-calls : (f : Format) (limit v l : ℕ) (b header u : List ℕ) (us : List (List ℕ)) (z : List ℕ) → 0 < f .columns → Cut (f .columns) b header (u ∷ us) z
-    → (c : Call f limit) (cs : List (Call f limit)) → InTurn f limit v l header u us z c cs → (whole : Call f limit) → Over f limit v l [] b whole
+pub cut-calls : (f : Format) (v l : ℕ) (b header u : List ℕ) (us : List (List ℕ)) (z : List ℕ) → 0 < f .columns → Cut (f .columns) b header (u ∷ us) z
+    → (c : Call f) (cs : List (Call f)) → InTurn f v l header u us z c cs → (whole : Call f) → Over f v l [] b whole
     → (AllAccept c cs ↔ (whole .gave .code ≡ 0)) × (whole .gave .code ≡ 0 → (x : Sheets) × Wrote whole x × Wrote (last-call c cs) x)
-cut-calls f limit v l b header u us z pos cut c cs o whole w =
-    (calls.cut-accepts f limit v l pos b header u us z cut c cs o whole w, calls.cut-wrote f limit v l pos b header u us z cut c cs o whole w)
+cut-calls f v l b header u us z pos cut c cs o whole w =
+    (calls.cut-accepts f v l pos b header u us z cut c cs o whole w, calls.cut-wrote f v l pos b header u us z cut c cs o whole w)
 
 -- SAME FIELDS (the checklist's second line). In an accepted sheet that is cut so, the first units build as
 -- well, and their verdict sheet begins the whole's: every line of a type, its keeps among them, is the same
 -- in every unit from the one that declares it. So is what is left of it: for each declaration of the first
 -- units the left declaration, if there is one, is the whole's.
-pub record FirstUnits (f : Format) (limit v l : ℕ) (b header u : List ℕ) (us : List (List ℕ)) (y : Sheets) : Type 0 where
+pub record FirstUnits (f : Format) (v l : ℕ) (b header u : List ℕ) (us : List (List ℕ)) (y : Sheets) : Type 0 where
   pub built : Sheets
-  pub are-built : builds f limit v l header u us [] ≡ some built
+  pub are-built : builds f v l header u us [] ≡ some built
   pub verdict-rest : List ℕ
   pub begin-verdict : y .verdict ≡ built .verdict ++ verdict-rest
   pub left-rest : List (Option Dtype)
   pub begin-left : run (f .fuel) (decls f b) .lefts ≡ run (f .fuel) (decls f (header ++ join (u ∷ us))) .lefts ++ left-rest
 
-pub same-fields : (f : Format) (limit v l : ℕ) (b header u : List ℕ) (us ys : List (List ℕ)) (z : List ℕ) → 0 < f .columns → Cut (f .columns) b header (u ∷ (us ++ ys)) z
-    → (y : Sheets) → build f limit v l b ≡ some y → FirstUnits f limit v l b header u us y
+pub same-fields : (f : Format) (v l : ℕ) (b header u : List ℕ) (us ys : List (List ℕ)) (z : List ℕ) → 0 < f .columns → Cut (f .columns) b header (u ∷ (us ++ ys)) z
+    → (y : Sheets) → build f v l b ≡ some y → FirstUnits f v l b header u us y
 unfolding old-laws.sheets
-same-fields f limit v l b header u us ys z pos c y e =
+same-fields f v l b header u us ys z pos c y e =
     record {
       built = old-laws.sheets f some-units;
       are-built =
-          cuts.builds-plain f limit v l pos us header u (whole-append w header u (c .header-whole) (wholes .0)) (cuts.first-plain f limit v l b header u (us ++ ys) z pos c) (wholes .1) (plains .1)
+          cuts.builds-plain f v l pos us header u (whole-append w header u (c .header-whole) (wholes .0)) (cuts.first-plain f v l b header u (us ++ ys) z pos c) (wholes .1) (plains .1)
           ∙ first-builds f v l pos all-units header u us ys before (j .front-passes);
       verdict-rest = r .0 ++ tail w b;
-      begin-verdict = ap (λ (x : Sheets). x .verdict) same ∙ (calls.verdict-parts f limit b v l k ∙ (ap (λ (x : List ℕ). alone.verdict-sheet f (lines w x) ++ tail w b) at-front ∙ (ap (λ (x : List ℕ). x ++ tail w b) (r .1) ∙ append-assoc (old-laws.sheets f some-units .verdict) (r .0) (tail w b))));
+      begin-verdict = ap (λ (x : Sheets). x .verdict) same ∙ (calls.verdict-parts f b v l k ∙ (ap (λ (x : List ℕ). alone.verdict-sheet f (lines w x) ++ tail w b) at-front ∙ (ap (λ (x : List ℕ). x ++ tail w b) (r .1) ∙ append-assoc (old-laws.sheets f some-units .verdict) (r .0) (tail w b))));
       left-rest = t .0;
       begin-left =
           ap (λ (x : List ℕ). run (f .fuel) (program (lines w x)) .lefts) at-front
@@ -378,26 +378,26 @@ same-fields f limit v l b header u us ys z pos c y e =
     all-units : List ℕ
     all-units = header ++ join (u ∷ (us ++ ys))
 
-    k : Passes f limit b v l
-    k = passes.build-passes f limit b v l y e
+    k : Passes f b v l
+    k = passes.build-passes f b v l y e
 
     same : y ≡ passes.sheets f b
-    same = passes.some-same y (passes.sheets f b) (sym e ∙ passes.passes-build f limit b v l k)
+    same = passes.some-same y (passes.sheets f b) (sym e ∙ passes.passes-build f b v l k)
 
-    j : passes.Joined f limit (header ++ join (u ∷ (us ++ ys))) z v l
-    j = cuts.front-joined f limit v l b header u (us ++ ys) z pos c k
+    j : passes.Joined f (header ++ join (u ∷ (us ++ ys))) z v l
+    j = cuts.front-joined f v l b header u (us ++ ys) z pos c k
 
     at-front : front w b ≡ header ++ join (u ∷ (us ++ ys))
-    at-front = cuts.front-is f limit v l b header u (us ++ ys) z pos c
+    at-front = cuts.front-is f v l b header u (us ++ ys) z pos c
 
     before : old-cut.Cut w (header ++ join (u ∷ (us ++ ys))) header (u ∷ (us ++ ys))
-    before = cuts.before-tail f limit v l b header u (us ++ ys) z pos c (λ h. record { declarations = h; no-bad = j .no-bad; good-patterns = j .good })
+    before = cuts.before-tail f v l b header u (us ++ ys) z pos c (λ h. record { declarations = h; no-bad = j .no-bad; good-patterns = j .good })
 
     wholes : Every (Whole w) (u ∷ us)
-    wholes = every-left (Whole w) (u ∷ us) ys (cuts.all-whole f limit v l b header u (us ++ ys) z pos c)
+    wholes = every-left (Whole w) (u ∷ us) ys (cuts.all-whole f v l b header u (us ++ ys) z pos c)
 
     plains : cuts.Plain w (u ∷ us)
-    plains = every-left (NoPattern w) (u ∷ us) ys (cuts.all-plain f limit v l b header u (us ++ ys) z pos c)
+    plains = every-left (NoPattern w) (u ∷ us) ys (cuts.all-plain f v l b header u (us ++ ys) z pos c)
 
     r : (r : List ℕ) × (old-laws.sheets f (header ++ join (u ∷ (us ++ ys))) .verdict ≡ old-laws.sheets f (header ++ join (u ∷ us)) .verdict ++ r)
     r = first-verdict f v l pos (header ++ join (u ∷ (us ++ ys))) header u us ys before (j .front-passes)
@@ -419,14 +419,14 @@ pub record PatternOfSource (f : Format) (b : List ℕ) (a : Answer) : Type 0 whe
   pub without : count (f .columns) (tail (f .columns) b) ≡ 0 → a .left ≡ alone.left-sheet f (decl-lines f b)
   pub with-lines : 0 < count (f .columns) (tail (f .columns) b) → a .left ≡ alone.left-sheet f (decl-lines f b) ++ encodes (f .columns) (rewritten-lines (sheet-rewritten f b))
 
-pub pattern-of-source : (f : Format) (limit : ℕ) (b : List ℕ) (v l : ℕ) → Accepts f limit b v l → PatternOfSource f b (answer f limit b v l)
+pub pattern-of-source : (f : Format) (b : List ℕ) (v l : ℕ) → Accepts f b v l → PatternOfSource f b (answer f b v l)
 unfolding following encodes
-pattern-of-source f limit b v l a = go (pattern-lines f b) refl
+pattern-of-source f b v l a = go (pattern-lines f b) refl
   where
-    is-left : answer f limit b v l .left ≡ alone.left-sheet f (decl-lines f b) ++ encodes (f .columns) (following f (decl-lines f b) (pattern-lines f b))
-    is-left = answer-left f limit b v l a ∙ left-sheet-tail f (decl-lines f b) (pattern-lines f b)
+    is-left : answer f b v l .left ≡ alone.left-sheet f (decl-lines f b) ++ encodes (f .columns) (following f (decl-lines f b) (pattern-lines f b))
+    is-left = answer-left f b v l a ∙ left-sheet-tail f (decl-lines f b) (pattern-lines f b)
 
-    go : (qs : List Line) → pattern-lines f b ≡ qs → PatternOfSource f b (answer f limit b v l)
+    go : (qs : List Line) → pattern-lines f b ≡ qs → PatternOfSource f b (answer f b v l)
     go [] e =
         record {
           without = λ h. is-left ∙ (ap (λ (x : List Line). alone.left-sheet f (decl-lines f b) ++ encodes (f .columns) (following f (decl-lines f b) x)) e ∙ append-nil (alone.left-sheet f (decl-lines f b)));
@@ -442,40 +442,40 @@ pattern-of-source f limit b v l a = go (pattern-lines f b) refl
         }
 
 -- every Q line of an accepted sheet passes row 5
-good-lines : (f : Format) (limit : ℕ) (b : List ℕ) (v l : ℕ) → Accepts f limit b v l → AllGood (count-of name-line (decl-lines f b)) (pattern-lines f b)
-good-lines f limit b v l a q h =
+good-lines : (f : Format) (b : List ℕ) (v l : ℕ) → Accepts f b v l → AllGood (count-of name-line (decl-lines f b)) (pattern-lines f b)
+good-lines f b v l a q h =
     not-false (good-pattern (count-of name-line (decl-lines f b)) (pattern-lines f b) q)
-    (passes.accepted-passes f limit b v l a .patterns5 q (omega (arith, length-lines (f .columns) (tail (f .columns) b))))
+    (passes.accepted-passes f b v l a .patterns5 q (omega (arith, length-lines (f .columns) (tail (f .columns) b))))
 
 -- FIELDS LOST. In the new pattern every `PCtor` of a declared constructor has a struct for its type and as many parts as that
 -- constructor has kept fields, and every `PRecord` of a declared struct of one constructor names kept fields only.
-pub fields-lost : (f : Format) (limit : ℕ) (b : List ℕ) (v l : ℕ) → Accepts f limit b v l
+pub fields-lost : (f : Format) (b : List ℕ) (v l : ℕ) → Accepts f b v l
     → Fitting (ctor-owner (run (f .fuel) (decls f b) .infos)) (type-layout (decls f b) (run (f .fuel) (decls f b) .infos)) (sheet-rewritten f b .pat)
 unfolding rewritten
-fields-lost f limit b v l a =
-    let p : Passes f limit b v l = passes.accepted-passes f limit b v l a in
+fields-lost f b v l a =
+    let p : Passes f b v l = passes.accepted-passes f b v l a in
     let n : length (pattern-lines f b) ≡ count (f .columns) (tail (f .columns) b) = length-lines (f .columns) (tail (f .columns) b) in
     let m : length (decl-lines f b) ≡ count (f .columns) (front (f .columns) b) = length-lines (f .columns) (front (f .columns) b) in
     fields.fields-lost (ctor-owner (run (f .fuel) (decls f b) .infos)) (type-layout (decls f b) (run (f .fuel) (decls f b) .infos))
     (program-sound (decl-lines f b) (λ i h. p .pass7 i (omega arith)) (f .fuel))
     (sheet-pattern f b)
     (pattern-counted (ctor-owner (run (f .fuel) (decls f b) .infos)) (count-of name-line (decl-lines f b)) (decls f b) (pattern-lines f b) (slots-counted (f .fuel) (decl-lines f b))
-    (good-lines f limit b v l a)
+    (good-lines f b v l a)
     (λ q h. p .pass13 q (omega arith)))
 
 -- NAMES ACCOUNTED. If no `PRecord` of the pattern names a field twice, its variables, counted with repetitions, are those of the
 -- new pattern together with the freed ones.
-pub names-accounted : (f : Format) (limit : ℕ) (b : List ℕ) (v l : ℕ) → Accepts f limit b v l → Once (sheet-pattern f b)
+pub names-accounted : (f : Format) (b : List ℕ) (v l : ℕ) → Accepts f b v l → Once (sheet-pattern f b)
     → (n : ℕ) → occurrences n (pat-vars (sheet-pattern f b)) ≡ occurrences n (pat-vars (sheet-rewritten f b .pat)) + occurrences n (sheet-rewritten f b .freed)
 unfolding rewritten
-names-accounted f limit b v l a h n =
+names-accounted f b v l a h n =
     accounted.names-accounted (ctor-owner (run (f .fuel) (decls f b) .infos)) (type-layout (decls f b) (run (f .fuel) (decls f b) .infos)) (sheet-pattern f b) h n
 
 -- LINES BOUNDED. The lines of the new pattern and of the freed names together are no more than the Q lines: so the left sheet is at
 -- most so much longer than that of the declarations.
-pub lines-bounded : (f : Format) (limit : ℕ) (b : List ℕ) (v l : ℕ) → Accepts f limit b v l → length (following f (decl-lines f b) (pattern-lines f b)) ≤ count (f .columns) (tail (f .columns) b)
-lines-bounded f limit b v l a =
-    omega (arith, following-few f (decl-lines f b) (count-of name-line (decl-lines f b)) (pattern-lines f b) (good-lines f limit b v l a), length-lines (f .columns) (tail (f .columns) b))
+pub lines-bounded : (f : Format) (b : List ℕ) (v l : ℕ) → Accepts f b v l → length (following f (decl-lines f b) (pattern-lines f b)) ≤ count (f .columns) (tail (f .columns) b)
+lines-bounded f b v l a =
+    omega (arith, following-few f (decl-lines f b) (count-of name-line (decl-lines f b)) (pattern-lines f b) (good-lines f b v l a), length-lines (f .columns) (tail (f .columns) b))
 
 -- READ BACK. The lines of the new pattern denote it.
 pub read-back : (f : Format) (b : List ℕ) → pattern (map (row pattern-line) (pat-lines (sheet-rewritten f b .pat) 0 0 0)) ≡ sheet-rewritten f b .pat

@@ -40,31 +40,31 @@ true-of true h = refl
 true-of false h = absurd h
 
 -- ---- an accepted answer
-module _ (f : Format) (limit : ℕ) (b : List ℕ) (v l : ℕ) (a : answer f limit b v l .code ≡ 0) where
+module _ (f : Format) (b : List ℕ) (v l : ℕ) (a : answer f b v l .code ≡ 0) where
   abbrev ls : List Line
   ls = lines (f .columns) (front (f .columns) b)
 
   abbrev qs : List Line
   qs = lines (f .columns) (tail (f .columns) b)
 
-  pub answer-rounds : answer f limit b v l .rounds ≡ erasure-fixpoint (program ls) .rounds
+  pub answer-rounds : answer f b v l .rounds ≡ erasure-fixpoint (program ls) .rounds
   unfolding answered run
-  answer-rounds = ap (λ (x : Answer). x .rounds) (passes-answer f limit b v l (accepted-passes f limit b v l a))
+  answer-rounds = ap (λ (x : Answer). x .rounds) (passes-answer f b v l (accepted-passes f b v l a))
 
-  pub answer-verdict : answer f limit b v l .verdict ≡ old.verdict-sheet f ls ++ tail (f .columns) b
+  pub answer-verdict : answer f b v l .verdict ≡ old.verdict-sheet f ls ++ tail (f .columns) b
   unfolding answered sheets
-  answer-verdict = ap (λ (x : Answer). x .verdict) (passes-answer f limit b v l (accepted-passes f limit b v l a)) ∙ verdict-parts f limit b v l (accepted-passes f limit b v l a)
+  answer-verdict = ap (λ (x : Answer). x .verdict) (passes-answer f b v l (accepted-passes f b v l a)) ∙ verdict-parts f b v l (accepted-passes f b v l a)
 
-  pub answer-left : answer f limit b v l .left ≡ left-sheet f ls qs
+  pub answer-left : answer f b v l .left ≡ left-sheet f ls qs
   unfolding answered
-  answer-left = ap (λ (x : Answer). x .left) (passes-answer f limit b v l (accepted-passes f limit b v l a))
+  answer-left = ap (λ (x : Answer). x .left) (passes-answer f b v l (accepted-passes f b v l a))
 
   -- the front by itself
   pub front-passes : old.Passes f (front (f .columns) b) v l
-  front-passes = passes-front f limit v l b (accepted-passes f limit b v l a)
+  front-passes = passes-front f v l b (accepted-passes f b v l a)
 
   -- the lines of the verdict sheet
-  pub told-lines : 0 < f .columns → lines (f .columns) (answer f limit b v l .verdict) ≡ verdicts f ls ++ qs
+  pub told-lines : 0 < f .columns → lines (f .columns) (answer f b v l .verdict) ≡ verdicts f ls ++ qs
   told-lines pos = ap (lines (f .columns)) answer-verdict ∙ verdict-lines-behind f v l pos (front (f .columns) b) (tail (f .columns) b) front-passes
 
 pub length-verdicts : (f : Format) (ls : List Line) → length (verdicts f ls) ≡ length ls

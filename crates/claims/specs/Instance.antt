@@ -131,23 +131,23 @@ unfoldable pub meets : List (List ℕ) → List ℕ → Bool
 unfolding text header-text lap-text crossing-text result-text pattern-text codes pad joined names-test none-test unit-test units-test header-test tail-test cut-test join step scan read decode decodeNamed decodeRow cell spelling spaces proper lettered first lineAt line linesFrom lines walk gather names-of-cty table position member close close-field close-body close-fields fields-names ctors-names body-names dtype-names undeclared select before groups list-of tree trees-after trees field-of ctor-of body-of dtype-of decl-of program raw program-names
 meets units tail = cut-test 6 header units tail
 
-way : (u : List ℕ) (us : List (List ℕ)) (tail : List ℕ) → meets (u ∷ us) tail ≡ true → (v l : ℕ) → builds base 256 v l header u us tail ≡ build base 256 v l ((header ++ join (u ∷ us)) ++ tail)
+way : (u : List ℕ) (us : List (List ℕ)) (tail : List ℕ) → meets (u ∷ us) tail ≡ true → (v l : ℕ) → builds base v l header u us tail ≡ build base v l ((header ++ join (u ∷ us)) ++ tail)
 unfolding meets
-way u us tail h v l = cut base 256 v l ((header ++ join (u ∷ us)) ++ tail) header u us tail (omega arith) (cut-met 6 header (u ∷ us) tail h)
+way u us tail h v l = cut base v l ((header ++ join (u ∷ us)) ++ tail) header u us tail (omega arith) (cut-met 6 header (u ∷ us) tail h)
 
-pub three-units : (v l : ℕ) → builds base 256 v l header lap (crossing ∷ result ∷ []) [] ≡ build base 256 v l ((header ++ join (lap ∷ crossing ∷ result ∷ [])) ++ [])
+pub three-units : (v l : ℕ) → builds base v l header lap (crossing ∷ result ∷ []) [] ≡ build base v l ((header ++ join (lap ∷ crossing ∷ result ∷ [])) ++ [])
 unfolding meets
 three-units = way lap (crossing ∷ result ∷ []) [] refl
 
-pub with-an-empty-unit : (v l : ℕ) → builds base 256 v l header (lap ++ crossing) ([] ∷ result ∷ []) [] ≡ build base 256 v l ((header ++ join ((lap ++ crossing) ∷ [] ∷ result ∷ [])) ++ [])
+pub with-an-empty-unit : (v l : ℕ) → builds base v l header (lap ++ crossing) ([] ∷ result ∷ []) [] ≡ build base v l ((header ++ join ((lap ++ crossing) ∷ [] ∷ result ∷ [])) ++ [])
 unfolding meets
 with-an-empty-unit = way (lap ++ crossing) ([] ∷ result ∷ []) [] refl
 
-pub two-units : (v l : ℕ) → builds base 256 v l header lap ((crossing ++ result) ∷ []) [] ≡ build base 256 v l ((header ++ join (lap ∷ (crossing ++ result) ∷ [])) ++ [])
+pub two-units : (v l : ℕ) → builds base v l header lap ((crossing ++ result) ∷ []) [] ≡ build base v l ((header ++ join (lap ∷ (crossing ++ result) ∷ [])) ++ [])
 unfolding meets
 two-units = way lap ((crossing ++ result) ∷ []) [] refl
 
 -- the pattern goes with the last unit
-pub with-a-pattern : (v l : ℕ) → builds base 256 v l header lap (crossing ∷ result ∷ []) lap-pattern ≡ build base 256 v l ((header ++ join (lap ∷ crossing ∷ result ∷ [])) ++ lap-pattern)
+pub with-a-pattern : (v l : ℕ) → builds base v l header lap (crossing ∷ result ∷ []) lap-pattern ≡ build base v l ((header ++ join (lap ∷ crossing ∷ result ∷ [])) ++ lap-pattern)
 unfolding meets
 with-a-pattern = way lap (crossing ∷ result ∷ []) lap-pattern refl

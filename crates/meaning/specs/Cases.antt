@@ -95,6 +95,7 @@ small = record {
   ctors = 2;
   fields = 2;
   params = 1;
+  patterns = 9;
   nodes = 9;
   fuel = 9;
 }

@@ -147,46 +147,46 @@ module _ (a z : List ℕ) (p : Parted 6 a z) (one : row1 base (a ++ z) ≡ false
     coded : (code : ℕ) → code-of front ≡ code → code-of (refusal (old.sheet-rows base a)) ≡ code
     coded code h = ap code-of (sym is-front) ∙ h
 
-    pub at-three : code-of front ≡ 3 → front ≡ refusal (whole.sheet-rows base 256 (a ++ z))
-    at-three h = is-front ∙ sym (refusals.refusal-three base 256 (a ++ z) a z at-front at-tail one no-bad (coded 3 h))
+    pub at-three : code-of front ≡ 3 → front ≡ refusal (whole.sheet-rows base (a ++ z))
+    at-three h = is-front ∙ sym (refusals.refusal-three base (a ++ z) a z at-front at-tail one no-bad (coded 3 h))
 
     module _ (not-three : code-of front ≡ 3 → ⊥) where
       none-three : code-of (refusal (old.sheet-rows base a)) ≡ 3 → ⊥
       none-three h = not-three (ap code-of is-front ∙ h)
 
       pub at-order : (i : ℕ) → i ≡ first (λ i. not (is pattern-line (raw 6 z i))) (count 6 z) → i < count 6 z
-          → Refused 3 (count 6 a + i) ≡ refusal (whole.sheet-rows base 256 (a ++ z))
-      at-order i e h = sym (refusals.refusal-order base 256 (a ++ z) a z at-front at-tail one no-bad none-three i (sym e) h)
+          → Refused 3 (count 6 a + i) ≡ refusal (whole.sheet-rows base (a ++ z))
+      at-order i e h = sym (refusals.refusal-order base (a ++ z) a z at-front at-tail one no-bad none-three i (sym e) h)
 
       module _ (three : first (λ i. not (is pattern-line (raw 6 z i))) (count 6 z) ≡ count 6 z) where
-        pub at-four : code-of front ≡ 4 → front ≡ refusal (whole.sheet-rows base 256 (a ++ z))
-        at-four h = is-front ∙ sym (refusals.refusal-four base 256 (a ++ z) a z at-front at-tail one no-bad three (coded 4 h))
+        pub at-four : code-of front ≡ 4 → front ≡ refusal (whole.sheet-rows base (a ++ z))
+        at-four h = is-front ∙ sym (refusals.refusal-four base (a ++ z) a z at-front at-tail one no-bad three (coded 4 h))
 
         module _ (not-four : code-of front ≡ 4 → ⊥) where
           none-four : code-of (refusal (old.sheet-rows base a)) ≡ 4 → ⊥
           none-four h = not-four (ap code-of is-front ∙ h)
 
-          pub at-limit : 256 < count 6 z → Refused 4 (count 6 a + 256) ≡ refusal (whole.sheet-rows base 256 (a ++ z))
-          at-limit h = sym (refusals.refusal-limit base 256 (a ++ z) a z at-front at-tail one no-bad three none-three none-four h)
+          pub at-limit : 256 < count 6 z → Refused 4 (count 6 a + 256) ≡ refusal (whole.sheet-rows base (a ++ z))
+          at-limit h = sym (refusals.refusal-limit base (a ++ z) a z at-front at-tail one no-bad three none-three none-four h)
 
           module _ (few : count 6 z ≤ 256) where
-            pub at-five : code-of front ≡ 5 → front ≡ refusal (whole.sheet-rows base 256 (a ++ z))
-            at-five h = is-front ∙ sym (refusals.refusal-five base 256 (a ++ z) a z at-front at-tail one no-bad three few (coded 5 h))
+            pub at-five : code-of front ≡ 5 → front ≡ refusal (whole.sheet-rows base (a ++ z))
+            at-five h = is-front ∙ sym (refusals.refusal-five base (a ++ z) a z at-front at-tail one no-bad three few (coded 5 h))
 
             pub patterned : Patterned z
             patterned = record { no-bad = p .no-bad; letters = three; few = few }
 
             pub at-pattern : (code-of front ≡ 5 → ⊥) → (i : ℕ) → i ≡ first (links.row5 (count-of name-line (lines 6 a)) (lines 6 z)) (count 6 z) → i < count 6 z
-                → Refused 5 (count 6 a + i) ≡ refusal (whole.sheet-rows base 256 (a ++ z))
+                → Refused 5 (count 6 a + i) ≡ refusal (whole.sheet-rows base (a ++ z))
             at-pattern n i e h =
-                sym (refusals.refusal-pattern base 256 (a ++ z) a z at-front at-tail one no-bad three few none-three none-four (λ c. n (ap code-of is-front ∙ c)) i (sym e) h)
+                sym (refusals.refusal-pattern base (a ++ z) a z at-front at-tail one no-bad three few none-three none-four (λ c. n (ap code-of is-front ∙ c)) i (sym e) h)
 
             pub at-rest : (names i : ℕ) (q₀ q : List ℕ) → names ≡ count-of name-line (lines 6 a) → Ranged names z q i → count 6 z ≤ i → length q ≡ length q₀
-                → (front ≡ refusal (whole.sheet-rows base 256 (a ++ z))) × Kept a z q₀ q front
+                → (front ≡ refusal (whole.sheet-rows base (a ++ z))) × Kept a z q₀ q front
             at-rest names i q₀ q m y h n =
                 let f : first (links.row5 names (lines 6 z)) (count 6 z) ≡ count 6 z = omega (arith, y .place, first-le (links.row5 names (lines 6 z)) (count 6 z)) in
                 let e : first (links.row5 (count-of name-line (lines 6 a)) (lines 6 z)) (count 6 z) ≡ count 6 z =
                 ap (λ (n : ℕ). first (links.row5 n (lines 6 z)) (count 6 z)) (sym m) ∙ f in (
-                  is-front ∙ sym (refusals.refusal-rest base 256 (a ++ z) a z at-front at-tail one no-bad three few e),
+                  is-front ∙ sym (refusals.refusal-rest base (a ++ z) a z at-front at-tail one no-bad three few e),
                   record { same = n; accepts = λ _. record { few = few; lines-are = y .lines-are; in-range = e } },
                 )

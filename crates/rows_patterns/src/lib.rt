@@ -91,7 +91,7 @@ fn first_outside(z: &[u8], names: usize, q: &mut [u32]) -> usize
 pub fn check(a: &[u8], z: &[u8], front: Refusal, q: &mut [u32]) -> Refusal
     requires { ⌜ Parted 6 (now a) (now z) × (row1 base (now a ++ now z) ≡ false) × NoBad (now a) ⌝ }
     requires { ⌜ (front ≡ old.refusal (old.sheet-rows base (now a))) × (length (now q) ≡ 1536) ⌝ }
-    ensures { λ r. ⌜ r ≡ old.refusal (whole.sheet-rows base 256 (now (a .entry) ++ now (z .entry))) ⌝ }
+    ensures { λ r. ⌜ r ≡ old.refusal (whole.sheet-rows base (now (a .entry) ++ now (z .entry))) ⌝ }
     ensures { λ r. ⌜ Kept (now (a .entry)) (now (z .entry)) (now (q .entry)) (now (q .exit)) r ⌝ }
 {
     let code = code_of(front);

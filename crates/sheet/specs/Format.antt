@@ -5,7 +5,7 @@ use Prim.Native.Nat.{_^_, _<_, _≤_, ℕ, _+_, _*_}
 pub record Format : Type 0 where
   -- columns of a number
   pub columns : ℕ
-  -- at most so many lines in all, N, A and Y lines, declarations, C and F lines, and P lines of one declaration
+  -- at most so many lines in all, N, A and Y lines, declarations, C and F lines, P lines of one declaration, and Q lines
   pub lines : ℕ
   pub names : ℕ
   pub args : ℕ
@@ -14,6 +14,7 @@ pub record Format : Type 0 where
   pub ctors : ℕ
   pub fields : ℕ
   pub params : ℕ
+  pub patterns : ℕ
   -- nodes of a type written out
   pub nodes : ℕ
   -- names that are unfolded within each other
@@ -31,6 +32,7 @@ base = record {
   ctors = 256;
   fields = 512;
   params = 8;
+  patterns = 256;
   nodes = 1024;
   fuel = 100;
 }
@@ -47,6 +49,7 @@ largest = record {
   ctors = 1024;
   fields = 2048;
   params = 8;
+  patterns = 256;
   nodes = 1024;
   fuel = 513;
 }
@@ -77,3 +80,4 @@ pub record Wider (f g : Format) : Type 0 where
   pub ctors : f .ctors ≤ g .ctors
   pub fields : f .fields ≤ g .fields
   pub params : f .params ≤ g .params
+  pub patterns : f .patterns ≤ g .patterns

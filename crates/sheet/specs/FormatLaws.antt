@@ -20,4 +20,5 @@ base-wider =
       ctors = omega arith;
       fields = omega arith;
       params = omega arith;
+      patterns = omega arith;
     }
