@@ -36,9 +36,8 @@ use Rattle.answer_patterns.specs.Rows.{rows-thirteen, rows-eleven, input-accept
 use Rattle.answer_built.specs.Built.{refused-as, Gives}
 use Rattle.answer_built.specs.BuiltLaws.{row8-alone, faults-alone, gives-refused}
 use Rattle.table_access.specs.Tables.{lines-in}
-use Rattle.pattern_counts.specs.Counts.{field-mark, Fielded}
+use Rattle.pattern_counts.specs.Counts.{Fielded}
 use Rattle.pattern_ctors.specs.Sites.{Sited}
-use Rattle.pattern_ctors.specs.Owners as owners
 use Rattle.pattern_ctors.specs.Owners.{CountsTo}
 use Rattle.pattern_marks.specs.Tables.{Given, MarksTo}
 use Rattle.pattern_owners.specs.Places.{Placed}
@@ -63,11 +62,7 @@ all-good names q g i h = go (good-pattern names (lines-of q) i) (none-first _ (l
 pub row13-told : (ls : List Line) (fields q : List ℕ) (r : ℕ) → CountsTo ls fields (length fields)
     → ((ds : List Decl) → Fielded ds fields → r ≡ first (row13 ds (lines-of q)) (length (lines-of q)))
     → r ≡ first (row13 (program ls) (lines-of q)) (length (lines-of q))
-row13-told ls fields q r c w = w (program ls) (record { marks = λ n h. c .marks n h ∙ same (declared-fields (program ls) n) })
-  where
-    same : (o : Option ℕ) → owners.field-mark o ≡ field-mark o
-    same none = refl
-    same (some n) = refl
+row13-told ls fields q r c w = w (program ls) (record { marks = c .marks })
 
 -- as many numbers of fields
 pub good-long : (q : List ℕ) (n k : ℕ) → k ≡ n → Good n q → Good k q

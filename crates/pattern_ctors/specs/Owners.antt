@@ -14,6 +14,7 @@ use Rattle.meaning.specs.Program.{program}
 use Rattle.meaning_patterns.specs.Patterns.{declared-fields}
 use Rattle.resolve_kids.specs.Params.{params-of}
 use Rattle.keep_laws.specs.Kept.{fields-by}
+use Rattle.pattern_counts.specs.Counts.{field-mark}
 use Rattle.pattern_ctors.specs.Sites.{Site}
 
 -- the slots of the n F lines from line f on
@@ -42,10 +43,6 @@ abbrev pub site-owner : List Line → List ℕ → ℕ → Site → Option Owner
 site-owner ls keep n s = owner-told ls keep n (s .owner) (s .first) (s .count)
 
 -- ---- how many fields are declared of a name's constructor, plus one: 0 where no constructor has the name
-abbrev pub field-mark : Option ℕ → ℕ
-field-mark none = 0
-field-mark (some k) = suc k
-
 unfoldable pub count-told : ℕ → ℕ → ℕ
 count-told zero k = 0
 count-told (suc d) k = suc k

@@ -34,7 +34,8 @@ use Rattle.keep_fields.specs.Keeps.{slots-at, Slotted}
 use Rattle.keep_laws.specs.Kept.{ctors-of-decl, ctors-at, kept-ctor, body-kind, body-last, ctor-name, ctor-fields, fields-by, ctors-by}
 use Rattle.keep_laws.specs.KeptLaws.{slots-are, kept-record, kept-variant, ctors-are}
 use Rattle.pattern_ctors.specs.Sites.{Site, site-at, site-among, site-in, site-after, site-of, Sited}
-use Rattle.pattern_ctors.specs.Owners.{field-mark, count-told, CountsTo, slots-by, laid, fields-told, owner-told, site-fields, site-owner}
+use Rattle.pattern_counts.specs.Counts.{field-mark}
+use Rattle.pattern_ctors.specs.Owners.{count-told, CountsTo, slots-by, laid, fields-told, owner-told, site-fields, site-owner}
 
 drop-none : {A : Type 0} (xs : List A) (n : ℕ) → length xs ≤ n → drop n xs ≡ []
 drop-none xs n h = length-nil (drop n xs) (length-drop n xs ∙ omega arith)

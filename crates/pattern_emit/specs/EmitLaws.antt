@@ -14,7 +14,8 @@ use Rattle.sheet.specs.Line.{Line, row}
 use Rattle.model_patterns.specs.Pat.{Pat, Pats, PWild, PVar, PConst, PCtor, PRecord, PTuple, POr, no-parts, part, pat-vars, pats-vars}
 use Rattle.meaning.specs.Rows.{line-at}
 use Rattle.meaning_patterns.specs.Patterns.{pattern-line, kind-of, name-of, last-of, previous-of, field-of, and-last, pattern-of, PartLines, pat-lines, part-lines, freed-lines}
-use Rattle.pattern_laws.specs.Made.{Made, no-made, made-to, only, become, made, mades-after, mades}
+use Rattle.pattern_laws.specs.Made.{Made, made-to, only, become, made, mades}
+use Rattle.pattern_laws.specs.Pieces.{made-at}
 use Rattle.pattern_emit.specs.Emit.{behind, own, emitted, emitted-parts, Linked}
 
 -- ---- what a line gives
@@ -30,48 +31,6 @@ made-from x y l mark flag =
       inner = y .inner ++ freed;
       outer = elim (eqb flag 0) [ true ↦ y .outer ++ pat-vars p | false ↦ y .outer ];
     }
-
-module _ (xs gs : List ℕ) where
-  -- what is there stays
-  kept-made : (ls : List Line) (ms : List Made) (i : ℕ) → i < length ms → getD (mades-after xs gs ms ls) i no-made ≡ getD ms i no-made
-  unfolding mades-after
-  kept-made [] ms i h = refl
-  kept-made (l ∷ ls) ms i h =
-      let x : Made = made ms l (getD xs (length ms) 0) (getD gs (length ms) 0) in
-      kept-made ls (ms ++ (x ∷ [])) i (omega (arith, length-append ms (x ∷ []))) ∙ List·getD-append ms (x ∷ []) no-made i h
-
-  kept-link : (ls : List Line) (ms : List Made) (k : ℕ) → k ≤ length ms → made-to ms k ≡ made-to (mades-after xs gs ms ls) k
-  unfolding made-to
-  kept-link ls ms zero h = refl
-  kept-link ls ms (suc k) h = sym (kept-made ls ms k h)
-
-  same-made : (ms ns : List Made) (l : Line) (x g : ℕ) → made-to ms (last-of l) ≡ made-to ns (last-of l) → made-to ms (previous-of l) ≡ made-to ns (previous-of l) → made ms l x g ≡ made ns l x g
-  unfolding made made-from
-  same-made ms ns l x g e f = ap₂ (λ (y z : Made). made-from y z l x g) e f
-
-  made-after : (ls : List Line) (ms : List Made) (i : ℕ) → i < length ls → last-of (line-at ls i) ≤ length ms + i → previous-of (line-at ls i) ≤ length ms + i →
-      getD (mades-after xs gs ms ls) (length ms + i) no-made ≡ made (mades-after xs gs ms ls) (line-at ls i) (getD xs (length ms + i) 0) (getD gs (length ms + i) 0)
-  unfolding mades-after
-  made-after [] ms i h p q = absurd (omega arith)
-  made-after (l ∷ ls) ms zero h p q =
-      let x : Made = made ms l (getD xs (length ms) 0) (getD gs (length ms) 0) in
-      let n : length ms + 0 ≡ length ms = omega arith in
-      let z : length (ms ++ (x ∷ [])) ≡ length ms + 1 = length-append ms (x ∷ []) in
-      let e : getD (mades-after xs gs (ms ++ (x ∷ [])) ls) (length ms) no-made ≡ x = kept-made ls (ms ++ (x ∷ [])) (length ms) (omega arith) ∙ getD-append-seam ms x [] no-made in
-      let f : (k : ℕ) → k ≤ length ms → made-to ms k ≡ made-to (mades-after xs gs (ms ++ (x ∷ [])) ls) k = kept-link (l ∷ ls) ms in
-      rw n (e ∙ same-made ms (mades-after xs gs (ms ++ (x ∷ [])) ls) l (getD xs (length ms) 0) (getD gs (length ms) 0) (f (last-of l) (omega arith)) (f (previous-of l) (omega arith)))
-  made-after (l ∷ ls) ms (suc i) h p q =
-      let x : Made = made ms l (getD xs (length ms) 0) (getD gs (length ms) 0) in
-      let z : length (ms ++ (x ∷ [])) ≡ length ms + 1 = length-append ms (x ∷ []) in
-      let n : length ms + suc i ≡ length (ms ++ (x ∷ [])) + i = omega arith in
-      rw n (made-after ls (ms ++ (x ∷ [])) i (omega arith) (omega arith) (omega arith))
-
-  -- Every line, from the lines that its links name.
-  pub made-at : (qs : List Line) (i : ℕ) → i < length qs → last-of (line-at qs i) ≤ i → previous-of (line-at qs i) ≤ i →
-      getD (mades xs gs qs) i no-made ≡ made (mades xs gs qs) (line-at qs i) (getD xs i 0) (getD gs i 0)
-  made-at qs i h p q =
-      let n : 0 + i ≡ i = omega arith in
-      rw n at (made-after qs [] i h (omega arith) (omega arith))
 
 -- Line by line: the list that a link ends, and what the line that it names becomes.
 module _ (xs gs : List ℕ) (qs : List Line) (linked : Linked qs) (k : ℕ) (some : 0 < k) (inside : k ≤ length qs) where
