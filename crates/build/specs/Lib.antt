@@ -1,3 +1,4 @@
+pub mod DecidingLaws
 pub mod Build
 pub mod RefusedLaws
 pub mod BuildLaws

@@ -1,4 +1,6 @@
 // The layout build: a sheet and two outputs go in; code, place and rounds come out, and on acceptance both sheets stand in the outputs.
+mod deciding;
+
 use answer::Refusal;
 use answer_built::Built;
 use row4_limits::Counts;
@@ -39,7 +41,7 @@ fn tabled(a: &[u8], z: &[u8], t: &[u32], q: &[u32], v: &mut [u8], l: &mut [u8]) 
     let mut keep = [0u8; 512];
     let mut u = [0u16; 192];
     let mut rank = [0u16; 96];
-    build_deciding::decided(
+    deciding::decided(
         a,
         z,
         t,

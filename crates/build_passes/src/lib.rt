@@ -7,7 +7,7 @@ ghost use Rattle.meaning.specs.Program.{type-line, field-line};
 ghost use Rattle.meaning.specs.Rows.{count-of};
 ghost use Rattle.table_access.specs.Tables.{TabledIn, decls-of, lines-in};
 ghost use Rattle.collapse_candidates.specs.Candidates.{Ruled};
-ghost use Rattle.mention_sets.specs.Mentions.{Mentioned};
+ghost use Rattle.mention_types.specs.Mentions.{Mentioned};
 ghost use Rattle.build_passes.specs.Passes.{Room, Lent, Judged, Ran};
 
 // The rounds of erasure, and the first declaration that returns to itself, or the number of declarations.

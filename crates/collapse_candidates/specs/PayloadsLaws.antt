@@ -12,7 +12,7 @@ use Rattle.model.specs.Cty.{Cty, TUnit, TAny, TExn, TVar, TInt, TFloat, TConst,
 use Rattle.model.specs.Decl.{member, close}
 use Rattle.meaning.specs.Program.{type-line, field-line, tree, trees}
 use Rattle.meaning.specs.Rows.{count-of}
-use Rattle.row5_types.specs.TypeLists.{types-of}
+use Rattle.row5_ranges.specs.TypeLists.{types-of}
 use Rattle.table_declared.specs.Passed.{Passed}
 use Rattle.table_declared.specs.TypeLaws.{good-inline, good-type-at, type-tree}
 use Rattle.resolve_kids.specs.Nodes.{type-of, kind-of, y-line}

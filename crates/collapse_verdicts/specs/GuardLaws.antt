@@ -20,7 +20,7 @@ use Rattle.meaning_laws.specs.Program.{length-program}
 use Rattle.table_access.specs.Tables.{decls-of}
 use Rattle.resolve_kids.specs.Nodes.{type-of}
 use Rattle.resolve_kids.specs.Params.{params-of}
-use Rattle.mention_sets.specs.Mentions.{Mentioned}
+use Rattle.mention_types.specs.Mentions.{Mentioned}
 use Rattle.set_search.specs.Search.{Steps}
 use Rattle.set_search.specs.Search as search
 use Rattle.set_search.specs.SearchLaws.{Holds, holds-steps}

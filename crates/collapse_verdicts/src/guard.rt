@@ -3,7 +3,7 @@
 ghost use Rattle.meaning.specs.Program as program;
 ghost use Rattle.meaning.specs.Rows as rows;
 ghost use Rattle.table_access.specs.Tables as tables;
-ghost use Rattle.mention_sets.specs.Mentions.{Mentioned};
+ghost use Rattle.mention_types.specs.Mentions.{Mentioned};
 ghost use Rattle.collapse_candidates.specs.Candidates.{Payloads};
 ghost use Rattle.collapse_verdicts.specs.Guard.{Lent, Guarded};
 

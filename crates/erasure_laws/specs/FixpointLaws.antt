@@ -15,7 +15,7 @@ use Rattle.meaning.specs.Rows.{count-of}
 use Rattle.model_laws.specs.Rounds.{cases-eq}
 use Rattle.model_laws.specs.Erasure.{length-start, start-at, start-sound}
 use Rattle.meaning_laws.specs.Program.{length-program}
-use Rattle.row5_types.specs.TypeLists.{types-of}
+use Rattle.row5_ranges.specs.TypeLists.{types-of}
 use Rattle.table_declared.specs.Passed.{Passed}
 use Rattle.table_access.specs.Tables.{nth, head-line, decls-of}
 use Rattle.table_declared.specs.TypeLaws.{good-app, good-type-at}

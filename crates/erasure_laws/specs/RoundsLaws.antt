@@ -19,7 +19,7 @@ use Rattle.meaning.specs.Rows.{count-of}
 use Rattle.model_laws.specs.Lists.{trues, true-of}
 use Rattle.model_laws.specs.Rounds.{At, Le, cases-eq, trues-le, same-eq, same-refl, Sound}
 use Rattle.model_laws.specs.Erasure.{cty-erased-mono, rule-mono, start-at}
-use Rattle.row5_types.specs.TypeLists.{types-of}
+use Rattle.row5_ranges.specs.TypeLists.{types-of}
 use Rattle.table_declared.specs.Passed.{Passed}
 use Rattle.table_access.specs.Tables.{nth, head-line, decls-of}
 use Rattle.table_declared.specs.TypeLaws.{good-arrow, good-tuple, good-inline, good-type-at}

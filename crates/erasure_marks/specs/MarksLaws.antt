@@ -17,8 +17,8 @@ use Rattle.meaning.specs.Program.{name-line, arg-line, type-line, select, list-
 use Rattle.meaning.specs.Rows.{count-of}
 use Rattle.model_laws.specs.Rounds.{cases-eq}
 use Rattle.row4_limits.specs.Limits.{counts-of}
-use Rattle.row5_types.specs.TypeLists.{types-of}
-use Rattle.row5_types.specs.TypeLinesLaws.{past}
+use Rattle.row5_ranges.specs.TypeLists.{types-of}
+use Rattle.row5_ranges.specs.TypeLinesLaws.{past}
 use Rattle.table_declared.specs.Passed.{Passed}
 use Rattle.table_declared.specs.PassedLaws.{args-few}
 use Rattle.table_access.specs.Tables.{nth}

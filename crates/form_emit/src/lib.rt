@@ -1,5 +1,7 @@
 // The nodes of a resolved type as words, from its Y line and the normal forms of unfolded declarations: no body is
 // entered, and an argument that is dropped is not looked at. A place past the end of the array says that there is no room.
+mod words;
+
 ghost use mathlib.Core.Path.{_≡_};
 ghost use Prim.Native.Nat.{_+_, _*_, _-_, _≤_, _<_};
 ghost use lib.ListN.{length, take, drop};
@@ -7,8 +9,11 @@ ghost use Rattle.table_access.specs.Tables as tables;
 ghost use Rattle.resolve_kids.specs.Nodes.{kids-of, kind-of};
 ghost use Rattle.form_node_words.specs.Put.{Put};
 ghost use Rattle.form_node_words.specs.Stands.{Stands};
-ghost use Rattle.form_words.specs.Emit.{run, step, filled, grown, form-words, words, kid-words, Asked};
-ghost use Rattle.form_words.specs.Filling.{Argument};
+ghost use Rattle.form_emit.specs.Emit.{run, step, filled, grown, form-words, words, kid-words, Asked};
+ghost use Rattle.form_emit.specs.Filling.{Argument};
+use crate::words::argument_line;
+use crate::words::leaf_word;
+use crate::words::left_word;
 use form_node_words::copies::again;
 use form_node_words::own_word;
 use form_node_words::put;
@@ -17,9 +22,6 @@ use form_nodes::count;
 use form_nodes::kind;
 use form_nodes::own;
 use form_nodes::pack;
-use form_words::argument_line;
-use form_words::leaf_word;
-use form_words::left_word;
 use resolve_kids::kid;
 use resolve_kids::kids;
 

@@ -13,7 +13,7 @@ use Rattle.resolve_kids.specs.Nodes.{type-of}
 use Rattle.model_laws.specs.Cty.{All}
 use Rattle.model_laws.specs.Resolve.{Unfolds}
 use Rattle.keep_laws.specs.States.{body-of, lay-of}
-use Rattle.form_words.specs.Emit.{form-words, words}
+use Rattle.form_emit.specs.Emit.{form-words, words}
 
 -- the words of its normal form, from the forms that are there
 abbrev pub own-words : List Line → List ℕ → List ℕ → ℕ → List ℕ

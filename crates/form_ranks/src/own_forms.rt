@@ -4,7 +4,7 @@ ghost use mathlib.Core.List.{_++_};
 ghost use Prim.Native.Nat.{_+_, _*_, _≤_, _<_};
 ghost use lib.ListN.{length, take, drop};
 ghost use Rattle.table_access.specs.Tables.{decls-of, lines-in};
-ghost use Rattle.form_words.specs.Emit.{Asked};
+ghost use Rattle.form_emit.specs.Emit.{Asked};
 ghost use Rattle.form_normal.specs.Tables.{own-words, Added};
 ghost use Rattle.keep_laws.specs.States.{body-of};
 

@@ -32,11 +32,12 @@ use Rattle.keep_laws.specs.Kept.{body-kind, body-last}
 use Rattle.keep_laws.specs.KeptLaws.{params-are}
 use Rattle.keep_laws.specs.States.{state, body-of, Shape, kept-types, resolves-of}
 use Rattle.form_laws.specs.NodesLaws.{length-post, emit-args, emit-types}
-use Rattle.left_laws.specs.Lefts.{Ready, left-type, is-left, Flagged, left-written, Counted}
+use Rattle.left_laws.specs.Lefts.{Ready, is-left, Flagged, left-written, Counted}
+use Rattle.form_emit.specs.Left.{left-type}
 use Rattle.left_laws.specs.BodyLaws.{left-body, body-lines, left-is, left-types-are, length-decl, lines-newtype, lines-bare, lines-record, lines-variant}
 use Rattle.left_laws.specs.declared.Count.{Count}
-use Rattle.left_types.specs.Sums.{sum-args, sum-types, Told, Added}
-use Rattle.left_types.specs.SumsLaws.{told, Rest, added-lines, added-more, kept-few}
+use Rattle.left_count.specs.Sums.{sum-args, sum-types, Told, Added}
+use Rattle.left_count.specs.SumsLaws.{told, Rest, added-lines, added-more, kept-few}
 use Rattle.left_count.specs.Counts.{decl-types, decl-count, Few}
 use Rattle.table_declared.specs.PassedLaws.{ctors-few, fields-few, params-few}
 

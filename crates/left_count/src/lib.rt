@@ -1,4 +1,7 @@
 // Counts the lines of the left sheet: A, Y and those of declarations.
+mod node_count;
+mod types;
+
 ghost use mathlib.Core.Path.{_≡_};
 ghost use mathlib.Core.Bool.{true};
 ghost use Prim.Native.Nat.{_+_, _*_, _≤_, _<_};
@@ -10,12 +13,12 @@ ghost use Rattle.table_access.specs.Tables.{decls-of, lines-in};
 ghost use Rattle.keep_laws.specs.States.{state, resolves-of};
 ghost use Rattle.left_laws.specs.Lefts.{Ready, Flagged, Counted};
 ghost use Rattle.left_laws.specs.BodyLaws.{left-body, body-lines};
-ghost use Rattle.left_types.specs.Sums.{Added};
+ghost use Rattle.left_count.specs.Sums.{Added};
 ghost use Rattle.left_count.specs.Counts.{decl-types, decl-count, Few};
+use crate::types::add_lines;
+use crate::types::count_fields;
+use crate::types::count_type;
 use left_laws::Count;
-use left_types::add_lines;
-use left_types::count_fields;
-use left_types::count_type;
 
 // The types of declaration d, and the lines of its body.
 fn count_body(

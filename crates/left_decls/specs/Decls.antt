@@ -13,7 +13,7 @@ use Rattle.table_access.specs.Tables.{decls-of, TableOf}
 use Rattle.keep_laws.specs.States.{state, resolves-of}
 use Rattle.left_laws.specs.BodyLaws.{left-body}
 use Rattle.left_places.specs.Places.{Writing, typed, seq, Typed}
-use Rattle.left_heads.specs.Heads.{by-last, decl-with, framed, bare}
+use Rattle.left_decls.specs.Heads.{by-last, decl-with, framed, bare}
 
 -- with the body that is left
 abbrev pub left-decl : List Line → List ℕ → List ℕ → ℕ → Dtype

@@ -23,7 +23,7 @@ use Rattle.resolve_kids.specs.ParamsLaws.{count-before-le}
 use Rattle.keep_laws.specs.Kept.{body-kind, body-last, field-type, fields-by, ctors-by}
 use Rattle.keep_laws.specs.KeptLaws.{fields-in, length-ctors-by, total-record, total-variant}
 use Rattle.keep_laws.specs.States.{state, body-of, kept-types, resolves-of}
-use Rattle.left_laws.specs.Lefts.{left-type}
+use Rattle.form_emit.specs.Left.{left-type}
 use Rattle.left_laws.specs.BodyLaws.{left-body}
 use Rattle.left_places.specs.declared.Place.{Place}
 use Rattle.left_places.specs.Places.{Writing, typed, Growing, Room, Writes, Typed}
@@ -31,8 +31,8 @@ use Rattle.left_places.specs.PlacesLaws.{writes-as, room-as, room-first, room-r
 use Rattle.left_fields.specs.Fields.{left-of, left-fields, kept-count, Fields}
 use Rattle.left_fields.specs.FieldsLaws.{count-fields, type-number}
 use Rattle.left_ctors.specs.Ctors.{ctor-left, left-ctors, Ctors}
-use Rattle.left_heads.specs.Heads.{by-last, decl-with, framed, bare}
-use Rattle.left_heads.specs.HeadsLaws.{room-last, writes-last}
+use Rattle.left_decls.specs.Heads.{by-last, decl-with, framed, bare}
+use Rattle.left_decls.specs.HeadsLaws.{room-last, writes-last}
 use Rattle.left_decls.specs.Decls.{left-writing, abbreviated, recorded, varied, Given}
 
 -- ---- an abbreviation

@@ -1,2 +1,4 @@
+pub mod Heads
+pub mod HeadsLaws
 pub mod Decls
 pub mod DeclsLaws

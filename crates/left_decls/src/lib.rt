@@ -1,4 +1,6 @@
 // Writes what is left of a declaration: its types, its D and P lines, its body and its V line.
+mod heads;
+
 ghost use mathlib.Core.Path.{_≡_};
 ghost use Prim.Native.Nat.{_+_, _≤_, _<_};
 ghost use lib.ListN.{length};
@@ -6,17 +8,17 @@ ghost use Rattle.sheet.specs.Sheet.{lines};
 ghost use Rattle.meaning.specs.Program.{ctor-line, field-line};
 ghost use Rattle.table_access.specs.Tables.{first-of, decls-of, lines-in};
 ghost use Rattle.keep_laws.specs.Kept.{body-last};
-ghost use Rattle.left_laws.specs.Lefts.{left-type};
+ghost use Rattle.form_emit.specs.Left.{left-type};
 ghost use Rattle.left_places.specs.Places.{Room, Writes, Typed};
 ghost use Rattle.left_fields.specs.Fields.{left-fields, Fields};
 ghost use Rattle.left_ctors.specs.Ctors.{left-ctors, Ctors};
 ghost use Rattle.left_decls.specs.Decls.{left-writing, abbreviated, recorded, varied, Given};
+use crate::heads::put_bare;
+use crate::heads::put_end;
+use crate::heads::put_head;
 use left_ctors::put_ctors;
 use left_fields::count_kept;
 use left_fields::put_fields;
-use left_heads::put_bare;
-use left_heads::put_end;
-use left_heads::put_head;
 use left_places::Place;
 use left_places::put_type;
 

@@ -20,7 +20,7 @@ use Rattle.meaning_laws.specs.Output.{grows-args, grows-types, field-adds, emit
 use Rattle.table_access.specs.Tables.{nth}
 use Rattle.resolve_kids.specs.Params.{params-of}
 use Rattle.keep_laws.specs.Kept.{field-type, field-at, fields-by}
-use Rattle.left_laws.specs.Lefts.{left-type}
+use Rattle.form_emit.specs.Left.{left-type}
 use Rattle.left_places.specs.declared.Place.{Place}
 use Rattle.left_places.specs.Places.{Writing, one, numbered, typed, seq, Growing, Room, Writes}
 use Rattle.left_places.specs.PlacesLaws.{growing-numbered, writes-none, writes-as, room-as, room-first, room-rest, writes-seq, room-numbered, writes-numbered}

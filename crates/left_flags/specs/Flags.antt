@@ -9,7 +9,7 @@ use Rattle.resolve_kids.specs.Params.{params-of}
 use Rattle.form_laws.specs.Nodes.{Node}
 use Rattle.form_laws.specs.Forms.{place}
 use Rattle.form_nodes.specs.Words.{node-of}
-use Rattle.form_words.specs.Emit.{form-words}
+use Rattle.form_emit.specs.Emit.{form-words}
 use Rattle.keep_laws.specs.States.{state}
 
 -- a node is the variable of place i

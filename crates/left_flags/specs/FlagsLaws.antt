@@ -23,7 +23,7 @@ use Rattle.model_laws.specs.Resolve.{Stays, Unfolds}
 use Rattle.meaning.specs.Program.{program, param-line}
 use Rattle.meaning_laws.specs.Program.{length-program}
 use Rattle.table_declared.specs.PassedLaws.{distinct-names}
-use Rattle.mention_sets.specs.NamesLaws.{member-append, member-iff}
+use Rattle.mention_types.specs.NamesLaws.{member-append, member-iff}
 use Rattle.table_access.specs.Tables.{nth, decls-of}
 use Rattle.resolve_kids.specs.Params.{params-from, params-of}
 use Rattle.resolve_kids.specs.Nodes.{type-of}
@@ -32,8 +32,9 @@ use Rattle.keep_laws.specs.States.{state, body-of, unfold-at, closed, Shape}
 use Rattle.form_laws.specs.Nodes.{Node, node, post, posts}
 use Rattle.form_laws.specs.Forms.{place, renamed}
 use Rattle.form_nodes.specs.Words.{node-of}
-use Rattle.form_words.specs.Emit.{form-words, Forms}
-use Rattle.left_laws.specs.Lefts.{Ready, is-left, left-type}
+use Rattle.form_emit.specs.Emit.{form-words, Forms}
+use Rattle.left_laws.specs.Lefts.{Ready, is-left}
+use Rattle.form_emit.specs.Left.{left-type}
 use Rattle.left_laws.specs.ReadyLaws.{listed-of, body-resolved, ready-form-nodes}
 use Rattle.left_flags.specs.Flags.{is-var, has-var, has-all, leaves}
 

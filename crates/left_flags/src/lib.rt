@@ -7,7 +7,7 @@ ghost use Rattle.model.specs.Decl as decls;
 ghost use Rattle.table_access.specs.Tables as tables;
 ghost use Rattle.resolve_kids.specs.Params.{params-of};
 ghost use Rattle.form_nodes.specs.Words.{node-of};
-ghost use Rattle.form_words.specs.Emit.{Forms, form-words};
+ghost use Rattle.form_emit.specs.Emit.{Forms, form-words};
 ghost use Rattle.left_laws.specs.Lefts.{Ready, Flagged};
 ghost use Rattle.left_flags.specs.Flags.{is-var, has-var, has-all, leaves};
 use form_node_words::place_of;

@@ -28,7 +28,8 @@ use Rattle.keep_laws.specs.Kept.{ctors-at, kept-ctor, body-kind, body-last, fie
 use Rattle.keep_laws.specs.KeptLaws.{kept-record, kept-variant, ctors-are, length-ctors-by}
 use Rattle.keep_laws.specs.States.{state, body-of, Shape, kept-types, resolves-of, Settled}
 use Rattle.keep_laws.specs.StatesLaws.{types-of-kept}
-use Rattle.left_laws.specs.Lefts.{is-left, left-type}
+use Rattle.left_laws.specs.Lefts.{is-left}
+use Rattle.form_emit.specs.Left.{left-type}
 
 -- ---- the body that is left
 -- a constructor with its fields resolved

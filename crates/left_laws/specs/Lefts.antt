@@ -7,18 +7,16 @@ use Prim.Native.Nat.{ℕ, _≤_, _<_}
 use lib.ListN.{length, getD}
 use Rattle.sheet.specs.Format.{base}
 use Rattle.sheet.specs.Line.{Line}
-use Rattle.model.specs.Cty.{Cty, size}
-use Rattle.model.specs.Decl.{Dtype, close, bit}
-use Rattle.model.specs.Resolve.{resolve}
-use Rattle.model.specs.Run.{lay, left-at, run, left-program, record-of}
+use Rattle.model.specs.Cty.{size}
+use Rattle.model.specs.Decl.{Dtype, bit}
+use Rattle.model.specs.Run.{left-at, run, left-program, record-of}
 use Rattle.meaning.specs.Program.{program}
 use Rattle.meaning.specs.Output.{Lines, program-lines}
 use Rattle.rows_heads.specs.HeadRows.{Resolvable}
 use Rattle.table_access.specs.Tables.{decls-of, TableOf}
-use Rattle.resolve_kids.specs.Nodes.{type-of}
-use Rattle.resolve_kids.specs.Params.{params-of}
 use Rattle.keep_fields.specs.Keeps.{Slotted}
 use Rattle.keep_laws.specs.States.{Open, resolves-of, Settled}
+use Rattle.form_emit.specs.Left.{left-type}
 use Rattle.form_normal.specs.Tables.{Table}
 use Rattle.left_laws.specs.declared.Count.{Count}
 
@@ -31,10 +29,6 @@ pub record Ready (ls : List Line) (t u f keep : List ℕ) : Type 0 where
   pub resolvable : Resolvable base ls
   pub place : ℕ
   pub forms : Table ls u f place (λ d. (d < decls-of ls) × Open u d)
-
--- what Y line y's type in declaration d resolves to
-abbrev pub left-type : List Line → ℕ → ℕ → Cty
-left-type ls d y = resolve (lay (program ls)) 100 (close (params-of ls d) (type-of ls y))
 
 -- ---- for each declaration, in one cell
 -- whether it leaves a declaration

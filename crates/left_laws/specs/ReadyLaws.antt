@@ -35,13 +35,14 @@ use Rattle.form_laws.specs.Nodes.{post}
 use Rattle.form_laws.specs.NodesLaws.{length-post}
 use Rattle.form_laws.specs.Forms.{place, renamed}
 use Rattle.form_nodes.specs.Words.{word, node-of}
-use Rattle.form_words.specs.Emit.{words, form-words, Asked}
-use Rattle.form_words.specs.CodeLaws.{state-below}
+use Rattle.form_emit.specs.Emit.{words, form-words, Asked}
+use Rattle.form_emit.specs.CodeLaws.{state-below}
 use Rattle.meaning_laws.specs.Numbers.{UnfoldNumbers, close-numbers, resolve-numbers}
 use Rattle.table_declared.specs.PassedLaws.{params-few}
 use Rattle.form_normal.specs.LeftLaws.{held, Told, Answered, AnsweredOf, left-words, place-words}
 use Rattle.form_normal.specs.HeldLaws.{Sign, Own, Held, post-held, renamed-kept}
-use Rattle.left_laws.specs.Lefts.{Ready, left-type}
+use Rattle.left_laws.specs.Lefts.{Ready}
+use Rattle.form_emit.specs.Left.{left-type}
 use Rattle.left_laws.specs.NumbersLaws.{types-held}
 use Rattle.rows_heads.specs.HeadRows.{Resolvable}
 

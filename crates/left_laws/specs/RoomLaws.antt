@@ -32,12 +32,13 @@ use Rattle.form_laws.specs.TableLaws.{Alike, nodes-alike}
 use Rattle.form_laws.specs.BoundLaws.{program-bound}
 use Rattle.form_nodes.specs.Words.{word, node-of}
 use Rattle.form_node_words.specs.Own.{label}
-use Rattle.form_words.specs.Emit.{words, form-words, form-of}
+use Rattle.form_emit.specs.Emit.{words, form-words, form-of}
 use Rattle.form_normal.specs.Tables.{own-words, counts, Table}
 use Rattle.form_normal.specs.RanksLaws.{unfolds-open, names-done}
 use Rattle.form_normal.specs.LeftLaws.{held, Told, told-alike}
 use Rattle.form_normal.specs.HeldLaws.{renamed-kept, renamed-size}
-use Rattle.left_laws.specs.Lefts.{Ready, left-type}
+use Rattle.left_laws.specs.Lefts.{Ready}
+use Rattle.form_emit.specs.Left.{left-type}
 use Rattle.left_laws.specs.ReadyLaws.{unfold-cases, told-closed, Listed, listed-of, open-below, body-resolved, type-held, params-small}
 use Rattle.rows_heads.specs.HeadRows.{Resolvable}
 use Rattle.form_normal.specs.Ranks as ranks

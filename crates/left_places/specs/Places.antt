@@ -13,9 +13,9 @@ use Rattle.model.specs.Cty.{Cty, size}
 use Rattle.meaning.specs.Output.{Written, last, emit, Lines}
 use Rattle.form_laws.specs.Nodes.{post}
 use Rattle.form_nodes.specs.Words.{node-of}
-use Rattle.form_words.specs.Emit.{words, Asked}
+use Rattle.form_emit.specs.Emit.{words, Asked}
 use Rattle.left_emitter.specs.LaidLaws.{laid}
-use Rattle.left_laws.specs.Lefts.{left-type}
+use Rattle.form_emit.specs.Left.{left-type}
 use Rattle.left_places.specs.declared.Place.{Place}
 
 -- ---- what is written

@@ -27,9 +27,9 @@ use Rattle.left_emitter.specs.Pens.{Sheet, sheet, moved, write-line, write-line
 use Rattle.left_emitter.specs.LaidLaws.{laid, puts-put, Shows, Space, shows-type}
 use Rattle.form_nodes.specs.Words.{node-of}
 use Rattle.form_node_words.specs.Put.{Put}
-use Rattle.form_words.specs.Emit.{words}
+use Rattle.form_emit.specs.Emit.{words}
 use Rattle.sheet.specs.Sheet.{lines, line}
-use Rattle.left_laws.specs.Lefts.{left-type}
+use Rattle.form_emit.specs.Left.{left-type}
 use Rattle.left_places.specs.declared.Place.{Place}
 use Rattle.left_places.specs.Places.{Writing, none, one, numbered, typed, more, seq, Growing, At, Inside, Room, Writes, Typed}
 use Rattle.model.specs.Erasure.{start}

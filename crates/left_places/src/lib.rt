@@ -7,7 +7,7 @@ ghost use Prim.Native.Nat.{_≤_};
 ghost use lib.ListN.{length};
 ghost use Rattle.sheet.specs.Line.{row};
 ghost use Rattle.sheet.specs.Sheet.{lines};
-ghost use Rattle.left_laws.specs.Lefts.{left-type};
+ghost use Rattle.form_emit.specs.Left.{left-type};
 ghost use Rattle.table_access.specs.Tables.{lines-in};
 ghost use Rattle.left_places.specs.Places.{one, typed, Room, Writes, Typed};
 use form_emit::emit;

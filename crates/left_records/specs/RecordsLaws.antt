@@ -22,7 +22,8 @@ use Rattle.resolve_kids.specs.Params.{params-of}
 use Rattle.keep_laws.specs.Kept.{body-kind, body-last, ctor-name, ctor-fields, field-at, fields-by, ctors-by}
 use Rattle.keep_laws.specs.KeptLaws.{fields-in, total-variant}
 use Rattle.keep_laws.specs.States.{state, body-of}
-use Rattle.left_laws.specs.Lefts.{Ready, is-left, left-type, Flagged}
+use Rattle.left_laws.specs.Lefts.{Ready, is-left, Flagged}
+use Rattle.form_emit.specs.Left.{left-type}
 use Rattle.left_laws.specs.BodyLaws.{left-ctor, resolve-in, left-body, left-is}
 use Rattle.left_records.specs.Records.{some-kept, record-by}
 

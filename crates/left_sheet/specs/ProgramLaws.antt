@@ -29,7 +29,7 @@ use Rattle.left_laws.specs.ReadyLaws.{ready-nodes, ready-asked}
 use Rattle.left_places.specs.declared.Place.{Place}
 use Rattle.left_places.specs.Places.{seq, Growing, Room, Writes}
 use Rattle.left_places.specs.PlacesLaws.{writes-none, writes-as, room-as, room-first, room-rest, writes-seq}
-use Rattle.left_heads.specs.Heads.{decl-with}
+use Rattle.left_decls.specs.Heads.{decl-with}
 use Rattle.left_decls.specs.Decls.{left-decl, left-writing, Given}
 use Rattle.left_sheet.specs.Program.{lefts-to, lefts-at, Lefts}
 use Rattle.left_places.specs.Places as places

@@ -18,8 +18,8 @@ use Rattle.meaning.specs.Program.{type-line, trees, program}
 use Rattle.meaning.specs.Rows.{count-of}
 use Rattle.set_bits.specs.Bits.{has, cleared, united}
 use Rattle.set_bits.specs.BitsLaws.{row-before, has-words, length-cleared, cleared-far, cleared-none, length-united, united-far, united-has}
-use Rattle.mention_sets.specs.Mentions.{mentions, Mentioned}
-use Rattle.mention_sets.specs.NamesLaws.{member-iff}
+use Rattle.mention_types.specs.Mentions.{mentions, Mentioned}
+use Rattle.mention_types.specs.NamesLaws.{member-iff}
 use Rattle.set_search.specs.SearchLaws.{Holds}
 use Rattle.mention_edges.specs.Edges.{edge, Edge, Edges}
 

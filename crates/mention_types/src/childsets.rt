@@ -4,8 +4,8 @@ ghost use Prim.Native.Nat.{_<_};
 ghost use Rattle.meaning.specs.Program as program;
 ghost use Rattle.meaning.specs.Rows as rows;
 ghost use Rattle.table_access.specs.Tables as tables;
-ghost use Rattle.mention_sets.specs.Mentions.{Adds, Mentioned};
-ghost use Rattle.mention_sets.specs.Mentions as spec;
+ghost use Rattle.mention_types.specs.Mentions.{Adds, Mentioned};
+ghost use Rattle.mention_types.specs.Mentions as spec;
 
 // Puts the declarations of the type that number k of type y's line has into the set of type y.
 pub fn add_child(t: &[u32], sets: &mut [u64], words: usize, y: usize, k: usize)
@@ -16,7 +16,7 @@ pub fn add_child(t: &[u32], sets: &mut [u64], words: usize, y: usize, k: usize)
     ensures { λ _. ⌜ Adds words y (spec.mentions (tables.lines-in (now (t .entry))) (spec.part (tables.lines-in (now (t .entry))) y k)) (now (sets .entry)) (now (sets .exit)) ⌝ }
 {
     let c = table_access::type_number(t, y, k) as usize;
-    mention_sets::add_type(sets, words, y, c);
+    crate::sets::add_type(sets, words, y, c);
 }
 
 // Type y is an arrow.
@@ -40,8 +40,8 @@ pub fn add_app(t: &[u32], sets: &mut [u64], words: usize, y: usize)
     let name = table_access::type_number(t, y, 1) as usize;
     let first = table_access::type_number(t, y, 2) as usize;
     let k = table_access::type_number(t, y, 3) as usize;
-    mention_sets::add_name(t, sets, words, y, name);
-    mention_sets::add_list(t, sets, words, y, first, k);
+    crate::sets::add_name(t, sets, words, y, name);
+    crate::sets::add_list(t, sets, words, y, first, k);
 }
 
 // Type y is a tuple.
@@ -53,5 +53,5 @@ pub fn add_tuple(t: &[u32], sets: &mut [u64], words: usize, y: usize)
 {
     let first = table_access::type_number(t, y, 1) as usize;
     let count = table_access::type_number(t, y, 2) as usize;
-    mention_sets::add_list(t, sets, words, y, first, count);
+    crate::sets::add_list(t, sets, words, y, first, count);
 }

@@ -1,13 +1,14 @@
 // The declarations that each type names, as sets, one for each type of a sheet that passed rows 1 to 7. The set of a type
 // is the union of those of its children, which are lower, and of the name of a `TApp`: types are gone over as lines, not as trees.
 mod childsets;
+mod sets;
 
 ghost use Prim.Native.Nat.{_+_, _*_, _≤_, _<_};
 ghost use lib.ListN.{length};
 ghost use Rattle.meaning.specs.Program as program;
 ghost use Rattle.meaning.specs.Rows as rows;
 ghost use Rattle.table_access.specs.Tables as tables;
-ghost use Rattle.mention_sets.specs.Mentions.{Mentioned};
+ghost use Rattle.mention_types.specs.Mentions.{Mentioned};
 
 // The set of type y, after those of the types before it.
 fn add_line(t: &[u32], sets: &mut [u64], words: usize, y: usize)

@@ -135,7 +135,7 @@ fn apply(
     requires { ⌜ Slots (resolver.call-of (tables.lines-in (now t)) (now u)) (now slots) ⌝ }
     ensures { λ r. ⌜ resolver.Found (resolver.call-of (tables.lines-in (now (t .entry))) (now (u .entry)) n (scratch.part at count (now (out .entry)))) k (at + count) (at + count) (now (out .entry)) (now (out .exit)) (resolver.call-of (tables.lines-in (now (t .entry))) (now (u .entry))) (now (slots .exit)) r ⌝ }
 {
-    let known = resolve_entries::recalls::answered(t, u, out, slots, n, at, count);
+    let known = crate::recalls::answered(t, u, out, slots, n, at, count);
     if known != 0 {
         return known;
     }
@@ -161,9 +161,9 @@ fn enter(
     requires { ⌜ Slots (resolver.call-of (tables.lines-in (now t)) (now u)) (now slots) ⌝ }
     ensures { λ r. ⌜ resolver.Found (resolver.enter-of (tables.lines-in (now (t .entry))) (now (u .entry)) d (scratch.part at count (now (out .entry)))) k (at + count) (at + count) (now (out .entry)) (now (out .exit)) (resolver.call-of (tables.lines-in (now (t .entry))) (now (u .entry))) (now (slots .exit)) r ⌝ }
 {
-    let y = resolve_entries::recalls::body(u, d);
-    let r = resolve_entries::entry(t, u, k, y, d, out, at, count);
-    if r != resolve_entries::OPEN {
+    let y = crate::recalls::body(u, d);
+    let r = crate::entries::entry(t, u, k, y, d, out, at, count);
+    if r != crate::entries::OPEN {
         return r;
     }
     let over = count - resolve_calls::params(t, d);

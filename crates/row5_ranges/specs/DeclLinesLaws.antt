@@ -6,7 +6,7 @@ use Prim.Native.Nat.{ℕ, _+_, _≤_, _<_}
 use native.Mathlib.Omega.{arith}
 use lib.Dec.{eqb, ltb}
 use borrow.Author.Tests.{eqb-true, eqb-false, lt-ltb, le-ltb}
-use Rattle.row5_types.specs.UnusedLaws.{zeros-start, zeros-more, zeros-found, zeros-all}
+use Rattle.row5_ranges.specs.UnusedLaws.{zeros-start, zeros-more, zeros-found, zeros-all}
 use Rattle.sheet.specs.Line.{letter, number, Line}
 use Rattle.meaning.specs.Program.{name-line, arg-line, type-line}
 use Rattle.rows_header.specs.Header.{Counted}

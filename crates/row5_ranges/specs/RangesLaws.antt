@@ -13,7 +13,7 @@ use Rattle.meaning.specs.Program.{name-line, type-line, arg-line}
 use Rattle.meaning.specs.Rows.{count-before, good-type, good-numbers, row5, line-at}
 use Rattle.rows_header.specs.Header.{Counted}
 use Rattle.rows_header.specs.OrderLaws.{ordered-of, name-before, type-before, name-letter, arg-letter, type-letter, header-le}
-use Rattle.row5_types.specs.TypeLists.{types-of}
+use Rattle.row5_ranges.specs.TypeLists.{types-of}
 use Rattle.row5_ranges.specs.Ranges.{good-arg}
 use Rattle.walk_cells.specs.CellsLaws.{length-lines-of}
 use Rattle.walk_cells.specs.Cells.{lines-of}

@@ -82,9 +82,9 @@ fn good_later(t: &[u32], i: usize, names: usize, args: usize, types: usize) -> b
         73 => good_head(t, i, names, types),
         80 => both(
             (walk_cells::number(t, i, 0) as usize) < names,
-            row5_types::unused::zeros_from(t, i, 1),
+            crate::unused::zeros_from(t, i, 1),
         ),
-        _ => row5_types::unused::zeros_from(t, i, 3),
+        _ => crate::unused::zeros_from(t, i, 3),
     }
 }
 

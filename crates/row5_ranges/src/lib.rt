@@ -1,6 +1,9 @@
 // Row 5: the numbers of each line are in range (FORMAT, section 5). By sections: N,
 // A and Y lines, and then the declarations.
 mod decl_lines;
+mod type_lists;
+mod types;
+mod unused;
 
 use walk_cells::CELLS;
 ghost use mathlib.Core.Path.{_≡_};
@@ -35,7 +38,7 @@ fn good_arg(t: &[u32], i: usize, types: usize) -> bool
     if walk_cells::number(t, i, 0) as usize >= types {
         return false;
     }
-    row5_types::unused::zeros_from(t, i, 1)
+    unused::zeros_from(t, i, 1)
 }
 
 // The A lines, after N lines that are as they should be.
@@ -65,7 +68,7 @@ fn types_good(t: &[u32], names: usize, args: usize, types: usize) -> usize
     let end = from + types;
     let mut i = from;
     while i < end {
-        if !row5_types::good_type(t, i, names, args, types, i - from) {
+        if !types::good_type(t, i, names, args, types, i - from) {
             return i;
         }
         i += 1;

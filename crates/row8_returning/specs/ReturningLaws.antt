@@ -32,7 +32,7 @@ use Rattle.table_declared.specs.Passed.{Passed}
 use Rattle.table_access.specs.Tables.{decls-of, TableOf}
 use Rattle.resolve_kids.specs.Nodes.{type-of}
 use Rattle.resolve_kids.specs.Params.{params-of}
-use Rattle.mention_sets.specs.Mentions.{Mentioned}
+use Rattle.mention_types.specs.Mentions.{Mentioned}
 use Rattle.set_search.specs.SearchLaws.{Holds, holds-steps}
 use Rattle.mention_edges.specs.Edges.{Edges}
 use Rattle.mention_edges.specs.EdgesLaws.{Bodies, edges-hold}

@@ -1,4 +1,7 @@
 // Row 8: whether an unfolded name returns to itself, by what is reached through the bodies of unfolded declarations.
+mod closure;
+mod ranks;
+
 ghost use mathlib.Core.Path.{_≡_};
 ghost use Prim.Native.Nat.{_+_, _*_, _≤_, _<_};
 ghost use lib.ListN.{length};
@@ -6,7 +9,7 @@ ghost use Rattle.model.specs.Run as run;
 ghost use Rattle.meaning.specs.Program as program;
 ghost use Rattle.meaning.specs.Rows as rows;
 ghost use Rattle.table_access.specs.Tables as tables;
-ghost use Rattle.mention_sets.specs.Mentions.{Mentioned};
+ghost use Rattle.mention_types.specs.Mentions.{Mentioned};
 ghost use Rattle.set_search.specs.Loops.{First};
 ghost use Rattle.keep_laws.specs.States.{Settled};
 ghost use Rattle.row8_returning.specs.Returning.{through, Through, Room};
@@ -59,5 +62,5 @@ pub fn returning(
     let types = table_access::types(t);
     mention_edges::edges(sets, words, types, bodies, steps);
     let n = table_access::decls(t);
-    set_ranks::ranks(steps, words, n, rank)
+    ranks::ranks(steps, words, n, rank)
 }

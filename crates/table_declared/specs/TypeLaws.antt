@@ -16,8 +16,8 @@ use Rattle.sheet.specs.ListLaws.{both, contrary}
 use Rattle.model.specs.Cty.{Cty, TUnit, TApp, TTuple, TBuf, TRef, TInline, cons}
 use Rattle.meaning.specs.Program.{name-line, type-line, select, list-of, tree, trees-after, trees}
 use Rattle.meaning.specs.Rows.{some-below, line-at, count-of, zeros-from, is-list, good-type, good-numbers}
-use Rattle.row5_types.specs.TypeLists.{types-of}
-use Rattle.row5_types.specs.TypeLinesLaws.{type-over}
+use Rattle.row5_ranges.specs.TypeLists.{types-of}
+use Rattle.row5_ranges.specs.TypeLinesLaws.{type-over}
 use Rattle.table_declared.specs.Passed.{Passed}
 use Rattle.table_declared.specs.Lines.{nth}
 use Rattle.table_declared.specs.LineLaws.{stands, good-line}

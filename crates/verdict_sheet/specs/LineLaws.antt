@@ -25,7 +25,7 @@ use Rattle.meaning_laws.specs.Verdict.{verdict-line-at}
 use Rattle.row3_order.specs.StepLaws.{heads-before-suc, heads-before-mono, count-before-mono, count-before-suc, last-head-suc}
 use Rattle.row4_limits.specs.Limits.{start}
 use Rattle.row4_limits.specs.LimitsLaws.{start-counts}
-use Rattle.row5_types.specs.UnusedLaws.{stray, some-at}
+use Rattle.row5_ranges.specs.UnusedLaws.{stray, some-at}
 use Rattle.table_access.specs.Tables.{nth, head-line, decls-of, first-of}
 use Rattle.table_declared.specs.LineLaws.{good-line, nth-at}
 use Rattle.table_declared.specs.DeclLaws.{line-inside, line-of-head, group-is, head-is-head, origin-local, wholes}

@@ -1,4 +1,6 @@
 // Row 2 and the decoding of lines, in one walk: each line's letter and numbers go into six lent cells. For numbers of six to nine columns.
+mod numbers;
+
 use number_columns::Number;
 use sheet_parts::NUMBERS;
 use sheet_parts::has_numbers;
@@ -19,7 +21,7 @@ fn put_number(s: &[u8], c: &mut [u32], k: usize) -> bool
     requires { ⌜ (6 ≤ length (now s)) × (length (now s) < 10) × (k < length (now c)) ⌝ }
     ensures { λ r. ⌜ (r ≡ col.isValue (col.read (now (s .entry)))) × (now (c .exit) ≡ decode.stored (col.read (now (s .entry))) (now (c .entry)) k) ⌝ }
 {
-    match walk_numbers::number(s) {
+    match numbers::number(s) {
         Number::Value(v) => {
             c[k] = v;
             true
@@ -33,7 +35,7 @@ fn put_short(s: &[u8], c: &mut [u32], k: usize) -> bool
     requires { ⌜ (6 ≤ length (now s)) × (length (now s) < 10) × (k < length (now c)) ⌝ }
     ensures { λ r. ⌜ (r ≡ col.isValue (col.read (now (s .entry)))) × (now (c .exit) ≡ decode.stored (col.read (now (s .entry))) (now (c .entry)) k) ⌝ }
 {
-    match walk_numbers::short_number(s) {
+    match numbers::short_number(s) {
         Number::Value(v) => {
             c[k] = v;
             true

@@ -11,9 +11,9 @@ use Rattle.resolve_kids.specs.Nodes.{kids-of}
 use Rattle.form_node_words.specs.Put.{Put, put-none, put-more}
 use Rattle.resolve_kids.specs.NodesLaws.{node-at}
 use Rattle.form_node_words.specs.Stands.{Stands, stands-put, stands-kept, stands-at, stands-by, put-stands}
-use Rattle.form_words.specs.Filling.{step-given, step-left}
-use Rattle.form_words.specs.CodeLaws.{put-same, run-none, run-more, run-stop, filled-none, filled-more, filled-all, filled-stop, put-leaf, put-plain, stop-plain, put-gone, put-stays, stop-stays, stop-form, put-form, put-surplus, surplus-none, surplus-kept, surplus-stop, surplus-put, grown-word, below, state-below, count-few, name-kids, asked-kid}
-use Rattle.form_words.specs.Emit.{run, filled, words, kid-words}
+use Rattle.form_emit.specs.Filling.{step-given, step-left}
+use Rattle.form_emit.specs.CodeLaws.{put-same, run-none, run-more, run-stop, filled-none, filled-more, filled-all, filled-stop, put-leaf, put-plain, stop-plain, put-gone, put-stays, stop-stays, stop-form, put-form, put-surplus, surplus-none, surplus-kept, surplus-stop, surplus-put, grown-word, below, state-below, count-few, name-kids, asked-kid}
+use Rattle.form_emit.specs.Emit.{run, filled, words, kid-words}
 use borrow.Fn.Kinds.{In}
 use borrow.Fn.PlainCycle.{Measures, is, falls, and}
 use Rattle.form_emit.proofs.+emit_form+emit_kids+emit_name+emit_node+emit_part+emit_surplus+emit_tree.{statement}
@@ -41,9 +41,9 @@ use Rattle.form_emit.proofs.+emit_form+emit_kids+emit_name+emit_node+em
 use Rattle.form_emit.proofs.emit_tree.Reads as emit-tree
 use Rattle.form_emit.proofs.emit_tree.Kinds as emit-tree-kinds
 use Rattle.form_emit.proofs.+emit_form+emit_kids+emit_name+emit_node+emit_part+emit_surplus+emit_tree.Lts-emit_tree as emit-tree-lts
-use Rattle.form_words.proofs.argument_line.Reads as argument-line-reads
-use Rattle.form_words.proofs.leaf_word.Reads as leaf-word-reads
-use Rattle.form_words.proofs.left_word.Reads as left-word-reads
+use Rattle.form_emit.proofs.words.argument_line.Reads as argument-line-reads
+use Rattle.form_emit.proofs.words.leaf_word.Reads as leaf-word-reads
+use Rattle.form_emit.proofs.words.left_word.Reads as left-word-reads
 use Rattle.resolve_calls.proofs.params.Reads as params-reads
 use Rattle.form_node_words.proofs.copies.again.Reads as again-reads
 use Rattle.resolve_kids.proofs.kid.Reads as kid-reads

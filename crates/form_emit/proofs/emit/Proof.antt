@@ -1,7 +1,7 @@
 -- `form_emit::emit` meets its contract: a type that has no parts is one word. Assumes nothing.
 use native.Mathlib.Omega.{arith}
 use borrow.Author.Needs.{needs}
-use Rattle.form_words.specs.CodeLaws.{put-leaf}
+use Rattle.form_emit.specs.CodeLaws.{put-leaf}
 use Rattle.form_emit.proofs.emit.Statement.{statement}
 use Rattle.table_access.specs.Tables.{lines-in}
 use Rattle.form_emit.proofs.emit.Tie as tie

@@ -3,7 +3,7 @@ use mathlib.Core.Path.{refl, sym, _∙_}
 use Prim.Native.Nat.{_+_, _*_}
 use native.Mathlib.Omega.{arith}
 use lib.ListN.{length}
-use Rattle.left_types.specs.SumsLaws.{added-lines}
+use Rattle.left_count.specs.SumsLaws.{added-lines}
 use Rattle.left_count.specs.CountsLaws.{variant-few, told-newtype, told-abbrev, kind-three, count-newtype, count-none, count-abbrev, count-record, count-variant}
 use borrow.Author.Needs.{needs}
 use Rattle.table_declared.specs.PassedLaws.{decls-few}

@@ -2,7 +2,7 @@
 use mathlib.Core.Path.{refl}
 use native.Mathlib.Omega.{arith}
 use lib.ListN.{length}
-use Rattle.left_types.specs.SumsLaws.{added-lines}
+use Rattle.left_count.specs.SumsLaws.{added-lines}
 use Rattle.left_count.specs.CountsLaws.{params-few-of, left-open, decl-skip, decl-left}
 use borrow.Author.Needs.{needs}
 use Rattle.left_count.proofs.count_decl.Statement.{statement}

@@ -1,5 +1,5 @@
 -- `left_decls::put_abbrev` meets its contract: the type first, and then the D line with its number. Assumes nothing.
-use Rattle.left_laws.specs.Lefts.{left-type}
+use Rattle.form_emit.specs.Left.{left-type}
 use Rattle.left_decls.specs.DeclsLaws.{abbrev-type, abbrev-number, abbrev-bare, abbrev-writes}
 use native.Mathlib.Omega.{arith}
 use borrow.Author.Needs.{needs}

@@ -3,7 +3,7 @@ use Rattle.meaning.specs.Output.{field-lines}
 use Rattle.table_declared.specs.PassedLaws.{fields-few}
 use Rattle.left_fields.specs.Fields.{left-fields}
 use Rattle.left_fields.specs.FieldsLaws.{growing-fields, kept-few}
-use Rattle.left_heads.specs.HeadsLaws.{frame-head, frame-body, frame-end, frame-writes}
+use Rattle.left_decls.specs.HeadsLaws.{frame-head, frame-body, frame-end, frame-writes}
 use Rattle.left_decls.specs.DeclsLaws.{record-is, room-same, writes-same}
 use native.Mathlib.Omega.{arith}
 use borrow.Author.Needs.{needs}

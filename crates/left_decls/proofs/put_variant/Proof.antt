@@ -2,7 +2,7 @@
 use Rattle.meaning.specs.Output.{ctor-lines}
 use Rattle.left_ctors.specs.Ctors.{left-ctors}
 use Rattle.left_ctors.specs.CtorsLaws.{growing-ctors}
-use Rattle.left_heads.specs.HeadsLaws.{frame-head, frame-body, frame-end, frame-writes}
+use Rattle.left_decls.specs.HeadsLaws.{frame-head, frame-body, frame-end, frame-writes}
 use Rattle.left_decls.specs.DeclsLaws.{variant-is, room-same, writes-same}
 use native.Mathlib.Omega.{arith}
 use borrow.Author.Needs.{needs}

@@ -9,7 +9,7 @@ use Rattle.table_declared.specs.PassedLaws.{decls-few, params-few}
 use Rattle.resolve_kids.specs.Params.{params-from, params-of}
 use Rattle.resolve_kids.specs.ParamsLaws.{count-before-le}
 use Rattle.form_nodes.specs.Words.{node-of}
-use Rattle.form_words.specs.Emit.{form-words}
+use Rattle.form_emit.specs.Emit.{form-words}
 use Rattle.left_flags.specs.Flags.{has-all}
 use Rattle.left_flags.specs.FlagsLaws.{all-end, all-hit, all-miss}
 use borrow.Author.Tests.{not-true, not-false}

@@ -3,7 +3,7 @@ use mathlib.Core.Path.{ap, _∙_}
 use mathlib.Core.List.{List}
 use native.Mathlib.Omega.{arith}
 use Rattle.form_laws.specs.Nodes.{Node}
-use Rattle.left_laws.specs.Lefts.{left-type}
+use Rattle.form_emit.specs.Left.{left-type}
 use Rattle.left_places.specs.PlacesLaws.{pen-of, type-room, type-writes, words-fit, nodes-taken}
 use borrow.Author.Needs.{needs}
 use Rattle.left_places.proofs.put_type.Statement.{statement}

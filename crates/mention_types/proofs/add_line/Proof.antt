@@ -3,8 +3,8 @@ use mathlib.Core.Path.{refl, sym, _∙_}
 use mathlib.Core.Bool.{false}
 use mathlib.Core.Logic.{⊎-elim}
 use native.Mathlib.Omega.{arith}
-use Rattle.mention_sets.specs.NamesLaws.{buf-low, ref-low, inline-low, buf-names, ref-names, inline-names, leaf-names, kind-some}
-use Rattle.mention_sets.specs.AddsLaws.{row-in, clears, one-more, adds-none}
+use Rattle.mention_types.specs.NamesLaws.{buf-low, ref-low, inline-low, buf-names, ref-names, inline-names, leaf-names, kind-some}
+use Rattle.mention_types.specs.AddsLaws.{row-in, clears, one-more, adds-none}
 use borrow.Author.Needs.{needs}
 use Rattle.mention_types.proofs.add_line.Statement.{statement}
 use Rattle.mention_types.proofs.add_line.Tie as tie

@@ -6,7 +6,7 @@ use lib.ListN.{length}
 use borrow.Author.Needs.{needs}
 use Rattle.meaning.specs.Program.{type-line}
 use Rattle.meaning.specs.Rows.{count-of}
-use Rattle.mention_sets.specs.Mentions.{Mentioned}
+use Rattle.mention_types.specs.Mentions.{Mentioned}
 use Rattle.mention_types.proofs.mentions.Statement.{statement}
 use Rattle.table_access.specs.Tables.{lines-in}
 use Rattle.mention_types.proofs.mentions.Tie as tie

@@ -1,7 +1,7 @@
 -- `childsets::add_app` meets its contract. Assumes nothing.
 use mathlib.Core.Path.{_∙_}
-use Rattle.mention_sets.specs.NamesLaws.{app-name, app-low}
-use Rattle.mention_sets.specs.AddsLaws.{row-in, adds-app}
+use Rattle.mention_types.specs.NamesLaws.{app-name, app-low}
+use Rattle.mention_types.specs.AddsLaws.{row-in, adds-app}
 use borrow.Author.Needs.{needs}
 use Rattle.mention_types.proofs.childsets.add_app.Statement.{statement}
 use Rattle.mention_types.proofs.childsets.add_app.Tie as tie

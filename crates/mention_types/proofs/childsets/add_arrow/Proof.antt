@@ -1,9 +1,9 @@
 -- `childsets::add_arrow` meets its contract. Assumes nothing.
 use mathlib.Core.Path.{_∙_}
 use native.Mathlib.Omega.{arith}
-use Rattle.mention_sets.specs.Mentions.{part, mentions}
-use Rattle.mention_sets.specs.NamesLaws.{arrow-low}
-use Rattle.mention_sets.specs.AddsLaws.{kept, adds-arrow}
+use Rattle.mention_types.specs.Mentions.{part, mentions}
+use Rattle.mention_types.specs.NamesLaws.{arrow-low}
+use Rattle.mention_types.specs.AddsLaws.{kept, adds-arrow}
 use Rattle.mention_types.proofs.childsets.add_arrow.Statement.{statement}
 use Rattle.table_access.specs.Tables.{lines-in}
 use Rattle.mention_types.proofs.childsets.add_arrow.Tie as tie

@@ -1,5 +1,5 @@
 -- `childsets::add_child` meets its contract. Assumes nothing.
-use Rattle.mention_sets.specs.AddsLaws.{row-in, adds-child}
+use Rattle.mention_types.specs.AddsLaws.{row-in, adds-child}
 use borrow.Author.Needs.{needs}
 use Rattle.mention_types.proofs.childsets.add_child.Statement.{statement}
 use Rattle.mention_types.proofs.childsets.add_child.Tie as tie

@@ -1,6 +1,6 @@
 -- `childsets::add_tuple` meets its contract. Assumes nothing.
-use Rattle.mention_sets.specs.NamesLaws.{tuple-low}
-use Rattle.mention_sets.specs.AddsLaws.{row-in, adds-tuple}
+use Rattle.mention_types.specs.NamesLaws.{tuple-low}
+use Rattle.mention_types.specs.AddsLaws.{row-in, adds-tuple}
 use borrow.Author.Needs.{needs}
 use Rattle.mention_types.proofs.childsets.add_tuple.Statement.{statement}
 use Rattle.mention_types.proofs.childsets.add_tuple.Tie as tie

@@ -36,9 +36,9 @@ use Rattle.resolve_calls.proofs.params.Reads as params-reads
 use Rattle.resolve_kids.proofs.kid.Reads as kid-reads
 use Rattle.resolve_kids.proofs.kids.Reads as kids-reads
 use Rattle.resolve_memory.proofs.remembering.remember.Reads as remember-reads
-use Rattle.resolve_entries.proofs.recalls.answered.Reads as answered-reads
-use Rattle.resolve_entries.proofs.recalls.body.Reads as body-reads
-use Rattle.resolve_entries.proofs.entry.Reads as entry-reads
+use Rattle.resolve_types.proofs.recalls.answered.Reads as answered-reads
+use Rattle.resolve_types.proofs.recalls.body.Reads as body-reads
+use Rattle.resolve_types.proofs.entries.entry.Reads as entry-reads
 use Rattle.resolve_outcomes.proofs.sums.built.Reads as built-reads
 use Rattle.table_access.proofs.decl_of.Reads as decl-of-reads
 use Rattle.table_access.proofs.type_number.Reads as type-number-reads

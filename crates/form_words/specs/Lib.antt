@@ -1,4 +1,0 @@
-pub mod Emit
-pub mod Filling
-pub mod EmitLaws
-pub mod CodeLaws

@@ -1,0 +1,39 @@
+-- `type_lists::is_width` meets its contract: each width is one of the six. Assumes nothing.
+use borrow.Author.Tests.{ne-eqb}
+use Rattle.meaning.specs.Rows.{is-width}
+use Rattle.row5_ranges.proofs.type_lists.is_width.Statement.{statement}
+use Rattle.row5_ranges.proofs.type_lists.is_width.Tie as tie
+
+returns : tie.Need-returns
+unfolding is-width
+returns c = rw (c .match .keys1)
+
+returns-2 : tie.Need-returns-2
+unfolding is-width
+returns-2 c = rw (c .match .keys2)
+
+returns-3 : tie.Need-returns-3
+unfolding is-width
+returns-3 c = rw (c .match .keys3)
+
+returns-4 : tie.Need-returns-4
+unfolding is-width
+returns-4 c = rw (c .match .keys4)
+
+returns-5 : tie.Need-returns-5
+unfolding is-width
+returns-5 c = rw (c .match .keys5)
+
+returns-6 : tie.Need-returns-6
+unfolding is-width
+returns-6 c = rw (c .match .keys6)
+
+returns-7 : tie.Need-returns-7
+unfolding is-width
+returns-7 c =
+    let r = c .match .rest in
+    simp (ne-eqb _ _ (r .1), ne-eqb _ _ (r .0 .1), ne-eqb _ _ (r .0 .0 .1), ne-eqb _ _ (r .0 .0 .0 .1), ne-eqb _ _ (r .0 .0 .0 .0 .1), ne-eqb _ _ (r .0 .0 .0 .0 .0 .1))
+
+pub is-width-spec : {M : Type 1} → statement M
+is-width-spec =
+    tie.close (tie.spec returns returns-2 returns-3 returns-4 returns-5 returns-6 returns-7)

@@ -1,4 +1,0 @@
-pub mod UnusedLaws
-pub mod TypeLists
-pub mod TypeListsLaws
-pub mod TypeLinesLaws

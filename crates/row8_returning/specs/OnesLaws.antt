@@ -1,0 +1,180 @@
+-- The ones of a row are its members, and those what a node reaches. Assumes nothing.
+use mathlib.Core.Logic.{_↔_}
+use mathlib.Core.Path.{_≡_, refl, sym, _∙_, ap, ap₂}
+use mathlib.Core.List.{List, List·Memᴰ}
+use mathlib.Core.Bool.{Bool, true, false}
+use Prim.Native.Nat.{ℕ, zero, suc, _+_, _*_, _/_, _%_, _^_, _≤_, _<_, _-_}
+use native.Mathlib.Nat.{div-one, pow-suc, div-lt-iff-lt-mul}
+use native.Mathlib.Numerals.{one-add}
+use native.Mathlib.Decide.{ℕ-discrete, decLt}
+use native.Mathlib.Omega.{arith}
+use lib.Arith.{lt-one}
+use lib.Count.{ones, ones-step}
+use lib.Dec.{eqb}
+use lib.ListN.{length, getD, set, length-set}
+use lib.Pow.{shr-shr}
+use lib.Seq.{ext-getD, getD-set-same, getD-set-other}
+use Rattle.sheet.specs.Sheet.{first}
+use Rattle.sheet.specs.FirstLaws.{first-none, first-found}
+use Rattle.model.specs.Decl.{bit, table}
+use Rattle.model.specs.Reach.{Reach, one, more, cyclic}
+use Rattle.model_laws.specs.Lists.{true-of, trues, length-table, getD-table, table-cong}
+use Rattle.model_laws.specs.Reach.{reached, rank, length-reached, reached-iff, cyclic-iff}
+use Rattle.set_bits.specs.Bits.{digit, has}
+use Rattle.set_bits.specs.BitsLaws.{digit-lt}
+use Rattle.set_search.specs.Search.{Steps, steps}
+use Rattle.set_search.specs.SearchLaws.{steps-within}
+use Rattle.set_search.specs.Loops.{First}
+use Rattle.row8_returning.specs.Closure.{Closed}
+use Rattle.row8_returning.specs.Ones.{ones-of, Ranks}
+
+-- ---- the bits of a word
+-- a test over a row of numbers that goes on after n
+trues-table : (f : ℕ → Bool) (m n : ℕ) → trues (table f (m + n)) ≡ trues (table f m) + trues (table (λ i. f (m + i)) n)
+unfolding trues table
+trues-table f zero n =
+    let e : 0 + n ≡ n = omega arith in
+    ap (λ (k : ℕ). trues (table f k)) e ∙ (ap trues (table-cong f (λ i. f (0 + i)) n (λ i l. ap f (omega arith))) ∙ omega arith)
+trues-table f (suc m) n =
+    let e : suc m + n ≡ suc (m + n) = omega arith in
+    let g : trues (table (λ i. f (suc (m + i))) n) ≡ trues (table (λ i. f (suc m + i)) n) = ap trues (table-cong (λ i. f (suc (m + i))) (λ i. f (suc m + i)) n (λ i l. ap f (omega arith))) in
+    ap (λ (k : ℕ). trues (table f k)) e ∙ omega (arith, trues-table (λ i. f (suc i)) m n, g)
+
+bit-one : (x : ℕ) → x < 2 → bit (eqb x 1) ≡ x
+bit-one zero h = refl
+bit-one (suc zero) h = refl
+bit-one (suc (suc x)) h = absurd (omega arith)
+
+zero-ones : (x : ℕ) → x ≡ 0 → ones x ≡ 0
+unfolding ones
+zero-ones x e = rw e
+
+-- the first k bits of a number below 2 ^ k
+word-ones : (k x : ℕ) → x < 2 ^ k → trues (table (λ j. eqb (digit x j) 1) k) ≡ ones x
+unfolding trues table
+word-ones zero x h = sym (zero-ones x (lt-one h))
+word-ones (suc k) x h =
+    ap₂ _+_ (bit-one (digit x 0) (digit-lt x 0) ∙ ap (λ (y : ℕ). y % 2) (div-one x)) (ap trues (table-cong (λ j. eqb (digit x (suc j)) 1) (λ j. eqb (digit (x / 2) j) 1) k (λ j l. ap (λ (y : ℕ). eqb y 1) (half x j))) ∙ word-ones k (x / 2) (half-lt x k h))
+    ∙ sym (ones-step x)
+  where
+    half : (n j : ℕ) → digit n (suc j) ≡ digit (n / 2) j
+    half n j = ap (λ (y : ℕ). n / 2 ^ y % 2) (sym (one-add j)) ∙ ap (λ (y : ℕ). y % 2) (sym (shr-shr n 1 j))
+
+    half-lt : (n j : ℕ) → n < 2 ^ suc j → n / 2 < 2 ^ j
+    half-lt n j q = div-lt-iff-lt-mul {k = 2} (omega arith) .1 (rw (pow-suc 2 j) at q)
+
+-- the members of so many words
+pub members-ones : (t : List ℕ) (at w : ℕ) → ((i : ℕ) → i < w → getD t (at + i) 0 < 2 ^ 64) → trues (table (has t at) (64 * w)) ≡ ones-of t at w
+unfolding ones-of trues table has
+members-ones t at zero h = refl
+members-ones t at (suc w) h =
+    let e : 64 * suc w ≡ 64 * w + 64 = omega arith in
+    ap (λ (n : ℕ). trues (table (has t at) n)) e
+    ∙ trues-table (has t at) (64 * w) 64
+    ∙ ap₂ _+_ (members-ones t at w (λ i l. h i (omega arith))) (ap trues (table-cong (λ i. has t at (64 * w + i)) (λ j. eqb (digit (getD t (at + w) 0) j) 1) 64 (λ j l. within j l)) ∙ word-ones 64 (getD t (at + w) 0) (h w (omega arith)))
+  where
+    within : (j : ℕ) → j < 64 → has t at (64 * w + j) ≡ eqb (digit (getD t (at + w) 0) j) 1
+    within j l =
+        let q : (64 * w + j) / 64 ≡ w = omega arith in
+        let r : (64 * w + j) % 64 ≡ j = omega arith in
+        rw (q, r)
+
+-- ---- what is reached
+no-bits : (f : ℕ → Bool) (n : ℕ) → ((i : ℕ) → i < n → f i ≡ false) → trues (table f n) ≡ 0
+unfolding trues table
+no-bits f zero h = refl
+no-bits f (suc n) h = rw (h 0 (omega arith)) (omega (arith, no-bits (λ i. f (suc i)) n (λ i l. h (suc i) (omega arith))))
+
+same-test : (x y : Bool) → (x ≡ true → y ≡ true) → (y ≡ true → x ≡ true) → x ≡ y
+same-test true y f g = sym (f refl)
+same-test false true f g = g refl
+same-test false false f g = refl
+
+module _ (n words : ℕ) (t t′ : List ℕ) (s : Steps n words t) (c : Closed n words t t′) (fit : (i : ℕ) → getD t′ i 0 < 2 ^ 64) where
+  abbrev next : ℕ → List ℕ
+  next = steps n words t
+
+  within : (a b : ℕ) → List·Memᴰ b (next a) → b < n
+  within = steps-within n words t
+
+  row-below : (k m : ℕ) → k < n → m < 64 * words → has t′ (k * words) m ≡ true → m < n
+  row-below k m h l e = last (c .rows k m h l .0 e)
+    where
+      last : {a b : ℕ} → Reach next a b → b < n
+      last (one q) = within _ _ q
+      last (more q r) = last r
+
+  row-false : (k m : ℕ) → k < n → m < 64 * words → n ≤ m → has t′ (k * words) m ≡ false
+  row-false k m h l q = go (has t′ (k * words) m) refl
+    where
+      go : (b : Bool) → has t′ (k * words) m ≡ b → has t′ (k * words) m ≡ false
+      go true e = absurd (omega (arith, row-below k m h l e))
+      go false e = e
+
+  reached-row : (k : ℕ) → k < n → table (has t′ (k * words)) n ≡ reached next n k
+  reached-row k h =
+      ext-getD false (table (has t′ (k * words)) n) (reached next n k) (length-table (has t′ (k * words)) n ∙ sym (length-reached next n k))
+      (λ i l. let m : i < n = rw length-table at l in
+      getD-table (has t′ (k * words)) n i false m
+      ∙ same-test (has t′ (k * words) i) (getD (reached next n k) i false)
+      (λ e. true-of _ (reached-iff next n within k i .1 (c .rows k i h (omega (arith, s .wide)) .0 e)))
+      (λ e. c .rows k i h (omega (arith, s .wide)) .1 (reached-iff next n within k i .0 (rw e tt))))
+
+  -- the ones of node k's row are how many nodes it reaches
+  pub ones-rank : (k : ℕ) → k < n → ones-of t′ (k * words) words ≡ rank next n k
+  unfolding rank
+  ones-rank k h =
+      let e : 64 * words ≡ n + (64 * words - n) = omega (arith, s .wide) in
+      sym (members-ones t′ (k * words) words (λ i l. fit (k * words + i)))
+      ∙ (ap (λ (m : ℕ). trues (table (has t′ (k * words)) m)) e
+      ∙ (trues-table (has t′ (k * words)) n (64 * words - n)
+      ∙ (ap₂ _+_ (ap trues (reached-row k h)) (no-bits (λ i. has t′ (k * words) (n + i)) (64 * words - n) (λ i l. row-false k (n + i) h (omega arith) (omega arith))) ∙ omega arith)))
+
+  -- and it is among them exactly if it reaches itself
+  pub own-cyclic : (k : ℕ) → k < n → has t′ (k * words) k ≡ cyclic next n k
+  own-cyclic k h =
+      same-test (has t′ (k * words) k) (cyclic next n k)
+      (λ e. cyclic-iff next n k within .1 (c .rows k k h (omega (arith, s .wide)) .0 e))
+      (λ e. c .rows k k h (omega (arith, s .wide)) .1 (cyclic-iff next n k within .0 e))
+
+  pub ranks-first : (r : ℕ) (rank₀ rank′ : List ℕ) → Ranks words n t′ r rank₀ rank′ → First next n r rank₀ rank′
+  ranks-first r rank₀ rank′ h =
+      record {
+        is = go (decLt r n);
+        before = record { long = h .long; ranks = λ i l. h .counts i l ∙ ones-rank i (omega (arith, h .within)) };
+      }
+    where
+      none : (i : ℕ) → i < r → cyclic next n i ≡ false
+      none i l = sym (own-cyclic i (omega (arith, h .within))) ∙ h .none i l
+
+      go : Dec (r < n) → r ≡ first (cyclic next n) n
+      go (yes l) = sym (first-found (cyclic next n) n r l (first-none (cyclic next n) r none) (sym (own-cyclic r l) ∙ h .own l))
+      go (no l) = let e : r ≡ n = omega (arith, h .within) in e ∙ sym (first-none (cyclic next n) n (λ i q. none i (omega arith)))
+
+-- ---- one row after the other
+module _ (words n : ℕ) (t : List ℕ) (s : List ℕ) where
+  abbrev pub Counted : ℕ → List ℕ → Type 0
+  Counted k s′ =
+      (k ≤ n) × (length s′ ≡ length s) × ((i : ℕ) → i < k → has t (i * words) i ≡ false) × ((i : ℕ) → i < k → getD s′ i 0 ≡ ones-of t (i * words) words)
+
+  pub counted-more : (k v : ℕ) (s′ : List ℕ) → Counted k s′ → k < n → n ≤ length s → has t (k * words) k ≡ false → v ≡ ones-of t (k * words) words → Counted (k + 1) (set s′ k v)
+  counted-more k v s′ h l q e w = (
+    omega arith,
+    length-set s′ k v ∙ h .1,
+    λ i j. below i j (ℕ-discrete i k),
+    λ i j. counts i j (ℕ-discrete i k),
+  )
+    where
+      below : (i : ℕ) → i < k + 1 → Dec (i ≡ k) → has t (i * words) i ≡ false
+      below i j (yes z) = rw z e
+      below i j (no z) = h .2 i (omega arith)
+
+      counts : (i : ℕ) → i < k + 1 → Dec (i ≡ k) → getD (set s′ k v) i 0 ≡ ones-of t (i * words) words
+      counts i j (yes z) = rw z (getD-set-same s′ k v 0 (omega (arith, h .1)) ∙ w)
+      counts i j (no z) = getD-set-other s′ k i v 0 z ∙ h .3 i (omega arith)
+
+  pub counted-found : (k : ℕ) (s′ : List ℕ) → Counted k s′ → k < n → has t (k * words) k ≡ true → Ranks words n t k s s′
+  counted-found k s′ h l e = record { within = h .0; none = h .2; own = λ q. e; long = h .1; counts = h .3 }
+
+  pub counted-all : (s′ : List ℕ) → Counted n s′ → Ranks words n t n s s′
+  counted-all s′ h = record { within = h .0; none = h .2; own = λ q. absurd (omega arith); long = h .1; counts = h .3 }

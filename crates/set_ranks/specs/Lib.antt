@@ -1,4 +1,0 @@
-pub mod Closure
-pub mod ClosureLaws
-pub mod Ones
-pub mod OnesLaws
