@@ -9,7 +9,7 @@ use Rattle.meaning.specs.Program.{field-line, program}
 use Rattle.meaning.specs.Rows.{count-of}
 use Rattle.table_access.specs.Tables.{decls-of}
 use Rattle.keep_fields.specs.Keeps.{Slotted}
-use Rattle.keep_laws.specs.States.{Settled}
+use Rattle.keep_layouts.specs.States.{Settled}
 use Rattle.set_search.specs.Loops.{First}
 use Rattle.build_passes.specs.declared.Run.{Run}
 use Rattle.sheet.specs.Line.{Line}

@@ -14,7 +14,7 @@ use Rattle.table_access.specs.Tables.{decls-of, lines-in}
 use Rattle.table_access.specs.OfSheet.{OfSheet}
 use Rattle.rows_heads.specs.HeadRows.{returns-row, faults-row}
 use Rattle.keep_fields.specs.Keeps.{Slotted}
-use Rattle.keep_laws.specs.States.{Settled}
+use Rattle.keep_layouts.specs.States.{Settled}
 use Rattle.form_normal.specs.Ranks.{Ranked}
 
 -- A table beside the bytes of a sheet to which none of rows 1 to 7 applies.

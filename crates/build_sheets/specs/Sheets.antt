@@ -14,7 +14,7 @@ use Rattle.table_access.specs.Tables.{decls-of, lines-in}
 use Rattle.table_access.specs.OfSheet.{OfSheet}
 use Rattle.rows_heads.specs.HeadRows.{Resolvable}
 use Rattle.keep_fields.specs.Keeps.{Slotted}
-use Rattle.keep_laws.specs.States.{Settled}
+use Rattle.keep_layouts.specs.States.{Settled}
 use Rattle.form_normal.specs.Ranks.{Ranked}
 use Rattle.left_laws.specs.Lefts.{Ready, left-written, Fit}
 use Rattle.answer_built.specs.declared.Tried.{Tried}

@@ -19,7 +19,7 @@ use Rattle.erasure_marks.specs.Marks.{marks-of}
 use Rattle.keep_fields.specs.Keeps.{Slotted}
 use Rattle.resolve_kids.specs.Nodes.{type-of}
 use Rattle.resolve_kids.specs.Params.{params-of}
-use Rattle.keep_laws.specs.Layouts.{newtype-told}
+use Rattle.keep_layouts.specs.Layouts.{newtype-told}
 use Rattle.collapse_candidates.specs.Payloads.{Payload}
 use Rattle.collapse_newtypes.specs.declared.Only.{Only}
 use Rattle.collapse_newtypes.specs.declared.Only.the-variants.{Field, Nothing}

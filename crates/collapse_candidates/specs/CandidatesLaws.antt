@@ -27,8 +27,8 @@ use Rattle.erasure_marks.specs.Marks.{marks-of}
 use Rattle.erasure_marks.specs.MarksLaws.{marks-at}
 use Rattle.resolve_kids.specs.Nodes.{type-of}
 use Rattle.resolve_kids.specs.Params.{params-of}
-use Rattle.keep_laws.specs.Kept.{ctors-of-decl, ctors-at, field-type}
-use Rattle.keep_laws.specs.Layouts.{newtype-told}
+use Rattle.keep_layouts.specs.Kept.{ctors-of-decl, ctors-at, field-type}
+use Rattle.keep_layouts.specs.Layouts.{newtype-told}
 use Rattle.collapse_candidates.specs.Payloads.{Payload}
 use Rattle.collapse_candidates.specs.PayloadsLaws.{close-uninline}
 use Rattle.collapse_newtypes.specs.declared.Only.{Only}

@@ -7,7 +7,7 @@ use Rattle.model.specs.Cty.{uninline}
 use Rattle.meaning.specs.Program.{type-line}
 use Rattle.meaning.specs.Rows.{count-of}
 use Rattle.resolve_kids.specs.Nodes.{type-of}
-use Rattle.keep_laws.specs.Kept.{field-type}
+use Rattle.keep_layouts.specs.Kept.{field-type}
 
 -- Y line y has the type of F line f, less one outer `TInline` (FORMAT, section 6.4).
 pub record Payload (ls : List Line) (f y : ℕ) : Type 0 where

@@ -16,7 +16,7 @@ use Rattle.row5_ranges.specs.TypeLists.{types-of}
 use Rattle.table_declared.specs.Passed.{Passed}
 use Rattle.table_declared.specs.TypeLaws.{good-inline, good-type-at, type-tree}
 use Rattle.resolve_kids.specs.Nodes.{type-of, kind-of, y-line}
-use Rattle.keep_laws.specs.Kept.{field-type}
+use Rattle.keep_layouts.specs.Kept.{field-type}
 use Rattle.collapse_candidates.specs.Payloads.{Payload}
 use Rattle.erasure_laws.specs.BodiesLaws as bodies
 

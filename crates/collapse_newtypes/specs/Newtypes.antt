@@ -11,8 +11,8 @@ use Rattle.sheet.specs.Line.{Line, number}
 use Rattle.model.specs.Decl.{NewtypeLayout}
 use Rattle.meaning.specs.Program.{ctor-line}
 use Rattle.table_access.specs.Tables.{head-line, first-of}
-use Rattle.keep_laws.specs.Kept.{body-kind, body-last, ctor-name}
-use Rattle.keep_laws.specs.Layouts.{newtype-told}
+use Rattle.keep_layouts.specs.Kept.{body-kind, body-last, ctor-name}
+use Rattle.keep_layouts.specs.Layouts.{newtype-told}
 use Rattle.collapse_newtypes.specs.declared.Only.{Only}
 use Rattle.collapse_newtypes.specs.declared.Only.the-variants.{Field, Nothing}
 

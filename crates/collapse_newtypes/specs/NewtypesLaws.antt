@@ -29,9 +29,9 @@ use Rattle.table_declared.specs.LineLaws.{stands, good-line}
 use Rattle.resolve_kids.specs.Params.{params-of}
 use Rattle.erasure_laws.specs.BodiesLaws.{first-le}
 use Rattle.keep_fields.specs.Keeps.{slots-at, Slotted}
-use Rattle.keep_laws.specs.Kept.{ctors-at, kept-ctor, body-kind, body-last, field-at, ctor-name, ctor-fields, fields-by, ctors-by, ctors-kept}
+use Rattle.keep_layouts.specs.Kept.{ctors-at, kept-ctor, body-kind, body-last, field-at, ctor-name, ctor-fields, fields-by, ctors-by, ctors-kept}
 use Rattle.keep_laws.specs.KeptLaws.{fields-in, slots-are, kept-record, kept-variant, ctors-are, count-bare, count-variant, total-record, total-variant}
-use Rattle.keep_laws.specs.Layouts.{newtype-told}
+use Rattle.keep_layouts.specs.Layouts.{newtype-told}
 use Rattle.collapse_newtypes.specs.declared.Only.{Only}
 use Rattle.collapse_newtypes.specs.declared.Only.the-variants.{Field, Nothing}
 use Rattle.collapse_newtypes.specs.Newtypes.{one-ctor, ctor-told, only-told, kept-places, only, Next}

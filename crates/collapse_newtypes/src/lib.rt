@@ -8,7 +8,7 @@ ghost use Rattle.meaning.specs.Program as program;
 ghost use Rattle.meaning.specs.Rows as rows;
 ghost use Rattle.table_access.specs.Tables as tables;
 ghost use Rattle.keep_fields.specs.Keeps as keeps;
-ghost use Rattle.keep_laws.specs.Kept as kept;
+ghost use Rattle.keep_layouts.specs.Kept as kept;
 ghost use Rattle.collapse_newtypes.specs.declared.Only.the-variants as only;
 ghost use Rattle.collapse_newtypes.specs.Newtypes as newtypes;
 

@@ -10,10 +10,10 @@ use Rattle.model.specs.Layout.{newtype-of, candidates-of, dropped, collapse}
 use Rattle.meaning.specs.Program.{field-line, program}
 use Rattle.meaning.specs.Rows.{count-of}
 use Rattle.table_access.specs.Tables.{decls-of}
-use Rattle.keep_laws.specs.Kept.{ctors-at}
-use Rattle.keep_laws.specs.declared.Layout.{Layout}
-use Rattle.keep_laws.specs.declared.Layout.the-variants.{Newtype}
-use Rattle.keep_laws.specs.Layouts.{layout-told}
+use Rattle.keep_layouts.specs.Kept.{ctors-at}
+use Rattle.keep_layouts.specs.declared.Layout.{Layout}
+use Rattle.keep_layouts.specs.declared.Layout.the-variants.{Newtype}
+use Rattle.keep_layouts.specs.Layouts.{layout-told}
 use Rattle.collapse_newtypes.specs.Newtypes.{ctor-told}
 use Rattle.collapse_candidates.specs.Candidates.{candidate-of, Fields}
 use Rattle.collapse_verdicts.specs.Guard.{Guarded}

@@ -14,9 +14,9 @@ use Rattle.meaning.specs.Rows.{count-of}
 use Rattle.table_access.specs.Tables.{decls-of}
 use Rattle.resolve_kids.specs.Nodes.{type-of}
 use Rattle.resolve_kids.specs.Params.{params-of}
-use Rattle.keep_laws.specs.Kept.{ctors-at, body-last}
-use Rattle.keep_laws.specs.declared.Layout.the-variants.{Erased, Newtype, Struct, Abbreviation, Opaque}
-use Rattle.keep_laws.specs.Layouts.{newtype-told, layout-told}
+use Rattle.keep_layouts.specs.Kept.{ctors-at, body-last}
+use Rattle.keep_layouts.specs.declared.Layout.the-variants.{Erased, Newtype, Struct, Abbreviation, Opaque}
+use Rattle.keep_layouts.specs.Layouts.{newtype-told, layout-told}
 use Rattle.collapse_newtypes.specs.declared.Only.{Only}
 use Rattle.collapse_newtypes.specs.declared.Only.the-variants.{Field, Nothing}
 use Rattle.collapse_newtypes.specs.Newtypes.{ctor-told, only-told}

@@ -10,9 +10,9 @@ use Rattle.model.specs.Layout.{layout-of-body}
 use Rattle.model.specs.Run.{layout-of-decl}
 use Rattle.meaning.specs.Program.{program}
 use Rattle.table_access.specs.Tables.{decls-of}
-use Rattle.keep_laws.specs.Kept.{ctors-at}
-use Rattle.keep_laws.specs.declared.Verdict.{Verdict}
-use Rattle.keep_laws.specs.Layouts.{no-verdict}
+use Rattle.keep_layouts.specs.Kept.{ctors-at}
+use Rattle.keep_layouts.specs.declared.Verdict.{Verdict}
+use Rattle.keep_layouts.specs.Layouts.{no-verdict}
 use Rattle.collapse_candidates.specs.Candidates.{candidate-of}
 use Rattle.collapse_verdicts.specs.Chosen.{dropped-of, Chosen}
 use Rattle.model.specs.Decl as decl

@@ -27,12 +27,12 @@ use Rattle.erasure_marks.specs.Marks.{marks-of}
 use Rattle.erasure_marks.specs.MarksLaws.{marks-at}
 use Rattle.resolve_kids.specs.Nodes.{type-of}
 use Rattle.resolve_kids.specs.Params.{params-of}
-use Rattle.keep_laws.specs.Kept.{ctors-of-decl, ctors-at, body-kind, body-last}
+use Rattle.keep_layouts.specs.Kept.{ctors-of-decl, ctors-at, body-kind, body-last}
 use Rattle.keep_laws.specs.KeptLaws.{params-lines}
-use Rattle.keep_laws.specs.declared.Layout.{Layout}
-use Rattle.keep_laws.specs.declared.Layout.the-variants.{Erased, Struct, Abbreviation, Opaque}
-use Rattle.keep_laws.specs.declared.Verdict.{Verdict}
-use Rattle.keep_laws.specs.Layouts.{no-verdict, Laid}
+use Rattle.keep_layouts.specs.declared.Layout.{Layout}
+use Rattle.keep_layouts.specs.declared.Layout.the-variants.{Erased, Struct, Abbreviation, Opaque}
+use Rattle.keep_layouts.specs.declared.Verdict.{Verdict}
+use Rattle.keep_layouts.specs.Layouts.{no-verdict, Laid}
 use Rattle.collapse_candidates.specs.Candidates.{candidate-of}
 use Rattle.collapse_verdicts.specs.Chosen.{dropped-of, collapsed, kept-one, Chosen}
 use Rattle.collapse_verdicts.specs.ChosenLaws.{erased-chosen, struct-chosen, abbrev-chosen, opaque-chosen}

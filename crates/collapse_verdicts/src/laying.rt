@@ -2,8 +2,8 @@
 // is chosen by its mark, its body, its candidate and the guard.
 mod collapses;
 
-use keep_laws::Layout;
-use keep_laws::Verdict;
+use keep_layouts::Layout;
+use keep_layouts::Verdict;
 ghost use mathlib.Core.Path.{_≡_};
 ghost use mathlib.Core.Bool.{true};
 ghost use Prim.Native.Nat.{_≤_, _<_};
@@ -14,7 +14,7 @@ ghost use Rattle.meaning.specs.Program as program;
 ghost use Rattle.meaning.specs.Rows as rows;
 ghost use Rattle.table_access.specs.Tables as tables;
 ghost use Rattle.keep_fields.specs.Keeps as keeps;
-ghost use Rattle.keep_laws.specs.Layouts as layouts;
+ghost use Rattle.keep_layouts.specs.Layouts as layouts;
 ghost use Rattle.collapse_candidates.specs.Candidates as candidates;
 ghost use Rattle.collapse_verdicts.specs.Chosen as chosen;
 ghost use Rattle.collapse_verdicts.specs.Laying as laying;

@@ -2,13 +2,13 @@
 mod guard;
 mod laying;
 
-use keep_laws::Verdict;
+use keep_layouts::Verdict;
 ghost use Rattle.sheet.specs.Format.{base};
 ghost use Rattle.meaning.specs.Program as program;
 ghost use Rattle.meaning.specs.Rows as rows;
 ghost use Rattle.table_access.specs.Tables as tables;
 ghost use Rattle.mention_types.specs.Mentions.{Mentioned};
-ghost use Rattle.keep_laws.specs.Layouts.{Laid};
+ghost use Rattle.keep_layouts.specs.Layouts.{Laid};
 ghost use Rattle.collapse_candidates.specs.Candidates.{Ruled};
 ghost use Rattle.collapse_verdicts.specs.Screening.{Room};
 

@@ -24,7 +24,7 @@ use Rattle.form_nodes.specs.Words.{word, node-of}
 use Rattle.form_node_words.specs.Own.{y-node}
 use Rattle.form_node_words.specs.Put.{Put, put-none, put-more, put-stop}
 use Rattle.form_node_words.specs.Stands.{stands-put}
-use Rattle.keep_laws.specs.States.{unfold-at, lay-of}
+use Rattle.keep_layouts.specs.States.{unfold-at, lay-of}
 use Rattle.form_emit.specs.Emit.{run, step, filled, grown, form-words, words, kid-words, Asked}
 use Rattle.form_emit.specs.Filling.{leaf, leaf-var, leaf-own}
 use Rattle.table_declared.specs.PassedLaws.{args-few}

@@ -17,7 +17,7 @@ use Rattle.form_laws.specs.Nodes.{Node, node}
 use Rattle.form_laws.specs.Forms.{nodes}
 use Rattle.form_node_words.specs.Own.{label}
 use Rattle.form_nodes.specs.Words.{word, node-of}
-use Rattle.keep_laws.specs.States.{lay-of}
+use Rattle.keep_layouts.specs.States.{lay-of}
 
 -- ---- words one after the other
 -- what g gives for n numbers from a on

@@ -29,7 +29,7 @@ use Rattle.form_laws.specs.Nodes.{Node, node, spread, attached}
 use Rattle.form_laws.specs.Forms.{joined, argument, placed, named, variable, nodes, nodes-each}
 use Rattle.form_nodes.specs.Words.{word, node-of}
 use Rattle.form_nodes.specs.WordsLaws.{node-cut, word-grown, node-small}
-use Rattle.keep_laws.specs.States.{lay-of}
+use Rattle.keep_layouts.specs.States.{lay-of}
 use Rattle.form_emit.specs.Emit.{run, step, filled, grown, form-words, form-of, words, kid-words}
 
 -- ---- lists of lists

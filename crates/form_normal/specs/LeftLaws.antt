@@ -27,7 +27,7 @@ use Rattle.form_laws.specs.TableLaws.{MadeOf, Made, forms-are, Alike, nodes-ali
 use Rattle.form_laws.specs.BoundLaws.{program-bound}
 use Rattle.form_nodes.specs.Words.{word, node-of}
 use Rattle.form_node_words.specs.Own.{label}
-use Rattle.keep_laws.specs.States.{body-of, unfold-at, lay-of, Open}
+use Rattle.keep_layouts.specs.States.{body-of, unfold-at, lay-of, Open}
 use Rattle.form_emit.specs.Emit.{form-words, form-of, words}
 use Rattle.form_emit.specs.CodeLaws.{state-below}
 use Rattle.form_normal.specs.Tables.{Table}

@@ -11,7 +11,7 @@ use Rattle.model_laws.specs.Cty.{All}
 use Rattle.model_laws.specs.Resolve.{Unfolds}
 use Rattle.table_access.specs.Tables.{decls-of, TableOf}
 use Rattle.resolve_kids.specs.Nodes.{type-of}
-use Rattle.keep_laws.specs.States.{body-of, lay-of, Open}
+use Rattle.keep_layouts.specs.States.{body-of, lay-of, Open}
 use Rattle.form_normal.specs.Tables.{own-words, Table}
 use Rattle.sheet.specs.Line.{Line}
 

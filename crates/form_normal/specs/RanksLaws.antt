@@ -19,7 +19,7 @@ use Rattle.model_laws.specs.Resolve.{Unfolds}
 use Rattle.table_access.specs.Tables.{decls-of}
 use Rattle.resolve_kids.specs.Nodes.{type-of}
 use Rattle.resolve_kids.specs.Params.{params-of}
-use Rattle.keep_laws.specs.States.{body-of, unfold-at, lay-of, Open}
+use Rattle.keep_layouts.specs.States.{body-of, unfold-at, lay-of, Open}
 use Rattle.form_emit.specs.Emit.{Asked}
 use Rattle.form_emit.specs.CodeLaws.{state-below}
 use Rattle.form_normal.specs.Tables.{own-words, with-form, Names, Table, Added}

@@ -12,7 +12,7 @@ use Rattle.table_access.specs.Tables.{decls-of}
 use Rattle.resolve_kids.specs.Nodes.{type-of}
 use Rattle.model_laws.specs.Cty.{All}
 use Rattle.model_laws.specs.Resolve.{Unfolds}
-use Rattle.keep_laws.specs.States.{body-of, lay-of}
+use Rattle.keep_layouts.specs.States.{body-of, lay-of}
 use Rattle.form_emit.specs.Emit.{form-words, words}
 
 -- the words of its normal form, from the forms that are there

@@ -22,7 +22,7 @@ use Rattle.form_laws.specs.Nodes.{Node}
 use Rattle.form_laws.specs.TableLaws.{Alike, nodes-alike}
 use Rattle.form_nodes.specs.Words.{word, node-of}
 use Rattle.form_node_words.specs.Own.{label}
-use Rattle.keep_laws.specs.States.{body-of, lay-of}
+use Rattle.keep_layouts.specs.States.{body-of, lay-of}
 use Rattle.form_emit.specs.Emit.{form-words, form-of, words}
 use Rattle.form_normal.specs.Tables.{own-words, with-form, Names, counts, Table, Added}
 use Rattle.form_node_words.specs.Put.{Put}

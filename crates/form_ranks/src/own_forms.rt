@@ -6,7 +6,7 @@ ghost use lib.ListN.{length, take, drop};
 ghost use Rattle.table_access.specs.Tables.{decls-of, lines-in};
 ghost use Rattle.form_emit.specs.Emit.{Asked};
 ghost use Rattle.form_normal.specs.Tables.{own-words, Added};
-ghost use Rattle.keep_laws.specs.States.{body-of};
+ghost use Rattle.keep_layouts.specs.States.{body-of};
 
 // Copies the first n words of ws to place `at`.
 fn copy_words(f: &mut [u64], at: usize, ws: &[u64], n: usize)

@@ -25,7 +25,7 @@ use Rattle.table_declared.specs.DeclLaws.{first-next, nth-in, dtype-is, origin-
 use Rattle.table_declared.specs.BodyLaws.{length-groups-of, fields-of}
 use Rattle.resolve_kids.specs.Params.{params-from, params-of}
 use Rattle.keep_fields.specs.Keeps.{slots-of, slots-at, Slotted}
-use Rattle.keep_laws.specs.Kept.{ctors-of-decl, ctors-at, kept-ctor, body-kind, body-last, field-at, ctor-fields, fields-by, ctors-by, ctors-kept}
+use Rattle.keep_layouts.specs.Kept.{ctors-of-decl, ctors-at, kept-ctor, body-kind, body-last, field-at, ctor-fields, fields-by, ctors-by, ctors-kept}
 use Rattle.table_declared.specs.BodyLaws as body
 
 -- ---- a list that stands in a sequence from place f on

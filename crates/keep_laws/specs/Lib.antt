@@ -1,5 +1,2 @@
-pub mod Kept
 pub mod KeptLaws
-pub mod Layouts
-pub mod States
 pub mod StatesLaws

@@ -24,9 +24,9 @@ use Rattle.resolve_kids.specs.Nodes.{type-of}
 use Rattle.resolve_kids.specs.Params.{params-of}
 use Rattle.erasure_laws.specs.BodiesLaws.{first-le, last-types}
 use Rattle.keep_fields.specs.Keeps.{Slotted}
-use Rattle.keep_laws.specs.Kept.{ctors-at, kept-ctor, body-kind, body-last, field-type, field-at, ctor-fields, fields-by, ctors-by, ctors-kept}
+use Rattle.keep_layouts.specs.Kept.{ctors-at, kept-ctor, body-kind, body-last, field-type, field-at, ctor-fields, fields-by, ctors-by, ctors-kept}
 use Rattle.keep_laws.specs.KeptLaws.{fields-in, kept-bare, kept-record, kept-variant, ctors-are, total-bare, total-record, total-variant}
-use Rattle.keep_laws.specs.States.{state, body-of, Shape, kept-types, resolves-of, Settled}
+use Rattle.keep_layouts.specs.States.{state, body-of, Shape, kept-types, resolves-of, Settled}
 use Rattle.erasure_laws.specs.BodiesLaws as bodies
 
 -- ---- the types of kept fields

@@ -9,7 +9,7 @@ use Rattle.number_columns.specs.Column.{pick}
 use Rattle.sheet.specs.Line.{Line}
 use Rattle.left_laws.specs.declared.Count.{Count}
 use Rattle.resolve_kids.specs.Params.{params-of}
-use Rattle.keep_laws.specs.States.{resolves-of}
+use Rattle.keep_layouts.specs.States.{resolves-of}
 use Rattle.left_laws.specs.BodyLaws.{left-body, body-lines}
 
 -- the Y lines that are resolved

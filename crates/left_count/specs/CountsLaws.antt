@@ -28,9 +28,9 @@ use Rattle.table_declared.specs.DeclLaws.{whole-at, first-next}
 use Rattle.erasure_laws.specs.BodiesLaws.{first-le}
 use Rattle.resolve_kids.specs.Params.{params-from, params-of}
 use Rattle.resolve_kids.specs.ParamsLaws.{count-before-le}
-use Rattle.keep_laws.specs.Kept.{body-kind, body-last}
+use Rattle.keep_layouts.specs.Kept.{body-kind, body-last}
 use Rattle.keep_laws.specs.KeptLaws.{params-are}
-use Rattle.keep_laws.specs.States.{state, body-of, Shape, kept-types, resolves-of}
+use Rattle.keep_layouts.specs.States.{state, body-of, Shape, kept-types, resolves-of}
 use Rattle.form_laws.specs.NodesLaws.{length-post, emit-args, emit-types}
 use Rattle.left_laws.specs.Lefts.{Ready, is-left, Flagged, left-written, Counted}
 use Rattle.form_emit.specs.Left.{left-type}

@@ -9,7 +9,7 @@ use Rattle.sheet.specs.ListLaws.{Every}
 use Rattle.model.specs.Cty.{size}
 use Rattle.meaning.specs.Program.{field-line}
 use Rattle.meaning.specs.Rows.{count-of}
-use Rattle.keep_laws.specs.Kept.{field-type}
+use Rattle.keep_layouts.specs.Kept.{field-type}
 use Rattle.form_laws.specs.Nodes.{post, count-args}
 use Rattle.form_nodes.specs.Words.{node-of}
 use Rattle.form_emit.specs.Emit.{words, Asked}

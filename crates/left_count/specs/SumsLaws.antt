@@ -18,13 +18,13 @@ use Rattle.meaning_laws.specs.Output.{emit-adds, nothing}
 use Rattle.row4_limits.specs.Limits.{start}
 use Rattle.table_access.specs.Tables.{decls-of, first-of}
 use Rattle.resolve_kids.specs.ParamsLaws.{count-before-le}
-use Rattle.keep_laws.specs.Kept.{body-kind, field-type}
+use Rattle.keep_layouts.specs.Kept.{body-kind, field-type}
 use Rattle.form_laws.specs.Nodes.{post, count-args}
 use Rattle.form_laws.specs.NodesLaws.{emit-args}
 use Rattle.form_nodes.specs.Words.{node-of}
 use Rattle.form_node_words.specs.Put.{Put}
 use Rattle.form_emit.specs.Emit.{words}
-use Rattle.keep_laws.specs.States.{state, kept-types, resolves-of}
+use Rattle.keep_layouts.specs.States.{state, kept-types, resolves-of}
 use Rattle.left_laws.specs.Lefts.{Ready}
 use Rattle.form_emit.specs.Left.{left-type}
 use Rattle.left_laws.specs.ReadyLaws.{ready-asked, ready-nodes, ready-length, ready-size}

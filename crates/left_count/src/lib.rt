@@ -10,7 +10,7 @@ ghost use Rattle.sheet.specs.Sheet.{lines};
 ghost use Rattle.meaning.specs.Program.{field-line};
 ghost use Rattle.meaning.specs.Rows.{count-of};
 ghost use Rattle.table_access.specs.Tables.{decls-of, lines-in};
-ghost use Rattle.keep_laws.specs.States.{state, resolves-of};
+ghost use Rattle.keep_layouts.specs.States.{state, resolves-of};
 ghost use Rattle.left_laws.specs.Lefts.{Ready, Flagged, Counted};
 ghost use Rattle.left_laws.specs.BodyLaws.{left-body, body-lines};
 ghost use Rattle.left_count.specs.Sums.{Added};

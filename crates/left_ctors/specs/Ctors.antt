@@ -6,7 +6,7 @@ use Rattle.model.specs.Decl.{Ctor}
 use Rattle.meaning.specs.Program.{ctor-line}
 use Rattle.meaning.specs.Rows.{count-of}
 use Rattle.resolve_kids.specs.Params.{params-of}
-use Rattle.keep_laws.specs.Kept.{ctor-name, ctor-fields, ctors-by}
+use Rattle.keep_layouts.specs.Kept.{ctor-name, ctor-fields, ctors-by}
 use Rattle.keep_laws.specs.KeptLaws.{fields-in}
 use Rattle.left_fields.specs.Fields.{left-of, left-fields, Fields}
 

@@ -12,7 +12,7 @@ use Rattle.meaning.specs.Program.{ctor-line}
 use Rattle.meaning.specs.Output.{Written, Lines, field-lines, ctor-lines}
 use Rattle.meaning_laws.specs.Output.{grows-args, grows-types, ctor-adds}
 use Rattle.resolve_kids.specs.Params.{params-of}
-use Rattle.keep_laws.specs.Kept.{ctor-name, ctor-fields, fields-by, ctors-by}
+use Rattle.keep_layouts.specs.Kept.{ctor-name, ctor-fields, fields-by, ctors-by}
 use Rattle.keep_laws.specs.KeptLaws.{fields-in}
 use Rattle.left_places.specs.declared.Place.{Place}
 use Rattle.left_places.specs.Places.{Writing, one, seq, Growing, Room, Writes}

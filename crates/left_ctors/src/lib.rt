@@ -7,7 +7,7 @@ ghost use Rattle.sheet.specs.Sheet.{lines};
 ghost use Rattle.meaning.specs.Program.{ctor-line};
 ghost use Rattle.meaning.specs.Rows.{count-of};
 ghost use Rattle.meaning.specs.Output.{ctor-lines};
-ghost use Rattle.keep_laws.specs.Kept.{ctor-fields};
+ghost use Rattle.keep_layouts.specs.Kept.{ctor-fields};
 ghost use Rattle.left_places.specs.Places.{Room, Writes};
 ghost use Rattle.left_fields.specs.Fields.{Fields};
 ghost use Rattle.table_access.specs.Tables.{lines-in};

@@ -10,7 +10,7 @@ use Rattle.meaning.specs.Program.{field-line}
 use Rattle.meaning.specs.Rows.{count-of}
 use Rattle.meaning.specs.Output.{field-lines, ctor-lines, decl-lines}
 use Rattle.table_access.specs.Tables.{decls-of, TableOf}
-use Rattle.keep_laws.specs.States.{state, resolves-of}
+use Rattle.keep_layouts.specs.States.{state, resolves-of}
 use Rattle.left_laws.specs.BodyLaws.{left-body}
 use Rattle.left_places.specs.Places.{Writing, typed, seq, Typed}
 use Rattle.left_decls.specs.Heads.{by-last, decl-with, framed, bare}

@@ -20,9 +20,9 @@ use Rattle.table_access.specs.Tables.{first-of}
 use Rattle.table_declared.specs.DeclLaws.{first-next, whole-at}
 use Rattle.resolve_kids.specs.Params.{params-of}
 use Rattle.resolve_kids.specs.ParamsLaws.{count-before-le}
-use Rattle.keep_laws.specs.Kept.{body-kind, body-last, field-type, fields-by, ctors-by}
+use Rattle.keep_layouts.specs.Kept.{body-kind, body-last, field-type, fields-by, ctors-by}
 use Rattle.keep_laws.specs.KeptLaws.{fields-in, length-ctors-by, total-record, total-variant}
-use Rattle.keep_laws.specs.States.{state, body-of, kept-types, resolves-of}
+use Rattle.keep_layouts.specs.States.{state, body-of, kept-types, resolves-of}
 use Rattle.form_emit.specs.Left.{left-type}
 use Rattle.left_laws.specs.BodyLaws.{left-body}
 use Rattle.left_places.specs.declared.Place.{Place}

@@ -7,7 +7,7 @@ ghost use lib.ListN.{length};
 ghost use Rattle.sheet.specs.Sheet.{lines};
 ghost use Rattle.meaning.specs.Program.{ctor-line, field-line};
 ghost use Rattle.table_access.specs.Tables.{first-of, decls-of, lines-in};
-ghost use Rattle.keep_laws.specs.Kept.{body-last};
+ghost use Rattle.keep_layouts.specs.Kept.{body-last};
 ghost use Rattle.form_emit.specs.Left.{left-type};
 ghost use Rattle.left_places.specs.Places.{Room, Writes, Typed};
 ghost use Rattle.left_fields.specs.Fields.{left-fields, Fields};

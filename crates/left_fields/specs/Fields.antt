@@ -13,7 +13,7 @@ use Rattle.meaning.specs.Program.{field-line, program}
 use Rattle.meaning.specs.Rows.{count-of}
 use Rattle.table_access.specs.Tables.{TableOf}
 use Rattle.resolve_kids.specs.Params.{params-of}
-use Rattle.keep_laws.specs.Kept.{field-type, field-at, fields-by}
+use Rattle.keep_layouts.specs.Kept.{field-type, field-at, fields-by}
 use Rattle.left_places.specs.Places.{Typed}
 
 -- a field of declaration d, resolved

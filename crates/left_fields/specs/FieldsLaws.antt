@@ -19,7 +19,7 @@ use Rattle.meaning.specs.Output.{Written, last, emit, Lines, field-lines}
 use Rattle.meaning_laws.specs.Output.{grows-args, grows-types, field-adds, emit-adds}
 use Rattle.table_access.specs.Tables.{nth}
 use Rattle.resolve_kids.specs.Params.{params-of}
-use Rattle.keep_laws.specs.Kept.{field-type, field-at, fields-by}
+use Rattle.keep_layouts.specs.Kept.{field-type, field-at, fields-by}
 use Rattle.form_emit.specs.Left.{left-type}
 use Rattle.left_places.specs.declared.Place.{Place}
 use Rattle.left_places.specs.Places.{Writing, one, numbered, typed, seq, Growing, Room, Writes}

@@ -7,7 +7,7 @@ ghost use Rattle.sheet.specs.Sheet.{lines};
 ghost use Rattle.meaning.specs.Program.{field-line};
 ghost use Rattle.meaning.specs.Rows.{count-of};
 ghost use Rattle.meaning.specs.Output.{field-lines};
-ghost use Rattle.keep_laws.specs.Kept.{field-type};
+ghost use Rattle.keep_layouts.specs.Kept.{field-type};
 ghost use Rattle.left_places.specs.Places.{Room, Writes, Typed};
 ghost use Rattle.table_access.specs.Tables.{lines-in};
 ghost use Rattle.left_fields.specs.Fields.{left-field, left-fields, kept-count, Fields};

@@ -10,7 +10,7 @@ use Rattle.form_laws.specs.Nodes.{Node}
 use Rattle.form_laws.specs.Forms.{place}
 use Rattle.form_nodes.specs.Words.{node-of}
 use Rattle.form_emit.specs.Emit.{form-words}
-use Rattle.keep_laws.specs.States.{state}
+use Rattle.keep_layouts.specs.States.{state}
 
 -- a node is the variable of place i
 unfoldable pub is-var : ℕ → Node → Bool

@@ -28,7 +28,7 @@ use Rattle.table_access.specs.Tables.{nth, decls-of}
 use Rattle.resolve_kids.specs.Params.{params-from, params-of}
 use Rattle.resolve_kids.specs.Nodes.{type-of}
 use Rattle.keep_laws.specs.KeptLaws.{params-are}
-use Rattle.keep_laws.specs.States.{state, body-of, unfold-at, closed, Shape}
+use Rattle.keep_layouts.specs.States.{state, body-of, unfold-at, closed, Shape}
 use Rattle.form_laws.specs.Nodes.{Node, node, post, posts}
 use Rattle.form_laws.specs.Forms.{place, renamed}
 use Rattle.form_nodes.specs.Words.{node-of}

@@ -24,9 +24,9 @@ use Rattle.table_declared.specs.DeclLaws.{dtype-is, whole-at}
 use Rattle.resolve_kids.specs.Nodes.{type-of}
 use Rattle.resolve_kids.specs.Params.{params-of}
 use Rattle.keep_fields.specs.Keeps.{Slotted}
-use Rattle.keep_laws.specs.Kept.{ctors-at, kept-ctor, body-kind, body-last, fields-by, ctors-by}
+use Rattle.keep_layouts.specs.Kept.{ctors-at, kept-ctor, body-kind, body-last, fields-by, ctors-by}
 use Rattle.keep_laws.specs.KeptLaws.{kept-record, kept-variant, ctors-are, length-ctors-by}
-use Rattle.keep_laws.specs.States.{state, body-of, Shape, kept-types, resolves-of, Settled}
+use Rattle.keep_layouts.specs.States.{state, body-of, Shape, kept-types, resolves-of, Settled}
 use Rattle.keep_laws.specs.StatesLaws.{types-of-kept}
 use Rattle.left_laws.specs.Lefts.{is-left}
 use Rattle.form_emit.specs.Left.{left-type}

@@ -15,7 +15,7 @@ use Rattle.meaning.specs.Output.{Lines, program-lines}
 use Rattle.rows_heads.specs.HeadRows.{Resolvable}
 use Rattle.table_access.specs.Tables.{decls-of, TableOf}
 use Rattle.keep_fields.specs.Keeps.{Slotted}
-use Rattle.keep_laws.specs.States.{Open, resolves-of, Settled}
+use Rattle.keep_layouts.specs.States.{Open, resolves-of, Settled}
 use Rattle.form_emit.specs.Left.{left-type}
 use Rattle.form_normal.specs.Tables.{Table}
 use Rattle.left_laws.specs.declared.Count.{Count}

@@ -28,8 +28,8 @@ use Rattle.resolve_kids.specs.Nodes.{type-of}
 use Rattle.resolve_kids.specs.Params.{params-of, params-from}
 use Rattle.resolve_kids.specs.ParamsLaws.{count-before-le}
 use Rattle.keep_fields.specs.Keeps.{Slotted}
-use Rattle.keep_laws.specs.Kept.{body-kind}
-use Rattle.keep_laws.specs.States.{state, body-of, unfold-at, lay-of, Open, closed, Shape, resolves-of, Settled}
+use Rattle.keep_layouts.specs.Kept.{body-kind}
+use Rattle.keep_layouts.specs.States.{state, body-of, unfold-at, lay-of, Open, closed, Shape, resolves-of, Settled}
 use Rattle.keep_laws.specs.StatesLaws.{resolves-are, resolves-below}
 use Rattle.form_laws.specs.Nodes.{post}
 use Rattle.form_laws.specs.NodesLaws.{length-post}

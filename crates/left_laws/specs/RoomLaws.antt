@@ -23,7 +23,7 @@ use Rattle.table_access.specs.Tables.{decls-of}
 use Rattle.resolve_kids.specs.Nodes.{type-of}
 use Rattle.resolve_kids.specs.Params.{params-of}
 use Rattle.keep_fields.specs.Keeps.{Slotted}
-use Rattle.keep_laws.specs.States.{body-of, lay-of, Open, closed, Settled}
+use Rattle.keep_layouts.specs.States.{body-of, lay-of, Open, closed, Settled}
 use Rattle.form_laws.specs.Nodes.{Node, post}
 use Rattle.form_laws.specs.NodesLaws.{length-post}
 use Rattle.form_laws.specs.Forms.{place, renamed, nodes}

@@ -8,8 +8,8 @@ use Rattle.number_columns.specs.Column.{pick, _⇒_∥_}
 use Rattle.sheet.specs.Line.{Line, number}
 use Rattle.meaning.specs.Program.{field-line}
 use Rattle.table_access.specs.Tables.{head-line, first-of}
-use Rattle.keep_laws.specs.Kept.{body-kind, body-last}
-use Rattle.keep_laws.specs.States.{state}
+use Rattle.keep_layouts.specs.Kept.{body-kind, body-last}
+use Rattle.keep_layouts.specs.States.{state}
 
 -- one of the n F lines from line f on is kept
 unfoldable pub some-kept : List ℕ → ℕ → ℕ → Bool

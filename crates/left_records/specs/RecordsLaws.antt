@@ -19,9 +19,9 @@ use Rattle.meaning.specs.Program.{ctor-line, field-line, dtype-of, program}
 use Rattle.table_access.specs.Tables.{head-line, decls-of, first-of}
 use Rattle.table_declared.specs.DeclLaws.{dtype-is}
 use Rattle.resolve_kids.specs.Params.{params-of}
-use Rattle.keep_laws.specs.Kept.{body-kind, body-last, ctor-name, ctor-fields, field-at, fields-by, ctors-by}
+use Rattle.keep_layouts.specs.Kept.{body-kind, body-last, ctor-name, ctor-fields, field-at, fields-by, ctors-by}
 use Rattle.keep_laws.specs.KeptLaws.{fields-in, total-variant}
-use Rattle.keep_laws.specs.States.{state, body-of}
+use Rattle.keep_layouts.specs.States.{state, body-of}
 use Rattle.left_laws.specs.Lefts.{Ready, is-left, Flagged}
 use Rattle.form_emit.specs.Left.{left-type}
 use Rattle.left_laws.specs.BodyLaws.{left-ctor, resolve-in, left-body, left-is}

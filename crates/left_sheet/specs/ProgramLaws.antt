@@ -22,7 +22,7 @@ use Rattle.meaning_laws.specs.Program.{length-program}
 use Rattle.table_access.specs.Tables.{decls-of}
 use Rattle.table_declared.specs.DeclLaws.{dtype-is}
 use Rattle.keep_laws.specs.KeptLaws.{params-lines}
-use Rattle.keep_laws.specs.States.{state, Shape}
+use Rattle.keep_layouts.specs.States.{state, Shape}
 use Rattle.left_laws.specs.Lefts.{is-left}
 use Rattle.left_laws.specs.BodyLaws.{left-body, left-is}
 use Rattle.left_laws.specs.ReadyLaws.{ready-nodes, ready-asked}

@@ -13,7 +13,7 @@ use Rattle.model_patterns.specs.Pat.{Owner}
 use Rattle.meaning.specs.Program.{program}
 use Rattle.meaning_patterns.specs.Patterns.{declared-fields}
 use Rattle.resolve_kids.specs.Params.{params-of}
-use Rattle.keep_laws.specs.Kept.{fields-by}
+use Rattle.keep_layouts.specs.Kept.{fields-by}
 use Rattle.pattern_counts.specs.Counts.{field-mark}
 use Rattle.pattern_ctors.specs.Sites.{Site}
 

@@ -31,7 +31,7 @@ use Rattle.table_declared.specs.BodyLaws.{length-groups-of}
 use Rattle.table_access.specs.Tables.{nth, group, head-line, decls-of, first-of}
 use Rattle.resolve_kids.specs.Params.{params-of}
 use Rattle.keep_fields.specs.Keeps.{slots-at, Slotted}
-use Rattle.keep_laws.specs.Kept.{ctors-of-decl, ctors-at, kept-ctor, body-kind, body-last, ctor-name, ctor-fields, fields-by, ctors-by}
+use Rattle.keep_layouts.specs.Kept.{ctors-of-decl, ctors-at, kept-ctor, body-kind, body-last, ctor-name, ctor-fields, fields-by, ctors-by}
 use Rattle.keep_laws.specs.KeptLaws.{slots-are, kept-record, kept-variant, ctors-are}
 use Rattle.pattern_ctors.specs.Sites.{Site, site-at, site-among, site-in, site-after, site-of, Sited}
 use Rattle.pattern_counts.specs.Counts.{field-mark}

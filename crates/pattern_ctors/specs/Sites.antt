@@ -10,7 +10,7 @@ use Rattle.sheet.specs.Line.{Line, number}
 use Rattle.meaning.specs.Program.{name-line, ctor-line, field-line}
 use Rattle.meaning.specs.Rows.{count-of}
 use Rattle.table_access.specs.Tables.{head-line, decls-of, first-of}
-use Rattle.keep_laws.specs.Kept.{body-kind, body-last, ctor-name, ctor-fields}
+use Rattle.keep_layouts.specs.Kept.{body-kind, body-last, ctor-name, ctor-fields}
 
 -- its declaration's number plus one, 0 where no constructor has the name; its first F line; how many it has
 pub record Site : Type 0 where

@@ -23,7 +23,7 @@ use Rattle.table_declared.specs.LineLaws.{stands, good-line}
 use Rattle.table_declared.specs.DeclLaws.{first-next, group-is, line-inside, line-of-head, whole-at}
 use Rattle.table_access.specs.Tables.{head-line, decls-of, first-of}
 use Rattle.erasure_laws.specs.BodiesLaws.{first-le}
-use Rattle.keep_laws.specs.Kept.{body-kind, body-last, ctor-name, ctor-fields}
+use Rattle.keep_layouts.specs.Kept.{body-kind, body-last, ctor-name, ctor-fields}
 use Rattle.keep_laws.specs.KeptLaws.{fields-in, total-record, total-variant}
 use Rattle.pattern_ctors.specs.Sites.{Site, no-site, site-at, site-among, site-in, site-after, site-from, site-of, put-site, Holds, Cells, SitedFrom, Sited, Cleared}
 

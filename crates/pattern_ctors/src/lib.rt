@@ -6,7 +6,7 @@ ghost use Prim.Native.Nat.{suc, _+_, _*_, _≤_, _<_};
 ghost use lib.ListN.{length, getD};
 ghost use Rattle.meaning.specs.Program.{name-line};
 ghost use Rattle.meaning.specs.Rows.{count-of};
-ghost use Rattle.keep_laws.specs.Kept.{body-kind};
+ghost use Rattle.keep_layouts.specs.Kept.{body-kind};
 ghost use Rattle.table_access.specs.Tables as tables;
 ghost use Rattle.pattern_ctors.specs.Sites as sites;
 ghost use Rattle.pattern_ctors.specs.Owners as owners;

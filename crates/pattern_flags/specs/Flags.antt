@@ -12,7 +12,7 @@ use Rattle.model.specs.Decl.{position}
 use Rattle.meaning.specs.Program.{program}
 use Rattle.meaning.specs.Rows.{line-at}
 use Rattle.meaning_patterns.specs.Patterns.{kind-of, name-of, previous-of, field-of}
-use Rattle.keep_laws.specs.States.{state}
+use Rattle.keep_layouts.specs.States.{state}
 use Rattle.pattern_laws.specs.Marks.{kept-if}
 use Rattle.pattern_records.specs.Records.{record-flag}
 

@@ -27,7 +27,7 @@ use Rattle.table_declared.specs.DeclLaws.{origin-local, origin-import, whole-at
 use Rattle.table_access.specs.Tables.{group, head-line, decls-of, first-of}
 use Rattle.resolve_kids.specs.Params.{params-of}
 use Rattle.keep_fields.specs.Keeps.{Slotted}
-use Rattle.keep_laws.specs.Kept.{ctors-of-decl, ctors-at, kept-ctor, body-kind, body-last, field-at, ctor-fields, fields-by, ctors-by}
+use Rattle.keep_layouts.specs.Kept.{ctors-of-decl, ctors-at, kept-ctor, body-kind, body-last, field-at, ctor-fields, fields-by, ctors-by}
 use Rattle.keep_laws.specs.KeptLaws.{fields-in, kept-record, kept-variant, ctors-are, count-bare, count-variant, total-record, total-variant}
 use Rattle.collapse_newtypes.specs.Newtypes.{one-ctor}
 use Rattle.pattern_ctors.specs.Owners.{slots-by}

@@ -26,8 +26,8 @@ use Rattle.table_declared.specs.Passed.{Passed}
 use Rattle.table_access.specs.Tables.{decls-of, first-of}
 use Rattle.resolve_kids.specs.Params.{params-of}
 use Rattle.keep_fields.specs.Keeps.{Slotted}
-use Rattle.keep_laws.specs.Kept.{ctors-at, body-kind, fields-by}
-use Rattle.keep_laws.specs.States.{state, Shape, Settled}
+use Rattle.keep_layouts.specs.Kept.{ctors-at, body-kind, fields-by}
+use Rattle.keep_layouts.specs.States.{state, Shape, Settled}
 use Rattle.collapse_newtypes.specs.Newtypes.{one-ctor}
 use Rattle.pattern_laws.specs.Linked.{AllGood, linked-is, unshared-is, good-is, leaf-is, name-is}
 use Rattle.pattern_laws.specs.Marks.{layout-mark, kept-if, has-field, layout-flag, mark-of, flag-of, flag-by, owners-of, fields-to}

@@ -12,7 +12,7 @@ use Rattle.meaning.specs.Program.{name-line, program}
 use Rattle.meaning.specs.Rows.{line-at, count-of}
 use Rattle.meaning_patterns.specs.Patterns.{kind-of, name-of}
 use Rattle.table_access.specs.Tables.{lines-in, Tabled}
-use Rattle.keep_laws.specs.States.{state}
+use Rattle.keep_layouts.specs.States.{state}
 use Rattle.pattern_laws.specs.Linked.{AllGood}
 use Rattle.pattern_ctors.specs.Sites.{Sited}
 

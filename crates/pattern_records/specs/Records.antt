@@ -10,7 +10,7 @@ use Rattle.sheet.specs.Line.{Line, number}
 use Rattle.meaning.specs.Program.{field-line}
 use Rattle.meaning.specs.Rows.{count-of}
 use Rattle.table_access.specs.Tables.{nth, decls-of, first-of, lines-in, Tabled}
-use Rattle.keep_laws.specs.States.{state}
+use Rattle.keep_layouts.specs.States.{state}
 use Rattle.collapse_newtypes.specs.Newtypes.{one-ctor}
 use Rattle.pattern_laws.specs.Marks.{kept-if, has-field, fields-to}
 

@@ -12,7 +12,7 @@ use Rattle.table_access.specs.Tables.{decls-of}
 use Rattle.resolve_outcomes.specs.Answer.{Told}
 use Rattle.resolve_outcomes.specs.Laws.Fuel.{Leads}
 use Rattle.resolve_memory.specs.Slots.{Slots}
-use Rattle.keep_laws.specs.States.{resolves-of}
+use Rattle.keep_layouts.specs.States.{resolves-of}
 use Rattle.resolve_laws.specs.Resolver.{Setup, fuel-of, call-of, type-of-decl}
 use Rattle.resolve_faults.specs.declared.First.{First}
 use mathlib.Core.Path.{_≡_}

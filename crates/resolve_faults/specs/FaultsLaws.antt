@@ -16,12 +16,12 @@ use Rattle.model.specs.Resolve.{Result}
 use Rattle.meaning.specs.Program.{field-line}
 use Rattle.meaning.specs.Rows.{count-of}
 use Rattle.table_access.specs.Tables.{decls-of, first-of}
-use Rattle.keep_laws.specs.Kept.{body-kind, body-last, field-type}
+use Rattle.keep_layouts.specs.Kept.{body-kind, body-last, field-type}
 use Rattle.erasure_laws.specs.BodiesLaws.{field-types, last-types, first-le}
 use Rattle.resolve_outcomes.specs.Laws.Fuel.{Leads}
 use Rattle.resolve_outcomes.specs.Laws.Answer.{answer-value}
 use Rattle.resolve_memory.specs.Slots.{Slots}
-use Rattle.keep_laws.specs.States.{state, body-of, kept-types, resolves-of}
+use Rattle.keep_layouts.specs.States.{state, body-of, kept-types, resolves-of}
 use Rattle.resolve_laws.specs.Resolver.{Place, fuel-of, call-of, type-of-decl, Found}
 use Rattle.resolve_faults.specs.Faults.{Kept, Fine, Answers, clear, stops, goes, Went, AllFine, Firstly}
 

@@ -5,7 +5,7 @@ ghost use lib.ListN.{length};
 ghost use Rattle.meaning.specs.Program as program;
 ghost use Rattle.meaning.specs.Rows as rows;
 ghost use Rattle.table_access.specs.Tables as tables;
-ghost use Rattle.keep_laws.specs.States as states;
+ghost use Rattle.keep_layouts.specs.States as states;
 ghost use Rattle.resolve_laws.specs.Resolver as resolver;
 ghost use Rattle.resolve_memory.specs.Slots.{Slots};
 ghost use Rattle.resolve_faults.specs.Faults as faults;

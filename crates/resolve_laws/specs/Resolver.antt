@@ -17,7 +17,7 @@ use Rattle.resolve_outcomes.specs.Laws.Fuel.{Leads}
 use Rattle.resolve_outcomes.specs.Scratch.{part, Same, Nodes}
 use Rattle.resolve_kids.specs.Nodes.{kind-of, type-of}
 use Rattle.resolve_kids.specs.Params.{params-of}
-use Rattle.keep_laws.specs.States.{unfold-at, lay-of}
+use Rattle.keep_layouts.specs.States.{unfold-at, lay-of}
 use Rattle.resolve_weights.specs.Weigh.{kid-types}
 use Rattle.resolve_memory.specs.Slots.{Slots}
 

@@ -33,7 +33,7 @@ use Rattle.resolve_kids.specs.Params.{params-of}
 use Rattle.resolve_weights.specs.Weigh.{kid-types, weight-of}
 use Rattle.resolve_calls.specs.CallsLaws.{Copied}
 use Rattle.resolve_memory.specs.Slots.{Slots, Written, Recalled, slots-written}
-use Rattle.keep_laws.specs.States.{unfold-at, lay-of}
+use Rattle.keep_layouts.specs.States.{unfold-at, lay-of}
 use Rattle.resolve_laws.specs.Resolver.{Setup, call-of, enter-of, eval-of, evals-of, type-of-decl, last-of, Args, Place, Again, Short, Found, FoundAll, Done, Answered, Entered}
 
 -- a cell past the end

@@ -7,7 +7,7 @@ ghost use Rattle.resolve_outcomes.specs.Laws.Call as call;
 ghost use Rattle.resolve_kids.specs.Params as params;
 ghost use Rattle.resolve_kids.specs.Nodes as nodes;
 ghost use Rattle.resolve_laws.specs.Resolver as resolver;
-ghost use Rattle.keep_laws.specs.States as states;
+ghost use Rattle.keep_layouts.specs.States as states;
 ghost use Rattle.table_access.specs.Tables.{lines-in};
 
 // The body has the answer. No test answers that there is no room.

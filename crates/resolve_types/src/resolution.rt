@@ -15,7 +15,7 @@ ghost use Rattle.resolve_kids.specs.Nodes as nodes;
 ghost use Rattle.resolve_weights.specs.Weigh as weigh;
 ghost use Rattle.resolve_memory.specs.Slots.{Slots};
 ghost use Rattle.resolve_laws.specs.Resolver as resolver;
-ghost use Rattle.keep_laws.specs.States as states;
+ghost use Rattle.keep_layouts.specs.States as states;
 
 // The outcome of Y line y's type in declaration d, whose arguments have the `count` outcomes from
 // place `at` on, the last `over` of them for the type itself. Places from `top` on are free.

@@ -8,7 +8,7 @@ use Rattle.number_columns.specs.Column.{_⇒_∥_}
 use Rattle.sheet.specs.Line.{Line}
 use Rattle.meaning.specs.Program.{type-line}
 use Rattle.meaning.specs.Rows.{count-of}
-use Rattle.keep_laws.specs.States.{state, body-of}
+use Rattle.keep_layouts.specs.States.{state, body-of}
 
 -- the body of an unfolded declaration d, else the number of types
 abbrev pub through : ℕ → List ℕ → ℕ → ℕ

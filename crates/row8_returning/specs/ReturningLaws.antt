@@ -39,7 +39,7 @@ use Rattle.mention_edges.specs.EdgesLaws.{Bodies, edges-hold}
 use Rattle.set_search.specs.Loops.{First}
 use Rattle.set_search.specs.LoopsLaws.{first-as, ranks-fall, ranks-below}
 use Rattle.resolve_laws.specs.ResolverLaws.{getD-any}
-use Rattle.keep_laws.specs.States.{state, body-of, unfold-at, lay-of, Open, closed, Settled}
+use Rattle.keep_layouts.specs.States.{state, body-of, unfold-at, lay-of, Open, closed, Settled}
 use Rattle.form_normal.specs.Ranks.{Ranked}
 use Rattle.row8_returning.specs.Returning.{through, Through}
 use Rattle.model_laws.specs.Resolve as resolve

@@ -11,7 +11,7 @@ ghost use Rattle.meaning.specs.Rows as rows;
 ghost use Rattle.table_access.specs.Tables as tables;
 ghost use Rattle.mention_types.specs.Mentions.{Mentioned};
 ghost use Rattle.set_search.specs.Loops.{First};
-ghost use Rattle.keep_laws.specs.States.{Settled};
+ghost use Rattle.keep_layouts.specs.States.{Settled};
 ghost use Rattle.row8_returning.specs.Returning.{through, Through, Room};
 
 // The body of an unfolded declaration d, else the number of types.

@@ -14,7 +14,7 @@ use Rattle.table_declared.specs.Passed.{Bounded}
 use Rattle.table_access.specs.Tables.{decls-of, TableOf}
 use Rattle.resolve_laws.specs.Resolver.{fuel-of}
 use Rattle.keep_fields.specs.Keeps.{Slotted}
-use Rattle.keep_laws.specs.States.{Settled}
+use Rattle.keep_layouts.specs.States.{Settled}
 use Rattle.row9_faults.specs.declared.attempts.Outcome.{Outcome}
 use Rattle.row9_faults.specs.declared.attempts.Outcome.the-variants.{Clear, Fault, NoRoom}
 use Rattle.sheet.specs.Line.{Line}

@@ -29,7 +29,7 @@ use Rattle.resolve_outcomes.specs.Answer.{nine, answer, Told}
 use Rattle.resolve_outcomes.specs.Laws.Fuel.{Leads}
 use Rattle.resolve_outcomes.specs.Laws.Answer.{answer-value, told-known}
 use Rattle.resolve_memory.specs.Slots.{Slots, slots-none}
-use Rattle.keep_laws.specs.States.{lay-of, resolves-of}
+use Rattle.keep_layouts.specs.States.{lay-of, resolves-of}
 use Rattle.keep_laws.specs.StatesLaws.{resolves-are}
 use Rattle.resolve_laws.specs.Resolver.{type-of-decl, fuel-of}
 use Rattle.row9_faults.specs.Closing.{answered-is}

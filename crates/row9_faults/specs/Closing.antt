@@ -19,7 +19,7 @@ use Rattle.resolve_outcomes.specs.Outcome.{coded, nodes, head, other, app, one,
 use Rattle.resolve_outcomes.specs.Answer.{nine, answer, Told}
 use Rattle.resolve_outcomes.specs.Laws.Ev.{ev-law}
 use Rattle.resolve_outcomes.specs.Laws.Fuel.{leads-unspent}
-use Rattle.keep_laws.specs.States.{closed}
+use Rattle.keep_layouts.specs.States.{closed}
 
 argument-unbound : (ps os : List ℕ) (v : ℕ) → member v ps ≡ false → argument ps os v ≡ one
 unfolding member argument

@@ -10,12 +10,12 @@ use Rattle.sheet.specs.Line.{Line, number}
 use Rattle.meaning.specs.Program.{field-line}
 use Rattle.meaning.specs.Rows.{count-of}
 use Rattle.table_access.specs.Tables.{head-line, decls-of}
-use Rattle.keep_laws.specs.Kept.{body-kind, body-last}
-use Rattle.keep_laws.specs.States.{state, body-of}
-use Rattle.keep_laws.specs.declared.Layout.{Layout}
-use Rattle.keep_laws.specs.declared.Layout.the-variants.{Erased, Newtype, Struct, Abbreviation, Opaque}
-use Rattle.keep_laws.specs.declared.Verdict.{Verdict}
-use Rattle.keep_laws.specs.Layouts.{no-verdict}
+use Rattle.keep_layouts.specs.Kept.{body-kind, body-last}
+use Rattle.keep_layouts.specs.States.{state, body-of}
+use Rattle.keep_layouts.specs.declared.Layout.{Layout}
+use Rattle.keep_layouts.specs.declared.Layout.the-variants.{Erased, Newtype, Struct, Abbreviation, Opaque}
+use Rattle.keep_layouts.specs.declared.Verdict.{Verdict}
+use Rattle.keep_layouts.specs.Layouts.{no-verdict}
 use Rattle.collapse_candidates.specs.Payloads.{Payload}
 
 -- declaration d has `Realized` or `NoUnfold`, which leave its name

@@ -25,13 +25,13 @@ use Rattle.table_declared.specs.DeclLaws.{dtype-is}
 use Rattle.erasure_laws.specs.BodiesLaws.{last-types}
 use Rattle.resolve_kids.specs.Nodes.{type-of}
 use Rattle.resolve_kids.specs.Params.{params-of}
-use Rattle.keep_laws.specs.Kept.{body-kind, body-last, field-type}
+use Rattle.keep_layouts.specs.Kept.{body-kind, body-last, field-type}
 use Rattle.keep_laws.specs.KeptLaws.{params-lines, params-are}
-use Rattle.keep_laws.specs.States.{state, body-of, unfold-at, Open, closed, Shape, Settled}
-use Rattle.keep_laws.specs.declared.Layout.{Layout}
-use Rattle.keep_laws.specs.declared.Layout.the-variants.{Erased, Newtype, Struct, Abbreviation, Opaque}
-use Rattle.keep_laws.specs.declared.Verdict.{Verdict}
-use Rattle.keep_laws.specs.Layouts.{newtype-told, layout-told, no-verdict, Laid}
+use Rattle.keep_layouts.specs.States.{state, body-of, unfold-at, Open, closed, Shape, Settled}
+use Rattle.keep_layouts.specs.declared.Layout.{Layout}
+use Rattle.keep_layouts.specs.declared.Layout.the-variants.{Erased, Newtype, Struct, Abbreviation, Opaque}
+use Rattle.keep_layouts.specs.declared.Verdict.{Verdict}
+use Rattle.keep_layouts.specs.Layouts.{newtype-told, layout-told, no-verdict, Laid}
 use Rattle.collapse_candidates.specs.Payloads.{Payload}
 use Rattle.collapse_candidates.specs.PayloadsLaws.{close-uninline}
 use Rattle.state_names.specs.KindLaws.{Fits, kind-is, layout-fits}

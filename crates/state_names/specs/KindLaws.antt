@@ -30,7 +30,7 @@ use Rattle.row7_verdicts.specs.VerdictsLaws.{row7-line}
 use Rattle.table_declared.specs.Passed.{Passed}
 use Rattle.table_access.specs.Tables.{group, head-line, decls-of}
 use Rattle.table_declared.specs.DeclLaws.{take-start, line-inside, line-of-head, group-is, dtype-is, origin-local, origin-import, whole-at}
-use Rattle.keep_laws.specs.Kept.{body-kind}
+use Rattle.keep_layouts.specs.Kept.{body-kind}
 
 -- what a layout says of the body kind
 abbrev pub Fits : ℕ → Layout → Type 0

@@ -1,14 +1,14 @@
 // What becomes of each declaration's name, in two cells, from its verdict.
-use keep_laws::Layout;
-use keep_laws::Verdict;
+use keep_layouts::Layout;
+use keep_layouts::Verdict;
 ghost use mathlib.Core.Path.{_≡_};
 ghost use Prim.Native.Nat.{_+_, _*_, _<_};
 ghost use lib.ListN.{length};
 ghost use Rattle.sheet.specs.Format.{base};
 ghost use Rattle.number_columns.specs.Column.{pick};
 ghost use Rattle.table_access.specs.Tables as tables;
-ghost use Rattle.keep_laws.specs.Layouts as layouts;
-ghost use Rattle.keep_laws.specs.States as states;
+ghost use Rattle.keep_layouts.specs.Layouts as layouts;
+ghost use Rattle.keep_layouts.specs.States as states;
 ghost use Rattle.state_names.specs.Cells as cells;
 
 // How a name is replaced, and by which Y line.

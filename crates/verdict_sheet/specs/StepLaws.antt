@@ -30,8 +30,8 @@ use Rattle.table_access.specs.Tables.{head-line, decls-of, lines-in}
 use Rattle.table_declared.specs.LineLaws.{nth-at}
 use Rattle.table_declared.specs.DeclLaws.{origin-local}
 use Rattle.keep_fields.specs.Keeps.{Slotted}
-use Rattle.keep_laws.specs.Kept.{body-kind}
-use Rattle.keep_laws.specs.States.{state, Shape, Settled}
+use Rattle.keep_layouts.specs.Kept.{body-kind}
+use Rattle.keep_layouts.specs.States.{state, Shape, Settled}
 use Rattle.left_laws.specs.Lefts.{Recorded}
 use Rattle.verdict_sheet.specs.Upto.{upto, number-by, Sheet, Next, Moved}
 use Rattle.verdict_sheet.specs.LineLaws.{start-le, inside, header-stays, import-stays, local-head, local-entry, local-field, local-verdict, local-other}

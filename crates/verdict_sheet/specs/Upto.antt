@@ -18,7 +18,7 @@ use Rattle.table_declared.specs.Passed.{Passed}
 use Rattle.table_access.specs.Tables.{head-line, decls-of, lines-in}
 use Rattle.table_access.specs.OfSheet.{OfSheet}
 use Rattle.keep_fields.specs.Keeps.{Slotted}
-use Rattle.keep_laws.specs.States.{Settled}
+use Rattle.keep_layouts.specs.States.{Settled}
 use Rattle.left_laws.specs.Lefts.{Recorded}
 
 -- a layout's number, by the cell that says how the name is replaced, and by the body kind

@@ -15,7 +15,7 @@ ghost use Rattle.row4_limits.specs.Limits.{start};
 ghost use Rattle.table_access.specs.Tables.{decls-of, lines-in};
 ghost use Rattle.table_access.specs.OfSheet.{OfSheet};
 ghost use Rattle.keep_fields.specs.Keeps.{Slotted};
-ghost use Rattle.keep_laws.specs.States.{Settled};
+ghost use Rattle.keep_layouts.specs.States.{Settled};
 ghost use Rattle.left_laws.specs.Lefts.{Recorded};
 ghost use Rattle.verdict_sheet.specs.Upto.{Known, Next, Moved, upto};
 

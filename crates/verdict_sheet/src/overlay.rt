@@ -12,7 +12,7 @@ ghost use Rattle.model.specs.Run.{layout-of-decl};
 ghost use Rattle.meaning.specs.Program.{program};
 ghost use Rattle.table_access.specs.Tables.{decls-of, lines-in, Tabled};
 ghost use Rattle.table_access.specs.OfSheet.{OfSheet};
-ghost use Rattle.keep_laws.specs.States.{Settled};
+ghost use Rattle.keep_layouts.specs.States.{Settled};
 ghost use Rattle.left_laws.specs.Lefts.{Recorded};
 ghost use Rattle.verdict_sheet.specs.Upto.{Next, upto};
 

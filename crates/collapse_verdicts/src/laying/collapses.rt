@@ -1,6 +1,6 @@
 // Newtypes: what a candidate or an imported newtype becomes.
 use collapse_newtypes::Only;
-use keep_laws::Layout;
+use keep_layouts::Layout;
 ghost use mathlib.Core.Path.{_≡_};
 ghost use mathlib.Core.Bool.{true};
 ghost use Prim.Native.Nat.{_≤_, _<_};

@@ -3,7 +3,7 @@ use mathlib.Core.Path.{_≡_}
 use Prim.Native.Nat.{ℕ, _*_, _≤_, _<_}
 use native.Mathlib.Omega.{arith}
 use Rattle.sheet.specs.ListLaws.{getD-within}
-use Rattle.keep_laws.specs.States.{Open}
+use Rattle.keep_layouts.specs.States.{Open}
 use Rattle.form_normal.specs.RanksLaws.{asked-body, reached-same, reached-more}
 use borrow.Author.Needs.{needs}
 use Rattle.form_ranks.proofs.form_at.Statement.{statement}

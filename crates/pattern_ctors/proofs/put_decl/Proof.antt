@@ -4,7 +4,7 @@ use native.Mathlib.Omega.{arith}
 use borrow.Author.Needs.{needs}
 use Rattle.table_declared.specs.PassedLaws.{decls-few}
 use Rattle.table_access.specs.Tables.{lines-in}
-use Rattle.keep_laws.specs.Kept.{body-kind}
+use Rattle.keep_layouts.specs.Kept.{body-kind}
 use Rattle.pattern_ctors.specs.SitesLaws.{head-named, record-few, sited-bare, sited-record}
 use Rattle.pattern_ctors.proofs.put_decl.Statement.{statement}
 use Rattle.pattern_ctors.proofs.put_decl.Tie as tie

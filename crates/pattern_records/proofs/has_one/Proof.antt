@@ -3,7 +3,7 @@ use mathlib.Core.Path.{sym, _∙_}
 use borrow.Author.Needs.{needs}
 use borrow.Author.Tests.{ne-eqb}
 use Rattle.table_access.specs.Tables.{lines-in}
-use Rattle.keep_laws.specs.Kept.{body-kind}
+use Rattle.keep_layouts.specs.Kept.{body-kind}
 use Rattle.collapse_newtypes.specs.Newtypes.{one-ctor}
 use Rattle.pattern_records.proofs.has_one.Statement.{statement}
 use Rattle.pattern_records.proofs.has_one.Tie as tie

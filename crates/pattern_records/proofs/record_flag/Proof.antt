@@ -5,7 +5,7 @@ use borrow.Author.Needs.{needs}
 use borrow.Author.Tests.{eq-eqb, ne-eqb}
 use Rattle.table_declared.specs.PassedLaws.{decls-few}
 use Rattle.table_access.specs.Tables.{decls-of, lines-in}
-use Rattle.keep_laws.specs.States.{state}
+use Rattle.keep_layouts.specs.States.{state}
 use Rattle.pattern_records.specs.Records.{record-flag}
 use Rattle.pattern_records.proofs.record_flag.Statement.{statement}
 use Rattle.pattern_records.proofs.record_flag.Tie as tie

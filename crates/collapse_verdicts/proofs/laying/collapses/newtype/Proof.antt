@@ -2,7 +2,7 @@
 use mathlib.Core.Path.{ap}
 use Prim.Native.Nat.{ℕ}
 use borrow.Author.Needs.{needs}
-use Rattle.keep_laws.specs.declared.Layout.the-variants.{Newtype}
+use Rattle.keep_layouts.specs.declared.Layout.the-variants.{Newtype}
 use Rattle.collapse_verdicts.proofs.laying.collapses.newtype.Statement.{statement}
 use Rattle.collapse_verdicts.proofs.laying.collapses.newtype.Tie as tie
 

@@ -15,7 +15,7 @@ use Rattle.meaning.specs.Rows.{count-of}
 use Rattle.table_access.specs.Tables.{decls-of, first-of}
 use Rattle.resolve_kids.specs.Nodes.{type-of}
 use Rattle.resolve_kids.specs.Params.{params-of}
-use Rattle.keep_laws.specs.Kept.{ctors-at, body-kind, body-last, field-type}
+use Rattle.keep_layouts.specs.Kept.{ctors-at, body-kind, body-last, field-type}
 
 -- the cells of declaration d
 abbrev pub state : List ℕ → ℕ → ℕ

@@ -14,10 +14,10 @@ use Rattle.meaning.specs.Rows.{count-of}
 use Rattle.table_access.specs.Tables.{nth, decls-of, first-of}
 use Rattle.resolve_kids.specs.Nodes.{type-of}
 use Rattle.resolve_kids.specs.Params.{params-of}
-use Rattle.keep_laws.specs.Kept.{ctors-at, body-last, field-type}
-use Rattle.keep_laws.specs.declared.Layout.{Layout}
-use Rattle.keep_laws.specs.declared.Layout.the-variants.{Erased, Newtype, Struct, Abbreviation, Opaque}
-use Rattle.keep_laws.specs.declared.Verdict.{Verdict}
+use Rattle.keep_layouts.specs.Kept.{ctors-at, body-last, field-type}
+use Rattle.keep_layouts.specs.declared.Layout.{Layout}
+use Rattle.keep_layouts.specs.declared.Layout.the-variants.{Erased, Newtype, Struct, Abbreviation, Opaque}
+use Rattle.keep_layouts.specs.declared.Verdict.{Verdict}
 use Rattle.model.specs.Decl as decl
 
 -- the number of a layout (FORMAT, section 2)
