@@ -1,5 +1,5 @@
 -- The twelve starred cases (*): what the definitions answer to these sheets, in one table under one
--- claim; every code with its place; further sheets; a sheet built in units, and calls in turn. Assumes nothing.
+-- claim; every code with its place; further sheets; and a sheet built in units. Assumes nothing.
 use mathlib.Core.Path.{_≡_, refl}
 use mathlib.Core.List.{List, [], _∷_, _++_, map}
 use mathlib.Core.Bool.{Bool, not}
@@ -28,7 +28,7 @@ use Rattle.model.specs.Names.{body-names, dtype-names}
 use Rattle.model.specs.Cases as C
 use Rattle.model.specs.Cases.{_gives_, Passed}
 use Rattle.answer.specs.Answer.{Answer, row8, fault-at, row9-10, verdict-sheet, left-sheet, sheet-rows, program-rows, output-rows, refusal, answered, answer, after, Given, called}
-use Rattle.answer.specs.Cut.{Sheets, sheets-of, builds, join, Whole, program-names, Call, handed-on, InTurn, last-call, AllAccept, Wrote}
+use Rattle.answer.specs.Cut.{Sheets, sheets-of, builds, join, Whole, program-names}
 
 -- ---- cases
 -- The lines that a case tells: all of the program's output, or line R, the V lines of the verdict
@@ -683,27 +683,6 @@ unit-cases =
 pub units-built : Passed unit-cases
 unfolding unit-cases
 units-built = refl
-
--- ---- calls in turn
--- a call for a sheet of these lines, with outputs of 130 sevens, more than its sheets need
-abbrev pub call : List String → Call small
-call ls =
-    let b : List ℕ = joined (map bytes ls) in
-    record { sheet = b; verdict = sevens 130; left = sevens 130; gave = called small b (sevens 130) (sevens 130); is-called = refl }
-
--- The units are the declaration of `short` and one of no lines. The first call hands its verdict sheet on, without
--- the sevens past it.
-pub calls-in-turn : InTurn small 130 130 (bytes "N     0a") (joined (map bytes ("D     0     0     3     0     0" ∷ "V     0     0     0     0     0" ∷ []))) ([] ∷ []) (call short) (call short-verdict ∷ [])
-unfolding given called
-calls-in-turn = (record { sheet-is = refl; verdict-room = refl; left-room = refl }, record { sheet-is = refl; verdict-room = refl; left-room = refl })
-
-pub calls-accept : AllAccept (call short) (call short-verdict ∷ [])
-unfolding given called
-calls-accept = (refl, refl)
-
-pub last-wrote : Wrote (last-call (call short) (call short-verdict ∷ [])) (sheets short-verdict short-left)
-unfolding given called sheets
-last-wrote = record { verdict-holds = refl; left-holds = refl }
 
 -- ---- the words of the cut: units joined, whole lines, the names of a program
 pub units-joined : join ((1 ∷ 2 ∷ []) ∷ [] ∷ (3 ∷ []) ∷ []) ≡ 1 ∷ 2 ∷ 3 ∷ []

@@ -1,4 +1,4 @@
--- The cut rule (FORMAT, section 10): a sheet of local declarations, cut into units that are built in turn.
+-- The cut rule of declarations alone (FORMAT, section 10): a sheet of local declarations, cut into units that are built in turn.
 -- Assumes nothing.
 use mathlib.Core.Logic.{_⊎_}
 use mathlib.Core.Path.{_≡_}
@@ -7,7 +7,7 @@ use mathlib.Core.Bool.{true, false}
 use mathlib.Core.Option.{Option, none, some}
 use Prim.Native.Nat.{ℕ, _%_, _<_}
 use lib.Dec.{eqb}
-use lib.ListN.{length, take}
+use lib.ListN.{length}
 use Rattle.number_columns.specs.Column.{pick}
 use Rattle.sheet.specs.Format.{Format, lineBytes}
 use Rattle.sheet.specs.Sheet.{first, count, lines, row2}
@@ -15,7 +15,7 @@ use Rattle.model.specs.Decl.{Decl}
 use Rattle.model.specs.Names.{dtype-names, Declared}
 use Rattle.meaning.specs.Program.{is-head, program}
 use Rattle.meaning.specs.Rows.{raw, row5}
-use Rattle.answer.specs.Answer.{Answer, answer, Given, called, after}
+use Rattle.answer.specs.Answer.{Answer, answer}
 
 -- ---- the list of builds
 pub record Sheets : Type 0 where
@@ -73,43 +73,3 @@ pub record Cut (w : ℕ) (b header : List ℕ) (units : List (List ℕ)) : Type 
       → (xs ys : List (List ℕ)) (u : List ℕ) → units ≡ xs ++ (u ∷ ys)
       → (n : ℕ) → List·Memᴰ n (program-names (program (lines w (header ++ u))))
       → Declared (program (lines w (header ++ join xs ++ u))) n ⊎ (Declared (program (lines w b)) n → ⊥)
-
--- ---- the same as calls
--- A call that was made: the sheet and the outputs as it found them, and what it gave.
-pub record Call (f : Format) : Type 0 where
-  pub sheet : List ℕ
-  pub verdict : List ℕ
-  pub left : List ℕ
-  pub gave : Given
-  pub is-called : gave ≡ called f sheet verdict left
-
--- the sheet at the beginning of a call's verdict output: as many bytes as the call's own sheet had
-abbrev pub handed-on : {f : Format} → Call f → List ℕ
-handed-on c = take (length (c .sheet)) (c .gave .verdict-output)
-
-pub record Over (f : Format) (v l : ℕ) (s u : List ℕ) (c : Call f) : Type 0 where
-  pub sheet-is : c .sheet ≡ s ++ u
-  pub verdict-room : length (c .verdict) ≡ v
-  pub left-room : length (c .left) ≡ l
-
--- Calls that build the units in turn, u first: each has the given sheet and its unit for its sheet, and
--- outputs of v and l bytes, whatever these hold; the next is given what the one before handed on.
-abbrev pub InTurn : (f : Format) → ℕ → ℕ → List ℕ → List ℕ → List (List ℕ) → Call f → List (Call f) → Type 0
-InTurn f v l s u [] c [] = Over f v l s u c
-InTurn f v l s u [] c (c' ∷ cs) = ⊥
-InTurn f v l s u (u' ∷ us) c [] = ⊥
-InTurn f v l s u (u' ∷ us) c (c' ∷ cs) = Over f v l s u c × InTurn f v l (handed-on c) u' us c' cs
-
-abbrev pub last-call : {f : Format} → Call f → List (Call f) → Call f
-last-call c [] = c
-last-call c (c' ∷ cs) = last-call c' cs
-
--- every call shows code 0
-abbrev pub AllAccept : {f : Format} → Call f → List (Call f) → Type 0
-AllAccept c [] = c .gave .code ≡ 0
-AllAccept c (c' ∷ cs) = (c .gave .code ≡ 0) × AllAccept c' cs
-
--- the call's outputs hold these sheets, and past them what they held
-pub record Wrote {f : Format} (c : Call f) (x : Sheets) : Type 0 where
-  pub verdict-holds : c .gave .verdict-output ≡ after (x .verdict) (c .verdict)
-  pub left-holds : c .gave .left-output ≡ after (x .left) (c .left)

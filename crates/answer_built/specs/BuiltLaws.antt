@@ -18,9 +18,9 @@ use Rattle.answer_laws.specs.Answer.{or-later, refusal-append}
 use Rattle.answer_built.specs.declared.Built.{Built}
 use Rattle.answer_patterns.specs.Whole as whole
 use Rattle.answer_patterns.specs.Whole.{front, tail}
-use Rattle.answer_patterns.specs.Parts.{NoPattern}
-use Rattle.answer_patterns.specs.Plain.{answer-plain, called-plain}
-use Rattle.answer_patterns.specs.Rows.{answer-refused, answer-accepted, called-refused, called-accepted}
+use Rattle.answer_pattern_laws.specs.Parts.{NoPattern}
+use Rattle.answer_pattern_laws.specs.Plain.{answer-plain, called-plain}
+use Rattle.answer_pattern_laws.specs.Rows.{answer-refused, answer-accepted, called-refused, called-accepted}
 use Rattle.answer_built.specs.Built.{refused-as, given, Gives, GivesFront}
 
 -- ---- the rows

@@ -6,4 +6,3 @@ pub mod Step
 pub mod Build
 pub mod Split
 pub mod Cut
-pub mod Calls

@@ -1,18 +1,23 @@
--- What the definitions answer to sheets that end in a pattern: one that is accepted, each row at a Q line, and units of which
--- the last holds the pattern. Assumes nothing.
+-- What the definitions answer to sheets that end in a pattern: some that are accepted, each row at a Q line, units and calls in
+-- turn of which the last holds the pattern, and what the claims' words take in. Assumes nothing.
 use mathlib.Core.Path.{_≡_, refl}
 use mathlib.Core.List.{List, [], _∷_, _++_, map}
+use mathlib.Core.Bool.{true, false}
 use mathlib.Core.Option.{Option, none, some}
 use Prim.Native.Nat.{ℕ}
 use Prim.Native.String.{String}
+use native.Mathlib.Omega.{arith}
+use borrow.Author.Tests.{leb-true, ltb-true}
 use Rattle.sheet.specs.Format.{Format, base}
+use Rattle.sheet.specs.FirstLaws.{none-first}
 use Rattle.model.specs.Cases as C
 use Rattle.model.specs.Cases.{_gives_, Passed}
 use Rattle.meaning_patterns.specs.Cases.{passes, refused, left}
-use Rattle.answer.specs.Cases.{whole, given, bytes, joined, seen, small, refuses, accepts, sheets, header, unit-a, unit-b, both}
+use Rattle.answer.specs.Cases.{whole, given, bytes, joined, seen, small, refuses, accepts, short, short-verdict, short-left, sevens, sheets, header, unit-a, unit-b, both}
 use Rattle.answer.specs.Cut.{Sheets, sheets-of}
-use Rattle.answer_patterns.specs.Whole.{front-count, front, tail, following, verdict-sheet, left-sheet, sheet-rows, program-rows, output-rows, answered, answer}
-use Rattle.answer_patterns.specs.Cut.{builds}
+use Rattle.answer_patterns.specs.Whole.{front-count, front, tail, following, verdict-sheet, left-sheet, sheet-rows, program-rows, output-rows, answered, answer, called}
+use Rattle.answer_patterns.specs.Passes.{Passes}
+use Rattle.answer_patterns.specs.Cut.{builds, Cut, Call, handed-on, InTurn, last-call, AllAccept, Wrote}
 
 -- all that is told of a sheet of these lines, with outputs of v and l bytes
 unfoldable pub answers : Format → List String → ℕ → ℕ → List (List ℕ)
@@ -64,6 +69,10 @@ lap-verdict =
 abbrev pub lap-following : List String
 lap-following = "Q     1     2     0     0     0" ∷ "U     3     0     0     0     0" ∷ []
 
+-- three patterns, of which the last counts
+abbrev pub three : List String
+three = "Q     0     0     0     0     0" ∷ "Q     0     0     0     0     0" ∷ "Q     2     7     0     0     0" ∷ []
+
 unfoldable pub accepted-cases : List (C.Case (List (List ℕ)))
 unfolding answers refuses accepts
 accepted-cases =
@@ -72,15 +81,10 @@ accepted-cases =
     -- they count for both outputs
     ∷ answers base lap 447 999 gives refuses 11 448
     ∷ answers base lap 448 287 gives refuses 12 288
-    -- a sheet of Q lines alone, as many as the limit
-    ∷ told-of ("Q     0     0     0     0     0" ∷ "Q     0     0     0     0     0" ∷ "Q     2     7     0     0     0" ∷ [])
-    gives accepts
-    ("R     0     0     1     0     0"
-    ∷ "Q     0     0     0     0     0"
-    ∷ "Q     0     0     0     0     0"
-    ∷ "Q     2     7     0     0     0"
-    ∷ "Q     2     7     0     0     0"
-    ∷ [])
+    -- a sheet of Q lines alone, as many as the limit; the last is the pattern
+    ∷ told-of three gives accepts ("R     0     0     1     0     0" ∷ three ++ ("Q     2     7     0     0     0" ∷ []))
+    -- a sheet without Q lines
+    ∷ told-of short gives accepts ("R     0     0     2     0     0" ∷ short-verdict ++ short-left)
     ∷ []
 
 pub accepted-given : Passed accepted-cases
@@ -149,3 +153,63 @@ unit-cases =
 pub units-built : Passed unit-cases
 unfolding unit-cases
 units-built = refl
+
+-- ---- calls in turn
+-- outputs that hold sevens, more than the sheets need
+abbrev pub call : List String → Call small
+call ls =
+    let b : List ℕ = joined (map bytes ls) in
+    record { sheet = b; verdict = sevens 130; left = sevens 130; gave = called small b (sevens 130) (sevens 130); is-called = refl }
+
+abbrev pub wild : List String
+wild = "Q     0     0     0     0     0" ∷ []
+
+-- The units are the declaration of `short` and one of no lines. The first call hands its verdict sheet on, without the sevens past
+-- it; the last call has the Q line.
+pub calls-in-turn :
+    InTurn small 130 130 (bytes "N     0a") (joined (map bytes ("D     0     0     3     0     0" ∷ "V     0     0     0     0     0" ∷ []))) ([] ∷ []) (joined (map bytes wild)) (call short)
+    (call (short-verdict ++ wild) ∷ [])
+unfolding answers called
+calls-in-turn = (record { sheet-is = refl; verdict-room = refl; left-room = refl }, record { sheet-is = refl; verdict-room = refl; left-room = refl })
+
+pub calls-accept : AllAccept (call short) (call (short-verdict ++ wild) ∷ [])
+unfolding answers called
+calls-accept = (refl, refl)
+
+pub last-wrote : Wrote (last-call (call short) (call (short-verdict ++ wild) ∷ [])) (sheets (short-verdict ++ wild) (short-left ++ wild))
+unfolding answers called sheets
+last-wrote = record { verdict-holds = refl; left-holds = refl }
+
+-- ---- the words of the claims
+-- three Q lines pass, as many as the limit
+pub three-pass : Passes small (joined (map bytes three)) 96 32
+unfolding answers
+three-pass =
+    record {
+      pass1 = refl;
+      pass2 = none-first _ _ refl;
+      pass3 = none-first _ _ refl;
+      patterns3 = none-first _ _ refl;
+      pass4 = none-first _ _ refl;
+      patterns4 = leb-true _ _ refl;
+      pass5 = none-first _ _ refl;
+      patterns5 = none-first _ _ refl;
+      pass6 = none-first _ _ refl;
+      pass7 = none-first _ _ refl;
+      pass8 = none-first _ _ refl;
+      pass9-10 = none-first _ _ refl;
+      pass13 = none-first _ _ refl;
+      pass11 = leb-true _ _ refl;
+      pass12 = leb-true _ _ refl;
+    }
+
+-- A part too few in the tenth Q line is seen behind eight declared lines.
+pub tenth-fails : Passes base (joined (map bytes (for-one ++ (wild ++ three ++ three ++ wild ++ wild ++ no-part)))) 999 999 → ⊥
+unfolding answers
+tenth-fails p = let e : true ≡ false = p .pass13 9 (ltb-true _ _ refl) in let z : _≡_ {A = ℕ} 0 1 = cc in absurd (omega arith)
+
+-- a Q line is no unit
+pub unit-plain : (b header tail : List ℕ) → Cut 6 b header (joined (map bytes wild) ∷ []) tail → ⊥
+unfolding answers
+unit-plain b header tail c =
+    let e : true ≡ false = c .units-plain [] [] (joined (map bytes wild)) refl 0 (ltb-true _ _ refl) in let z : _≡_ {A = ℕ} 0 1 = cc in absurd (omega arith)

@@ -39,13 +39,13 @@ use Rattle.meaning.specs.Rows.{raws, row3}
 use Rattle.answer.specs.Answer.{Clear}
 use Rattle.answer_patterns.specs.Whole as whole
 use Rattle.answer_patterns.specs.Whole.{front-count, front, tail}
-use Rattle.answer_patterns.specs.Parts.{NoPattern, row1-whole, front-whole, front-none, tail-whole, tail-begins, line-tail, counts-add, count-front}
-use Rattle.answer_patterns.specs.Parted.{Parted}
-use Rattle.answer_patterns.specs.Order.{passed-plain}
-use Rattle.answer_patterns.specs.Plain.{sheet-refusal-plain}
-use Rattle.answer_patterns.specs.Refusals as refusals
-use Rattle.answer_patterns.specs.Refusals.{front-row1}
-use Rattle.answer_patterns.specs.Rows.{rows-sheet}
+use Rattle.answer_pattern_laws.specs.Parts.{NoPattern, row1-whole, front-whole, front-none, tail-whole, tail-begins, line-tail, counts-add, count-front}
+use Rattle.answer_pattern_laws.specs.Parted.{Parted}
+use Rattle.answer_pattern_laws.specs.Order.{passed-plain}
+use Rattle.answer_pattern_laws.specs.Plain.{sheet-refusal-plain}
+use Rattle.answer_pattern_laws.specs.Refusals as refusals
+use Rattle.answer_pattern_laws.specs.Refusals.{front-row1}
+use Rattle.answer_pattern_laws.specs.Rows.{rows-sheet}
 use Rattle.build_patterns.specs.Patterned.{Tailed}
 use Rattle.answer_built.specs.BuiltLaws.{gives-refused}
 use Rattle.build_patterns.specs.Deciding.{Read}

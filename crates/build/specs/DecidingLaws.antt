@@ -17,7 +17,7 @@ use Rattle.answer.specs.Answer.{refusal}
 use Rattle.answer.specs.declared.Refusal.the-variants.{Accepted, Refused}
 use Rattle.answer_laws.specs.Build.{whole-length, row1-small}
 use Rattle.answer_patterns.specs.Whole.{front, tail}
-use Rattle.answer_patterns.specs.Rows.{rows-eight, rows-faults}
+use Rattle.answer_pattern_laws.specs.Rows.{rows-eight, rows-faults}
 use Rattle.row4_limits.specs.Limits.{start}
 use Rattle.table_declared.specs.Passed.{Passed}
 use Rattle.table_access.specs.Tables.{decls-of, lines-in}

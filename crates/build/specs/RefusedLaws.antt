@@ -22,10 +22,10 @@ use Rattle.answer.specs.Answer.{Row, line-row, whole-row, refusal, Clear}
 use Rattle.answer.specs.Answer as old
 use Rattle.answer_laws.specs.Refused.{Coding, InRange, refusal-in-range}
 use Rattle.answer_patterns.specs.Whole.{front-count, front, tail, sheet-rows}
-use Rattle.answer_patterns.specs.Parts.{NoPattern, row1-whole}
-use Rattle.answer_patterns.specs.Order.{passed-plain, first-broken}
-use Rattle.answer_patterns.specs.Plain.{sheet-refusal-plain}
-use Rattle.answer_patterns.specs.Refusals.{code-of, refusal-skip, row-first, broken-new}
+use Rattle.answer_pattern_laws.specs.Parts.{NoPattern, row1-whole}
+use Rattle.answer_pattern_laws.specs.Order.{passed-plain, first-broken}
+use Rattle.answer_pattern_laws.specs.Plain.{sheet-refusal-plain}
+use Rattle.answer_pattern_laws.specs.Refusals.{code-of, refusal-skip, row-first, broken-new}
 use Rattle.build.specs.Build.{Refuses, Breaks}
 
 abbrev place-in : Refusal → ℕ

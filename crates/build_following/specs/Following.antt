@@ -10,7 +10,7 @@ use Rattle.walk_cells.specs.Cells.{lines-of}
 use Rattle.answer.specs.Answer.{refusal}
 use Rattle.answer.specs.declared.Refusal.the-variants.{Accepted}
 use Rattle.answer_patterns.specs.Whole.{input-rows, following}
-use Rattle.answer_patterns.specs.Parted.{Parted}
+use Rattle.answer_pattern_laws.specs.Parted.{Parted}
 use Rattle.pattern_put.specs.Puts.{Bytes}
 use Rattle.build_sheets.specs.Sheets.{Lent}
 

@@ -15,9 +15,9 @@ use Rattle.meaning.specs.Rows.{count-of}
 use Rattle.answer.specs.Answer.{verdict-sheet, left-sheet, after}
 use Rattle.answer_patterns.specs.Whole as whole
 use Rattle.answer_patterns.specs.Whole.{front, tail}
-use Rattle.answer_patterns.specs.Parts.{front-of, tail-of}
-use Rattle.answer_patterns.specs.Rows.{rows-twelve, rows-none}
-use Rattle.answer_patterns.specs.Sheets.{verdict-sheet-tail, left-sheet-tail}
+use Rattle.answer_pattern_laws.specs.Parts.{front-of, tail-of}
+use Rattle.answer_pattern_laws.specs.Rows.{rows-twelve, rows-none}
+use Rattle.answer_pattern_laws.specs.Sheets.{verdict-sheet-tail, left-sheet-tail}
 use Rattle.walk_cells.specs.Cells.{lines-of}
 use Rattle.walk_cells.specs.CellsLaws.{length-lines-of}
 use Rattle.pattern_put.specs.PutsLaws.{lines-length}

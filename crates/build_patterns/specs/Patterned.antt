@@ -22,7 +22,7 @@ use Rattle.pattern_rows.specs.Links as links
 use Rattle.answer.specs.Answer.{refusal}
 use Rattle.answer.specs.declared.Refusal.the-variants.{Accepted}
 use Rattle.answer_patterns.specs.Whole.{sheet-rows}
-use Rattle.answer_patterns.specs.Parted.{Parted}
+use Rattle.answer_pattern_laws.specs.Parted.{Parted}
 use Rattle.table_access.specs.Tables.{lines-in, Tabled}
 use Rattle.pattern_ctors.specs.Sites.{Sited}
 use Rattle.pattern_marks.specs.Tables.{Given}

@@ -31,8 +31,8 @@ use Rattle.pattern_put.specs.Puts.{Bytes, line-at}
 use Rattle.answer.specs.Answer.{refusal}
 use Rattle.answer.specs.declared.Refusal.the-variants.{Accepted}
 use Rattle.answer_patterns.specs.Whole.{front, tail, input-rows, following}
-use Rattle.answer_patterns.specs.Parts.{front-of, tail-of}
-use Rattle.answer_patterns.specs.Rows.{rows-thirteen, rows-eleven, input-accepted}
+use Rattle.answer_pattern_laws.specs.Parts.{front-of, tail-of}
+use Rattle.answer_pattern_laws.specs.Rows.{rows-thirteen, rows-eleven, input-accepted}
 use Rattle.answer_built.specs.Built.{refused-as, Gives}
 use Rattle.answer_built.specs.BuiltLaws.{row8-alone, faults-alone, gives-refused}
 use Rattle.table_access.specs.Tables.{lines-in}
@@ -45,7 +45,7 @@ use Rattle.pattern_flags.specs.Flags.{FlagsTo}
 use Rattle.pattern_flags.specs.MarkedLaws.{tables-rewritten}
 use Rattle.table_declared.specs.PassedLaws.{names-within}
 use Rattle.table_access.specs.OfSheet.{OfSheet, program-same, count-same}
-use Rattle.answer_patterns.specs.Parted.{Parted}
+use Rattle.answer_pattern_laws.specs.Parted.{Parted}
 use Rattle.build_following.specs.Following.{Follows}
 use Rattle.build_patterns.specs.SameLaws.{eight-same, faults-same, lent-of}
 use Rattle.build_patterns.specs.Patterned.{Good, Patterned, Counted, Uncounted, Unflagged, Flagged, Marked, owner-in, layout-in}

@@ -70,15 +70,15 @@ use Rattle.answer_laws.specs.Build.{passes-whole, whole-append}
 use Rattle.answer_patterns.specs.Whole.{front, tail, rows, following, left-sheet, answer}
 use Rattle.answer_patterns.specs.Passes.{Passes}
 use Rattle.answer_patterns.specs.Cut.{build, builds, Cut, Call, Over, InTurn, last-call, AllAccept, Wrote}
-use Rattle.answer_patterns.specs.Parts.{NoPattern, no-pattern-append}
-use Rattle.answer_patterns.specs.Plain.{plain-front}
-use Rattle.answer_patterns.specs.Sheets.{left-sheet-tail}
-use Rattle.answer_patterns.specs.PassesLaws as passes
-use Rattle.answer_patterns.specs.Calls as calls
-use Rattle.answer_patterns.specs.CutLaws as cuts
-use Rattle.answer_patterns.specs.Owners.{slots-counted, program-sound}
-use Rattle.answer_patterns.specs.Counted.{pattern-counted}
-use Rattle.answer_patterns.specs.Following.{following-letters, following-few}
+use Rattle.answer_pattern_laws.specs.Parts.{NoPattern, no-pattern-append}
+use Rattle.answer_pattern_laws.specs.Plain.{plain-front}
+use Rattle.answer_pattern_laws.specs.Sheets.{left-sheet-tail}
+use Rattle.answer_pattern_laws.specs.PassesLaws as passes
+use Rattle.answer_pattern_laws.specs.Calls as calls
+use Rattle.answer_pattern_laws.specs.CutLaws as cuts
+use Rattle.answer_pattern_laws.specs.Owners.{slots-counted, program-sound}
+use Rattle.answer_pattern_laws.specs.Counted.{pattern-counted}
+use Rattle.answer_pattern_laws.specs.Following.{following-letters, following-few}
 use Rattle.claims.specs.Unerased.{unerased}
 use Rattle.claims.specs.ClaimsLaws.{true-of, answer-rounds, answer-verdict, answer-left, front-passes, map-ctors, left-length, verdicts, length-verdicts, told-lines, first-builds, first-verdict, first-lefts}
 

@@ -31,8 +31,8 @@ use Rattle.answer_laws.specs.Build.{Split, split-steps, prefix-verdict, prefix-
 use Rattle.answer_laws.specs.Split.{joined-parts, cut-splits, cut-first, passes-faultless}
 use Rattle.answer_laws.specs.Split as old-split
 use Rattle.answer_patterns.specs.Whole.{front, tail, left-sheet, answered, answer}
-use Rattle.answer_patterns.specs.PassesLaws.{sheets, accepted-passes, passes-answer, passes-front}
-use Rattle.answer_patterns.specs.Calls.{verdict-parts}
+use Rattle.answer_pattern_laws.specs.PassesLaws.{sheets, accepted-passes, passes-answer, passes-front}
+use Rattle.answer_pattern_laws.specs.Calls.{verdict-parts}
 use Rattle.claims.specs.Unerased.{unerased}
 
 pub true-of : (b : Bool) → T b → b ≡ true

@@ -26,10 +26,10 @@ use Rattle.answer.specs.Answer.{refusal}
 use Rattle.answer.specs.Answer as old
 use Rattle.answer_laws.specs.Build.{row1-small}
 use Rattle.answer_patterns.specs.Whole as whole
-use Rattle.answer_patterns.specs.Parts.{count-parts, line-first, line-second, front-of, tail-of}
-use Rattle.answer_patterns.specs.Parted.{Parted}
-use Rattle.answer_patterns.specs.Refusals.{code-of}
-use Rattle.answer_patterns.specs.Refusals as refusals
+use Rattle.answer_pattern_laws.specs.Parts.{count-parts, line-first, line-second, front-of, tail-of}
+use Rattle.answer_pattern_laws.specs.Parted.{Parted}
+use Rattle.answer_pattern_laws.specs.Refusals.{code-of}
+use Rattle.answer_pattern_laws.specs.Refusals as refusals
 use Rattle.walk_cells.specs.Cells.{lines-of, bare, cells}
 use Rattle.walk_decode.specs.DecodeLaws.{decoded-lines}
 use Rattle.pattern_rows.specs.Links as links

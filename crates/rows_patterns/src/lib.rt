@@ -17,8 +17,8 @@ ghost use Rattle.meaning.specs.Rows.{count-of, raw};
 ghost use Rattle.meaning_patterns.specs.Patterns.{pattern-line};
 ghost use Rattle.answer.specs.Answer as old;
 ghost use Rattle.answer_patterns.specs.Whole as whole;
-ghost use Rattle.answer_patterns.specs.Parted.{Parted};
-ghost use Rattle.answer_patterns.specs.Refusals.{code-of};
+ghost use Rattle.answer_pattern_laws.specs.Parted.{Parted};
+ghost use Rattle.answer_pattern_laws.specs.Refusals.{code-of};
 ghost use Rattle.rows_patterns.specs.Kept.{NoBad, Patterned, Ranged, Kept};
 
 // At most so many Q lines.

@@ -8,7 +8,7 @@ use Rattle.sheet.specs.Sheet.{first, count, lines}
 use Rattle.meaning.specs.Program.{is}
 use Rattle.meaning.specs.Rows.{raw}
 use Rattle.meaning_patterns.specs.Patterns.{pattern-line}
-use Rattle.answer_patterns.specs.Refusals.{code-of}
+use Rattle.answer_pattern_laws.specs.Refusals.{code-of}
 use Rattle.pattern_rows.specs.Links as links
 use Rattle.rows_patterns.specs.KeptLaws.{none-at, kept-refused, places, patterned, at-three, at-order, at-four, at-limit, at-five, at-pattern, at-rest}
 use Rattle.rows_patterns.proofs.check.Statement.{statement}

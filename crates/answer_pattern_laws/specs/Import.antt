@@ -27,14 +27,14 @@ use Rattle.answer_laws.specs.Answer as old-laws
 use Rattle.answer_laws.specs.Pass.{own-imports}
 use Rattle.answer_laws.specs.Step.{Checks, later, whole-parts, parts-distinct, verdicts, same-rows, program-imported}
 use Rattle.answer_laws.specs.Build.{NoBad, passes-sound, Split, split-steps, split-nothing, pass-whole, whole-append, verdict-sheet-length, verdict-lines-behind}
 use Rattle.answer_patterns.specs.Whole.{following, verdict-sheet, left-sheet}
-use Rattle.answer_patterns.specs.Parts.{NoPattern, Begins, lines-parts, no-pattern-append}
-use Rattle.answer_patterns.specs.Order.{passed-plain}
-use Rattle.answer_patterns.specs.Sheets.{verdict-sheet-lines, left-sheet-tail}
+use Rattle.answer_pattern_laws.specs.Parts.{NoPattern, Begins, lines-parts, no-pattern-append}
+use Rattle.answer_pattern_laws.specs.Order.{passed-plain}
+use Rattle.answer_pattern_laws.specs.Sheets.{verdict-sheet-lines, left-sheet-tail}
 use Rattle.answer_patterns.specs.Passes.{Passes}
 use Rattle.answer_patterns.specs.Cut.{build}
-use Rattle.answer_patterns.specs.PassesLaws.{some-same, sheets, build-equal, build-passes, Joined, passes-parts, joined-passes, sheets-parts}
-use Rattle.answer_patterns.specs.Types.{types, types-pins, row13-types, following-types}
+use Rattle.answer_pattern_laws.specs.PassesLaws.{some-same, sheets, build-equal, build-passes, Joined, passes-parts, joined-passes, sheets-parts}
+use Rattle.answer_pattern_laws.specs.Types.{types, types-pins, row13-types, following-types}
 
 module _ (f : Format) (v l : ℕ) (pos : 0 < f .columns) (p : List ℕ) (pass : old.Passes f p v l) where
   -- the first part's verdict sheet

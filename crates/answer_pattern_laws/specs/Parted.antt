@@ -6,7 +6,7 @@ use Rattle.sheet.specs.Line.{isBad}
 use Rattle.sheet.specs.Sheet.{count, line}
 use Rattle.answer.specs.Answer.{Clear}
 use Rattle.answer.specs.Cut.{Whole}
-use Rattle.answer_patterns.specs.Parts.{NoPattern, Begins}
+use Rattle.answer_pattern_laws.specs.Parts.{NoPattern, Begins}
 
 -- z may be empty, and none of its lines is bad
 pub record Parted (w : ℕ) (a z : List ℕ) : Type 0 where

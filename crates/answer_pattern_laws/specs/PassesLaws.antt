@@ -32,12 +32,12 @@ use Rattle.answer_laws.specs.Pass.{clear-heads}
 use Rattle.answer_laws.specs.Left.{decls-limit}
 use Rattle.answer_laws.specs.Build.{row1-small, whole-append}
 use Rattle.answer_laws.specs.Refused.{RefusesAs, refusal-refuses, Within, Coding, InRange, refusal-in-range, fault-in-range}
 use Rattle.answer_patterns.specs.Whole.{front, tail, tail-row, verdict-sheet, left-sheet, sheet-rows, program-rows, output-rows, rows, answered, answer}
-use Rattle.answer_patterns.specs.Parts.{NoPattern, Begins, row1-whole, count-parts, line-first, line-second, parts-are, front-whole, front-of, tail-of}
-use Rattle.answer_patterns.specs.Order.{passed-plain}
-use Rattle.answer_patterns.specs.Sheets.{left-length-tail}
+use Rattle.answer_pattern_laws.specs.Parts.{NoPattern, Begins, row1-whole, count-parts, line-first, line-second, parts-are, front-whole, front-of, tail-of}
+use Rattle.answer_pattern_laws.specs.Order.{passed-plain}
+use Rattle.answer_pattern_laws.specs.Sheets.{left-length-tail}
 use Rattle.answer_patterns.specs.Passes.{Passes}
 use Rattle.answer_patterns.specs.Cut.{build}
 
 -- ---- the rows' tests, one by one
 module _ (f : Format) (b : List ℕ) (v l : ℕ) where

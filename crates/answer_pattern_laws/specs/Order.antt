@@ -23,9 +23,9 @@ use Rattle.meaning_laws.specs.Rows.{row3-inside, due-after-append, length-raws,
 use Rattle.meaning_patterns.specs.Patterns.{pattern-line}
 use Rattle.answer.specs.Answer.{Clear}
 use Rattle.answer.specs.Cut.{Whole}
 use Rattle.answer_patterns.specs.Whole.{front-count, front, tail}
-use Rattle.answer_patterns.specs.Parts.{NoPattern, count-parts, raw-first, raw-second, parts-are, front-whole, count-front}
-use Rattle.answer_patterns.specs.Plain.{plain-front}
+use Rattle.answer_pattern_laws.specs.Parts.{NoPattern, count-parts, raw-first, raw-second, parts-are, front-whole, count-front}
+use Rattle.answer_pattern_laws.specs.Plain.{plain-front}
 
 -- ---- the raw lines of two parts
 table-parts : {A : Type 0} (f : ℕ → A) (m n : ℕ) → table f (m + n) ≡ table f m ++ table (λ i. f (m + i)) n

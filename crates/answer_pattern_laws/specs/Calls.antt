@@ -16,14 +16,14 @@ use Rattle.answer.specs.Answer as old
 use Rattle.answer.specs.Cut.{Sheets, Whole}
 use Rattle.answer_laws.specs.Answer as old-laws
 use Rattle.answer_laws.specs.Build.{verdict-sheet-length, split-nothing}
 use Rattle.answer_patterns.specs.Whole.{front, tail, verdict-sheet, answer, answered, called}
-use Rattle.answer_patterns.specs.Parts.{row1-whole, parts-are, tail-whole, front-whole, tail-begins}
-use Rattle.answer_patterns.specs.Sheets.{verdict-sheet-tail}
+use Rattle.answer_pattern_laws.specs.Parts.{row1-whole, parts-are, tail-whole, front-whole, tail-begins}
+use Rattle.answer_pattern_laws.specs.Sheets.{verdict-sheet-tail}
 use Rattle.answer_patterns.specs.Passes.{Passes}
 use Rattle.answer_patterns.specs.Cut.{build, builds, Cut, Call, handed-on, Over, InTurn, last-call, AllAccept, Wrote}
-use Rattle.answer_patterns.specs.PassesLaws.{some-same, sheets, passes-build, build-passes, accepted-passes, passes-accepted, passes-answer, Joined, passes-joined}
-use Rattle.answer_patterns.specs.Import.{build-told}
-use Rattle.answer_patterns.specs.CutLaws.{no-pattern-nil, cut-builds}
+use Rattle.answer_pattern_laws.specs.PassesLaws.{some-same, sheets, passes-build, build-passes, accepted-passes, passes-accepted, passes-answer, Joined, passes-joined}
+use Rattle.answer_pattern_laws.specs.Import.{build-told}
+use Rattle.answer_pattern_laws.specs.CutLaws.{no-pattern-nil, cut-builds}
 
 -- ---- the verdict sheet
 module _ (f : Format) (b : List ℕ) (v l : ℕ) (pass : Passes f b v l) where

@@ -24,10 +24,10 @@ use Rattle.answer.specs.Answer as old
 use Rattle.answer.specs.Cut.{Whole}
 use Rattle.answer_laws.specs.Answer.{or-later, refusal-append}
 use Rattle.answer_laws.specs.Build.{row1-small}
 use Rattle.answer_patterns.specs.Whole.{front, tail, tail-row, sheet-rows}
-use Rattle.answer_patterns.specs.Parts.{row1-whole, count-parts, line-first, line-second, parts-are, front-whole}
-use Rattle.answer_patterns.specs.Plain.{sheet-rows-are}
-use Rattle.answer_patterns.specs.Order.{broken-front}
+use Rattle.answer_pattern_laws.specs.Parts.{row1-whole, count-parts, line-first, line-second, parts-are, front-whole}
+use Rattle.answer_pattern_laws.specs.Plain.{sheet-rows-are}
+use Rattle.answer_pattern_laws.specs.Order.{broken-front}
 
 -- ---- one row
 pub refusal-skip : (r : Row) (rs : List Row) → Clear (r .bound) (r .test) → refusal (r ∷ rs) ≡ refusal rs

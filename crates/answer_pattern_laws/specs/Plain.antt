@@ -22,8 +22,8 @@ use Rattle.answer.specs.Answer.{Row, line-row, whole-row, row8, fault-at, row9-
 use Rattle.answer.specs.Answer as old
 use Rattle.answer.specs.Cut.{Whole}
 use Rattle.answer_laws.specs.Answer.{or-later, refusal-append}
 use Rattle.answer_patterns.specs.Whole.{front, tail, tail-row, following, verdict-sheet, left-sheet, sheet-rows, program-rows, output-rows, rows, answered, answer, called}
-use Rattle.answer_patterns.specs.Parts.{NoPattern, Begins, front-of, tail-of}
+use Rattle.answer_pattern_laws.specs.Parts.{NoPattern, Begins, front-of, tail-of}
 
 -- ---- the rows by the parts
 abbrev pub sheet-rows-of : Format → List ℕ → List ℕ → List ℕ → List Row

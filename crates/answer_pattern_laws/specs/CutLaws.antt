@@ -24,14 +24,14 @@ use Rattle.answer_laws.specs.Build.{Split, split-steps, whole-append}
 use Rattle.answer_laws.specs.Cut.{Splits}
 use Rattle.answer_laws.specs.Split.{cut-splits, passes-faultless}
 use Rattle.answer_laws.specs.Split as old-split
 use Rattle.answer_patterns.specs.Whole.{front}
 use Rattle.answer_patterns.specs.Whole as whole
-use Rattle.answer_patterns.specs.Parts.{NoPattern, Begins, front-of, tail-of, no-pattern-append}
-use Rattle.answer_patterns.specs.Plain.{answer-plain}
+use Rattle.answer_pattern_laws.specs.Parts.{NoPattern, Begins, front-of, tail-of, no-pattern-append}
+use Rattle.answer_pattern_laws.specs.Plain.{answer-plain}
 use Rattle.answer_patterns.specs.Passes.{Passes}
 use Rattle.answer_patterns.specs.Cut.{build, builds, Cut, FaultlessWith}
-use Rattle.answer_patterns.specs.PassesLaws.{some-same, build-passes, Joined, passes-parts}
-use Rattle.answer_patterns.specs.Import.{told, told-whole, told-plain, names-same, build-told}
+use Rattle.answer_pattern_laws.specs.PassesLaws.{some-same, build-passes, Joined, passes-parts}
+use Rattle.answer_pattern_laws.specs.Import.{told, told-whole, told-plain, names-same, build-told}
 
 -- a build of declarations alone
 pub build-plain : (f : Format) (v l : ℕ) (b : List ℕ) → NoPattern (f .columns) b → build f v l b ≡ old-cut.build f v l b

@@ -15,9 +15,9 @@ use Rattle.answer.specs.declared.Refusal.{Refusal}
 use Rattle.answer.specs.declared.Refusal.the-variants.{Accepted, Refused}
 use Rattle.answer.specs.Answer.{line-row, whole-row, row8, row9-10, fault-at, refusal, after}
 use Rattle.answer_laws.specs.Answer.{or-later, refusal-append}
 use Rattle.answer_patterns.specs.Whole.{front, tail, tail-row, sheet-rows, program-rows, input-rows, output-rows, rows, verdict-sheet, left-sheet, answered, answer, called}
-use Rattle.answer_patterns.specs.Plain.{output-rows-of, program-rows-are, output-rows-are}
-use Rattle.answer_patterns.specs.Refusals.{row-passed, row-refused}
+use Rattle.answer_pattern_laws.specs.Plain.{output-rows-of, program-rows-are, output-rows-are}
+use Rattle.answer_pattern_laws.specs.Refusals.{row-passed, row-refused}
 
 -- rows 8, and 9 and 10, and 13, by themselves
 abbrev pub row8-alone : Format → List ℕ → Refusal

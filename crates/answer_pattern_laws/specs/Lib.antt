@@ -1,0 +1,15 @@
+pub mod Parts
+pub mod Parted
+pub mod Plain
+pub mod Order
+pub mod Refusals
+pub mod Sheets
+pub mod Rows
+pub mod PassesLaws
+pub mod Types
+pub mod Import
+pub mod CutLaws
+pub mod Calls
+pub mod Owners
+pub mod Counted
+pub mod Following
