@@ -104,7 +104,7 @@ fn emit_name(
     if r > out.len() {
         return r;
     }
-    let k = resolve_calls::params(t, m);
+    let k = resolve_kids::params(t, m);
     if kids(t, y) <= k {
         return r;
     }

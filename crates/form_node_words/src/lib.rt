@@ -85,7 +85,7 @@ pub fn variable_word(t: &[u32], d: usize, places: bool, v: u32) -> u64
     ensures { λ r. ⌜ r ≡ word (variable (member v (params.params-of (tables.lines-in (now (t .entry))) d)) (specs.label places (params.params-of (tables.lines-in (now (t .entry))) d) v)) ⌝ }
 {
     let i = place_of(t, d, v as usize);
-    if i >= resolve_calls::params(t, d) {
+    if i >= resolve_kids::params(t, d) {
         return pack(1, 0, 0);
     }
     if places {

@@ -70,7 +70,7 @@ fn count_decl(
     if left[d] == 0 {
         return c;
     }
-    let n = resolve_calls::params(t, d);
+    let n = resolve_kids::params(t, d);
     count_body(t, u, f, keep, scratch, d, add_lines(c, n + 2))
 }
 

@@ -14,7 +14,7 @@ use Rattle.row4_limits.specs.Limits.{start}
 use Rattle.table_access.specs.Tables.{nth, head-line, first-of}
 use Rattle.resolve_kids.specs.Params.{params-from, params-of}
 use Rattle.resolve_kids.specs.ParamsLaws.{count-before-le}
-use Rattle.resolve_calls.specs.CallsLaws.{params-length}
+use Rattle.resolve_kids.specs.ParamsLaws.{params-length}
 use Rattle.left_places.specs.declared.Place.{Place}
 use Rattle.left_places.specs.Places.{Writing, one, more, seq, Growing, At, Inside, Room, Writes}
 use Rattle.left_places.specs.PlacesLaws.{growing-one, growing-seq, writes-none, writes-as, room-as, room-first, room-rest, writes-seq}

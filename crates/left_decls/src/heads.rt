@@ -33,7 +33,7 @@ pub fn put_head(t: &[u32], out: &mut [u8], d: usize, kind: u32, end: u32, p: Pla
     requires { ⌜ Room (fixed (head-rows (lines-in (now t)) d kind end)) p (now out) ⌝ }
     ensures { λ r. ⌜ Writes (fixed (head-rows (lines-in (now (t .entry))) d kind end)) p r (now (out .entry)) (now (out .exit)) ⌝ }
 {
-    let n = resolve_calls::params(t, d);
+    let n = resolve_kids::params(t, d);
     let i = table_access::first_param(t, d);
     let name = table_access::decl_number(t, d, 0);
     let flags = table_access::decl_number(t, d, 1);

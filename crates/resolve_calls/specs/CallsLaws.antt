@@ -1,18 +1,17 @@
--- Laws for the tests of a call: its count of parameters, the head of its instance, its surplus. Assumes nothing.
-use mathlib.Core.Path.{_≡_, refl, ap, ap₂, sym, _∙_}
+-- Laws for the tests of a call: the head of its instance, its surplus. Assumes nothing.
+use mathlib.Core.Path.{_≡_, refl, ap, sym, _∙_}
 use mathlib.Core.List.{List}
 use mathlib.Core.Bool.{Bool, true, false}
-use Prim.Native.Nat.{ℕ, zero, suc, _+_, _-_, _%_, _≤_, _<_}
+use Prim.Native.Nat.{ℕ, suc, _+_, _%_, _≤_, _<_}
 use native.Mathlib.Omega.{arith}
 use lib.Dec.{eqb, ltb}
 use lib.ListN.{length, getD, set}
 use borrow.Author.Tests.{eq-eqb, ne-eqb, lt-ltb, ltb-true}
 use Rattle.sheet.specs.Line.{Line, number}
 use Rattle.model.specs.Cty.{Cty, TVar}
-use Rattle.meaning.specs.Program.{param-line, type-line}
+use Rattle.meaning.specs.Program.{type-line}
 use Rattle.meaning.specs.Rows.{count-of}
 use Rattle.table_declared.specs.Passed.{Passed}
-use Rattle.table_access.specs.Tables.{first-of}
 use Rattle.resolve_outcomes.specs.Outcome.{app, head, argument, instance-head, counted, fits}
 use Rattle.resolve_outcomes.specs.Scratch.{part, Same}
 use Rattle.resolve_outcomes.specs.Laws.Answer.{head-plain}
@@ -20,16 +19,6 @@ use Rattle.resolve_outcomes.specs.Laws.Call.{unfolded}
 use Rattle.resolve_outcomes.specs.Laws.Scratch.{part-none, part-last, part-set, same-refl, same-sym, same-get, same-trans, same-set}
 use Rattle.resolve_kids.specs.Nodes.{y-line, kind-of, type-of}
 use Rattle.resolve_kids.specs.NodesLaws.{var-type, app-type, plain-type}
-use Rattle.resolve_kids.specs.Params.{params-from, params-of}
-
-pub params-length : (ls : List Line) (p n : ℕ) → length (params-from ls p n) ≡ n
-unfolding params-from
-params-length ls p zero = refl
-params-length ls p (suc n) = ap suc (params-length ls (suc p) n)
-
-pub counted-of : (ls : List Line) (d first end r : ℕ) → first ≡ first-of param-line ls d → end ≡ first-of param-line ls (d + 1) → r ≡ end - first → r ≡ length (params-of ls d)
-counted-of ls d first end r e f q =
-    q ∙ (ap₂ (λ (m n : ℕ). n - m) e f ∙ sym (params-length ls (first-of param-line ls d) (first-of param-line ls (d + 1) - first-of param-line ls d)))
 
 -- ---- the head of an instance
 head-var : (ps os : List ℕ) (v : ℕ) → instance-head ps os (TVar v) ≡ argument ps os v % 4

@@ -14,19 +14,6 @@ ghost use Rattle.resolve_kids.specs.Nodes as nodes;
 ghost use Rattle.resolve_kids.specs.Params as params;
 ghost use Rattle.resolve_calls.specs.CallsLaws.{Copy};
 
-// How many parameters declaration d has.
-pub fn params(t: &[u32], d: usize) -> usize
-    requires { ⌜ tables.Tabled (now t) × (d < tables.decls-of (tables.lines-in (now t))) ⌝ }
-    ensures { λ r. ⌜ r ≡ length (params.params-of (tables.lines-in (now (t .entry))) d) ⌝ }
-{
-    let first = table_access::first_param(t, d);
-    let end = table_access::first_param(t, d + 1);
-    if end < first {
-        return 0;
-    }
-    end - first
-}
-
 // The instance of Y line y's type takes a surplus: it is a `TApp`.
 fn takes(t: &[u32], y: usize, d: usize, out: &[u16], at: usize, count: usize) -> bool
     requires { ⌜ tables.Tabled (now t) × (y < rows.count-of program.type-line (tables.lines-in (now t))) ⌝ }
@@ -59,7 +46,7 @@ pub fn fits(
     requires { ⌜ (d < tables.decls-of (tables.lines-in (now t))) × (at + count ≤ length (now out)) ⌝ }
     ensures { λ r. ⌜ r ≡ outcome.fits (scratch.part at count (now (out .entry))) (call.unfolded newtype (params.params-of (tables.lines-in (now (t .entry))) d) (nodes.type-of (tables.lines-in (now (t .entry))) y)) ⌝ }
 {
-    let n = params(t, d);
+    let n = resolve_kids::params(t, d);
     if count == n {
         return true;
     }

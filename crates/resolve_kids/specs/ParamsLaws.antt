@@ -1,8 +1,8 @@
--- Laws of the argument of a parameter, one P line after the other. Assumes nothing.
+-- Laws of the parameters of a declaration, and of the argument of one, one P line after the other. Assumes nothing.
 use mathlib.Core.Path.{_≡_, refl, ap, ap₂, sym, _∙_}
 use mathlib.Core.List.{List, [], _∷_}
 use mathlib.Core.Bool.{Bool, true, false}
-use Prim.Native.Nat.{ℕ, suc, _+_, _-_, _≤_, _<_}
+use Prim.Native.Nat.{ℕ, zero, suc, _+_, _-_, _≤_, _<_}
 use native.Mathlib.Omega.{arith}
 use lib.ListN.{length, getD, take, drop, length-append, length-take, take-append-drop}
 use lib.Seq.{drop-cons, getD-take}
@@ -17,6 +17,15 @@ use Rattle.resolve_outcomes.specs.Outcome.{one, argument}
 use Rattle.resolve_outcomes.specs.Scratch.{part}
 use Rattle.resolve_outcomes.specs.Laws.Scratch.{part-none}
 use Rattle.resolve_kids.specs.Params.{params-from, params-of}
+
+pub params-length : (ls : List Line) (p n : ℕ) → length (params-from ls p n) ≡ n
+unfolding params-from
+params-length ls p zero = refl
+params-length ls p (suc n) = ap suc (params-length ls (suc p) n)
+
+pub counted-of : (ls : List Line) (d first end r : ℕ) → first ≡ first-of param-line ls d → end ≡ first-of param-line ls (d + 1) → r ≡ end - first → r ≡ length (params-of ls d)
+counted-of ls d first end r e f q =
+    q ∙ (ap₂ (λ (m n : ℕ). n - m) e f ∙ sym (params-length ls (first-of param-line ls d) (first-of param-line ls (d + 1) - first-of param-line ls d)))
 
 -- lines before a place are lines
 pub count-before-le : (x : ℕ) (ls : List Line) (i : ℕ) → count-before x ls i ≤ count-of x ls

@@ -35,7 +35,7 @@ pub fn entry(
     if k == 0 {
         return resolve_laws::NO_FUEL;
     }
-    let n = resolve_calls::params(t, d);
+    let n = resolve_kids::params(t, d);
     let over = count - n;
     let from = resolve_outcomes::sums::total(out, at + n, over, 0);
     let w = resolve_weights::weigh(t, y, d, out, at, count, from);

@@ -166,6 +166,6 @@ fn enter(
     if r != crate::entries::OPEN {
         return r;
     }
-    let over = count - resolve_calls::params(t, d);
+    let over = count - resolve_kids::params(t, d);
     node(t, u, out, slots, k - 1, y, d, at, count, over, at + count)
 }

@@ -44,7 +44,7 @@ use Rattle.form_emit.proofs.+emit_form+emit_kids+emit_name+emit_node+em
 use Rattle.form_emit.proofs.words.argument_line.Reads as argument-line-reads
 use Rattle.form_emit.proofs.words.leaf_word.Reads as leaf-word-reads
 use Rattle.form_emit.proofs.words.left_word.Reads as left-word-reads
-use Rattle.resolve_calls.proofs.params.Reads as params-reads
+use Rattle.resolve_kids.proofs.params.Reads as params-reads
 use Rattle.form_node_words.proofs.copies.again.Reads as again-reads
 use Rattle.resolve_kids.proofs.kid.Reads as kid-reads
 use Rattle.resolve_kids.proofs.kids.Reads as kids-reads

@@ -8,7 +8,7 @@ use Rattle.table_declared.specs.PassedLaws.{params-few}
 use Rattle.table_access.specs.Tables.{first-of, lines-in}
 use Rattle.resolve_kids.specs.Params.{params-of}
 use Rattle.resolve_kids.specs.ParamsLaws.{count-before-le}
-use Rattle.resolve_calls.specs.CallsLaws.{params-length}
+use Rattle.resolve_kids.specs.ParamsLaws.{params-length}
 use Rattle.form_laws.specs.Nodes.{node}
 use Rattle.form_laws.specs.Forms.{place}
 use Rattle.form_nodes.specs.Words.{word}

@@ -32,7 +32,7 @@ use Rattle.resolve_types.proofs.resolution.once.Kinds as once-kinds
 use Rattle.resolve_types.proofs.resolution.+apply+args+enter+node+once.Lts-once as once-lts
 use Rattle.resolve_kids.proofs.arguments.argument.Reads as argument-reads
 use Rattle.resolve_calls.proofs.copy.Reads as copy-reads
-use Rattle.resolve_calls.proofs.params.Reads as params-reads
+use Rattle.resolve_kids.proofs.params.Reads as params-reads
 use Rattle.resolve_kids.proofs.kid.Reads as kid-reads
 use Rattle.resolve_kids.proofs.kids.Reads as kids-reads
 use Rattle.resolve_memory.proofs.remembering.remember.Reads as remember-reads

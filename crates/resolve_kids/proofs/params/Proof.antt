@@ -1,14 +1,14 @@
--- `resolve_calls::params` meets its contract. Assumes nothing.
+-- `resolve_kids::params` meets its contract. Assumes nothing.
 use Prim.Native.Nat.{_-_}
 use native.Mathlib.Omega.{arith}
-use Rattle.resolve_calls.specs.CallsLaws.{counted-of}
+use Rattle.resolve_kids.specs.ParamsLaws.{counted-of}
 use borrow.Author.Needs.{needs}
 use Rattle.table_declared.specs.PassedLaws.{decls-few}
-use Rattle.resolve_calls.proofs.params.Statement.{statement}
+use Rattle.resolve_kids.proofs.params.Statement.{statement}
 use Rattle.table_access.specs.Tables.{lines-in}
-use Rattle.resolve_calls.proofs.params.Tie as tie
-use Rattle.resolve_calls.proofs.params.Reads as reads
-use Rattle.resolve_calls.proofs.params.Lts as lts
+use Rattle.resolve_kids.proofs.params.Tie as tie
+use Rattle.resolve_kids.proofs.params.Reads as reads
+use Rattle.resolve_kids.proofs.params.Lts as lts
 use Rattle.table_access.proofs.first_param.Reads as first-param-reads
 
 first-param-requires : tie.Need-first-param-requires
