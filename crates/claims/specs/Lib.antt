@@ -1,3 +1,4 @@
+pub mod Starred
 pub mod Unerased
 pub mod ClaimsLaws
 pub mod Claims
