@@ -48,7 +48,7 @@ fn put_behind(z: &[u8], p: &[u32], verdict: usize, left: usize, v: &mut [u8], l:
     ensures { λ _. ⌜ now (l .exit) ≡ take left (now (l .entry)) ++ (encodes 6 (lines-of (now (p .entry))) ++ drop (left + behind (now (p .entry))) (now (l .entry))) ⌝ }
 {
     let end = verdict + z.len();
-    sheet_writer::copier::copy_lines(&mut v[verdict..end], z);
+    sheet_copier::copy_lines(&mut v[verdict..end], z);
     let last = left + LINE * (p.len() / CELLS);
     pattern_put::put_lines(p, &mut l[left..last]);
 }

@@ -15,8 +15,8 @@ ghost use Rattle.table_access.specs.OfSheet.{OfSheet};
 ghost use Rattle.left_laws.specs.Lefts.{Ready, Flagged, Fit, left-written};
 use left_places::Place;
 use left_program::put_decls;
+use sheet_copier::copy_lines;
 use sheet_parts::LINE;
-use sheet_writer::copier::copy_lines;
 
 // Copies the n N lines of the sheet, which are its first, to the front of the output.
 fn put_names(s: &[u8], t: &[u32], out: &mut [u8], n: usize)

@@ -12,7 +12,7 @@ fn edge(sets: &[u64], words: usize, types: usize, body: usize, steps: &mut [u64]
     let row = d * words;
     set_bits::clear(steps, row, words);
     if body < types {
-        set_bits::unions::unite(steps, row, sets, body * words, words);
+        set_unions::unite(steps, row, sets, body * words, words);
     }
 }
 

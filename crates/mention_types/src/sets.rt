@@ -14,7 +14,7 @@ pub fn add_type(sets: &mut [u64], words: usize, y: usize, c: usize)
     requires { ⌜ (c < y) × (y * words + words ≤ length (now sets)) ⌝ }
     ensures { λ _. ⌜ Adds words y (bits.has (now (sets .entry)) (c * words)) (now (sets .entry)) (now (sets .exit)) ⌝ }
 {
-    set_bits::unions::unite_within(sets, y * words, c * words, words);
+    set_unions::unite_within(sets, y * words, c * words, words);
 }
 
 // Word w of the sets of the k types from A line first on, united.

@@ -8,7 +8,7 @@ use lib.Dec.{eqb, ltb}
 use lib.ListN.{length, getD, set, replicate, getD-replicate, length-set, length-take, length-drop}
 use lib.Seq.{getD-set-same, getD-set-other}
 use borrow.Author.Tests.{eqb-true, eqb-false, lt-ltb, ltb-true, ltb-false}
-use Rattle.number_columns.specs.Word.{keyOf}
+use Rattle.number_words.specs.Word.{keyOf}
 use Rattle.sheet.specs.Format.{base}
 use Rattle.sheet.specs.Sheet.{first, count, lines}
 use Rattle.sheet.specs.FirstLaws.{first-le-at}

@@ -7,7 +7,7 @@ ghost use Rattle.meaning.specs.Program.{name-line};
 ghost use Rattle.meaning.specs.Rows as rows;
 ghost use Rattle.row6_spellings.specs.Spellings.{Ranged, textAt, spelled-before};
 ghost use Rattle.row6_spellings.specs.Spellings as spellings;
-ghost use Rattle.number_columns.specs.Word.{keyOf};
+ghost use Rattle.number_words.specs.Word.{keyOf};
 ghost use Rattle.row6_distinct.specs.Keys.{Last, Befores};
 
 fn wide(x: u16) -> usize
@@ -47,7 +47,7 @@ pub fn respelled(s: &[u8], names: usize) -> usize
     let mut before = [0u16; 256];
     let mut i = 0;
     while i < names {
-        let k = number_columns::words::key(row6_spellings::text(s, i));
+        let k = number_words::key(row6_spellings::text(s, i));
         let last = lasts[k];
         if spelled_before(s, i, wide(last), &before) {
             return i;

@@ -13,7 +13,7 @@ fn pass(rows: &mut [u64], words: usize, n: usize, k: usize, i: usize)
     if !set_bits::has(rows, i * words, k) {
         return;
     }
-    set_bits::unions::unite_within(rows, i * words, k * words, words);
+    set_unions::unite_within(rows, i * words, k * words, words);
 }
 
 // What each of the n rows reaches by way of node k.

@@ -1,6 +1,4 @@
 // Sets of numbers as bits in words. A slice of words may hold many sets: `at` is where the words of one begin.
-pub mod unions;
-
 ghost use mathlib.Core.Path.{_≡_};
 ghost use Prim.Native.Nat.{_+_, _*_, _/_, _≤_, _<_};
 ghost use lib.ListN.{length};

@@ -20,7 +20,7 @@ fn put_columns(columns: &[u8; 7]) {
 // A number in six columns, with a space before it.
 fn put_number(n: u32) {
     let mut columns = [32u8; 7];
-    sheet_writer::digits::write_number(&mut columns[1..7], n);
+    sheet_digits::write_number(&mut columns[1..7], n);
     put_columns(&columns);
 }
 

@@ -25,7 +25,7 @@ pub fn cell(l: &[u8], k: usize) -> Number
     requires { ⌜ (32 ≤ length (now l)) × (k < 5) ⌝ }
     ensures { λ r. ⌜ r ≡ line.cell 6 (now (l .entry)) k ⌝ }
 {
-    number_columns::read_number(sheet_parts::number_part(l, k))
+    number_readers::read_number(sheet_parts::number_part(l, k))
 }
 
 // Whether the columns of number k of a line hold one.
@@ -33,7 +33,7 @@ fn has_number(l: &[u8], k: usize) -> bool
     requires { ⌜ (32 ≤ length (now l)) × (k < 5) ⌝ }
     ensures { λ r. ⌜ r ≡ line.isValue (line.cell 6 (now (l .entry)) k) ⌝ }
 {
-    number_columns::is_number(sheet_parts::number_part(l, k))
+    number_readers::is_number(sheet_parts::number_part(l, k))
 }
 
 fn named_shape(n: Number, k: usize) -> Shape

@@ -49,7 +49,7 @@ fn blank(t: &[u8], from: usize) -> bool
         if n - i < 4 {
             return blank_rest(t, i);
         }
-        if !number_columns::words::four_spaces(t[i], t[i + 1], t[i + 2], t[i + 3]) {
+        if !number_words::four_spaces(t[i], t[i + 1], t[i + 2], t[i + 3]) {
             return false;
         }
         i += 4;

@@ -1,13 +1,10 @@
 // Writes lines of a letter and five numbers into the parts of an output that hold them.
-pub mod copier;
-pub mod digits;
-
 ghost use mathlib.Core.Path.{_≡_};
 ghost use Prim.Native.Nat.{suc, _*_, _≤_};
 ghost use lib.ListN.{length};
 ghost use Rattle.sheet.specs.Line.{row, encode};
 ghost use Rattle.sheet.specs.Output.{putAt};
-use crate::digits::write_six;
+use sheet_digits::write_six;
 use sheet_parts::COLUMNS;
 use sheet_parts::LAST;
 use sheet_parts::LINE;

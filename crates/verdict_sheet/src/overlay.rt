@@ -22,7 +22,7 @@ pub fn copy(s: &[u8], out: &mut [u8])
     ensures { λ _. ⌜ now (out .exit) ≡ now (s .entry) ++ drop (length (now (s .entry))) (now (out .entry)) ⌝ }
 {
     let n = s.len();
-    sheet_writer::copier::copy_lines(&mut out[0..n], s);
+    sheet_copier::copy_lines(&mut out[0..n], s);
 }
 
 // The places of a line's first three numbers, where each has one digit.

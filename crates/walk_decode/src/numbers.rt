@@ -149,7 +149,7 @@ fn small(s: &[u8]) -> u32
     requires { ⌜ length (now s) ≡ 6 ⌝ }
     ensures { λ r. ⌜ (r < 1000 → col.read (now (s .entry)) ≡ Value r) ⌝ }
 {
-    if number_columns::words::four_spaces(s[0], s[1], s[2], s[3]) {
+    if number_words::four_spaces(s[0], s[1], s[2], s[3]) {
         return pair(s[4] as u32, s[5] as u32);
     }
     if three_spaces(s) {
@@ -177,7 +177,7 @@ pub fn number(s: &[u8]) -> Number
 {
     let n = s.len();
     if n > 6 {
-        if !number_columns::words::four_spaces(s[0], s[1], s[2], s[3]) {
+        if !number_words::four_spaces(s[0], s[1], s[2], s[3]) {
             return any_number(s);
         }
     }
@@ -190,8 +190,8 @@ pub fn short_number(s: &[u8]) -> Number
     ensures { λ r. ⌜ r ≡ col.read (now (s .entry)) ⌝ }
 {
     let n = s.len();
-    if number_columns::words::four_spaces(s[0], s[1], s[2], s[3]) {
-        if number_columns::words::four_spaces(s[n - 6], s[n - 5], s[n - 4], s[n - 3]) {
+    if number_words::four_spaces(s[0], s[1], s[2], s[3]) {
+        if number_words::four_spaces(s[n - 6], s[n - 5], s[n - 4], s[n - 3]) {
             return one(s[n - 2] as u32, s[n - 1] as u32);
         }
     }

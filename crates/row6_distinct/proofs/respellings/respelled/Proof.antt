@@ -5,7 +5,7 @@ use Prim.Native.Nat.{_-_, _/_, _<_, _≤_}
 use native.Mathlib.Omega.{arith}
 use lib.ListN.{length}
 use borrow.Author.Needs.{needs}
-use Rattle.number_columns.specs.Word.{keyOf}
+use Rattle.number_words.specs.Word.{keyOf}
 use Rattle.sheet.specs.Sheet.{first, count, lines}
 use Rattle.meaning.specs.Program.{name-line}
 use Rattle.meaning.specs.Rows.{count-of}

@@ -4,7 +4,7 @@ use Prim.Native.Nat.{_-_, _<_, _≤_}
 use native.Mathlib.Omega.{arith}
 use lib.ListN.{getD}
 use borrow.Author.Needs.{needs}
-use Rattle.number_columns.specs.Word.{keyOf}
+use Rattle.number_words.specs.Word.{keyOf}
 use Rattle.meaning.specs.Rows.{equal}
 use Rattle.row6_spellings.specs.Spellings.{textAt}
 use Rattle.row6_distinct.specs.Keys.{Last, Clear, clear-last, clear-next, clear-none, clear-found}

@@ -10,7 +10,7 @@ use Rattle.verdict_sheet.proofs.overlay.copy.Statement.{statement}
 use Rattle.verdict_sheet.proofs.overlay.copy.Tie as tie
 use Rattle.verdict_sheet.proofs.overlay.copy.Reads as reads
 use Rattle.verdict_sheet.proofs.overlay.copy.Lts as lts
-use Rattle.sheet_writer.proofs.copier.copy_lines.Reads as copy-lines-reads
+use Rattle.sheet_copier.proofs.copy_lines.Reads as copy-lines-reads
 
 -- src/lib.rt:119:23
 sub-copy-lines : tie.Need-sub-copy-lines
