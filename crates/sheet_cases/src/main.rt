@@ -1,7 +1,7 @@
 // Reads each sheet that an argument names, and writes what is read of it.
 use libc::STDOUT_FILENO;
-use sheet_names::access::Cell;
-use sheet_names::access::Letter;
+use sheet_access::Cell;
+use sheet_access::Letter;
 use sheet_parts::LINE;
 ghost use Prim.Native.Nat.{_≤_};
 ghost use lib.ListN.{length};
@@ -50,7 +50,7 @@ fn put_cell(c: Cell) {
 // The numbers of line i of any bytes, and one too many.
 fn put_cells(s: &[u8], i: usize) {
     for k in 0..6 {
-        put_cell(sheet_names::access::number_at(s, i, k));
+        put_cell(sheet_access::number_at(s, i, k));
     }
 }
 
@@ -59,12 +59,12 @@ fn put_line(s: &[u8], i: usize) {
     put(b"line");
     put_place(i);
     put(b" ");
-    put_letter(sheet_names::access::letter_at(s, i));
+    put_letter(sheet_access::letter_at(s, i));
     put_cells(s, i);
     put(b" [");
     put(sheet_names::name(s, i));
     put(b"] [");
-    put(sheet_names::access::text_at(s, i));
+    put(sheet_access::text_at(s, i));
     put(b"]\n");
 }
 

@@ -1,3 +1,1 @@
-pub mod Access
-pub mod AccessLaws
 pub mod NameLaws

@@ -10,9 +10,9 @@ use Rattle.sheet.specs.Line.{Line, decode, cell, text}
 use Rattle.sheet.specs.Sheet.{count, lineAt, line, textOf, nameText}
 use Rattle.sheet.specs.LineLaws.{Decoded, as-named, as-row, as-bad, decoded}
 use Rattle.sheet.specs.SheetLaws.{line-past}
-use Rattle.sheet_names.specs.declared.access.Cell.{Cell}
-use Rattle.sheet_names.specs.declared.access.Cell.the-variants.{Value, Bad, Past}
-use Rattle.sheet_names.specs.Access.{cellOf, cellAt, textAt}
+use Rattle.sheet_access.specs.declared.Cell.{Cell}
+use Rattle.sheet_access.specs.declared.Cell.the-variants.{Value, Bad, Past}
+use Rattle.sheet_access.specs.Access.{cellOf, cellAt, textAt}
 
 -- the text t of a line with number c, where that is n
 abbrev pub spelled : ℕ → Cell → List ℕ → List ℕ

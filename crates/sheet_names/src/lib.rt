@@ -1,7 +1,5 @@
 // The spellings of names, of any bytes.
-pub mod access;
-
-use crate::access::Cell;
+use sheet_access::Cell;
 ghost use mathlib.Core.Path.{_≡_};
 ghost use Rattle.sheet.specs.Sheet.{nameText};
 
@@ -9,10 +7,10 @@ ghost use Rattle.sheet.specs.Sheet.{nameText};
 pub fn name(s: &[u8], n: usize) -> &[u8]
     ensures { λ r. ⌜ now r ≡ nameText 6 (now (s .entry)) n ⌝ }
 {
-    match access::number_at(s, n, 0) {
+    match sheet_access::number_at(s, n, 0) {
         Cell::Value(m) => {
             if m as usize == n {
-                return access::text_at(s, n);
+                return sheet_access::text_at(s, n);
             }
             &s[0..0]
         }

@@ -4,8 +4,8 @@ use native.Mathlib.Omega.{arith}
 use borrow.Author.Needs.{needs}
 use borrow.Author.Tests.{eq-eqb, ne-eqb}
 use Rattle.sheet.specs.Sheet.{nameText}
-use Rattle.sheet_names.specs.declared.access.Cell.{Cell}
-use Rattle.sheet_names.specs.Access.{textAt}
+use Rattle.sheet_access.specs.declared.Cell.{Cell}
+use Rattle.sheet_access.specs.Access.{textAt}
 use Rattle.sheet_names.specs.NameLaws.{spelled, name-at}
 use Rattle.sheet_names.proofs.name.Statement.{statement}
 use Rattle.sheet_names.proofs.name.Tie as tie

@@ -1,4 +1,4 @@
--- `sheet_names::access::text_at` meets its contract: the part lent is the text of line i. Assumes nothing.
+-- `sheet_access::text_at` meets its contract: the part lent is the text of line i. Assumes nothing.
 use mathlib.Core.Path.{_≡_, _∙_, ap}
 use Prim.Native.Nat.{_≤_}
 use native.Mathlib.Omega.{arith}
@@ -6,11 +6,11 @@ use native.Mathlib.Nat.{add-sub-cancel-left}
 use Rattle.sheet.specs.Line.{decode}
 use Rattle.sheet.specs.SheetLaws.{line-past}
 use Rattle.sheet_lines.specs.Shape.{shapeOf, textIn}
-use Rattle.sheet_names.specs.Access.{textAt}
-use Rattle.sheet_names.specs.AccessLaws.{text-fits, text-lent}
+use Rattle.sheet_access.specs.Access.{textAt}
+use Rattle.sheet_access.specs.AccessLaws.{text-fits, text-lent}
 use borrow.Author.Needs.{needs}
-use Rattle.sheet_names.proofs.access.text_at.Statement.{statement}
-use Rattle.sheet_names.proofs.access.text_at.Tie as tie
+use Rattle.sheet_access.proofs.text_at.Statement.{statement}
+use Rattle.sheet_access.proofs.text_at.Tie as tie
 
 returns : tie.Need-returns
 unfolding textAt

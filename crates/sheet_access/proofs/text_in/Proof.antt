@@ -1,7 +1,7 @@
--- `sheet_names::access::text_in` meets its contract, case by case. Assumes nothing.
+-- `sheet_access::text_in` meets its contract, case by case. Assumes nothing.
 use borrow.Author.Needs.{needs}
-use Rattle.sheet_names.proofs.access.text_in.Statement.{statement}
-use Rattle.sheet_names.proofs.access.text_in.Tie as tie
+use Rattle.sheet_access.proofs.text_in.Statement.{statement}
+use Rattle.sheet_access.proofs.text_in.Tie as tie
 
 returns : tie.Need-returns
 returns c = rw (c .before .l .given .1)

@@ -13,9 +13,9 @@ use Rattle.sheet.specs.LineLaws.{letter-decode, number-decode}
 use Rattle.sheet.specs.SheetLaws.{line-good, text-part, text-le}
 use Rattle.sheet_lines.specs.Shape.{shapeOf, textIn}
 use Rattle.sheet_lines.specs.ShapeLaws.{textIn-shape}
-use Rattle.sheet_names.specs.declared.access.Letter.the-variants.{Byte}
-use Rattle.sheet_names.specs.declared.access.Cell.the-variants.{Value as Held}
-use Rattle.sheet_names.specs.Access.{letterAt, cellAt, textAt}
+use Rattle.sheet_access.specs.declared.Letter.the-variants.{Byte}
+use Rattle.sheet_access.specs.declared.Cell.the-variants.{Value as Held}
+use Rattle.sheet_access.specs.Access.{letterAt, cellAt, textAt}
 
 -- ---- a text of k bytes, as the shape of the line l gives it
 module _ (w k : ℕ) (l : List ℕ) (h : k ≡ textIn (shapeOf (decode w l))) where

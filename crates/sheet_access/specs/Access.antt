@@ -9,10 +9,10 @@ use Rattle.number_columns.specs.declared.Number.the-variants.{Value, Bad}
 use Rattle.number_columns.specs.Column.{pick}
 use Rattle.sheet.specs.Line.{cell, text}
 use Rattle.sheet.specs.Sheet.{count, lineAt, line}
-use Rattle.sheet_names.specs.declared.access.Letter.{Letter}
-use Rattle.sheet_names.specs.declared.access.Letter.the-variants.{Byte, Past}
-use Rattle.sheet_names.specs.declared.access.Cell.{Cell}
-use Rattle.sheet_names.specs.declared.access.Cell.the-variants.{Value as Held, Bad as Unread, Past as Outside}
+use Rattle.sheet_access.specs.declared.Letter.{Letter}
+use Rattle.sheet_access.specs.declared.Letter.the-variants.{Byte, Past}
+use Rattle.sheet_access.specs.declared.Cell.{Cell}
+use Rattle.sheet_access.specs.declared.Cell.the-variants.{Value as Held, Bad as Unread, Past as Outside}
 
 -- the first byte of line i
 unfoldable pub letterAt : ℕ → List ℕ → ℕ → Letter

@@ -1,9 +1,9 @@
--- `sheet_names::access::letter_at` meets its contract, by the count of lines. Assumes nothing.
+-- `sheet_access::letter_at` meets its contract, by the count of lines. Assumes nothing.
 use borrow.Author.Tests.{lt-ltb, le-ltb}
-use Rattle.sheet_names.specs.Access.{letterAt}
+use Rattle.sheet_access.specs.Access.{letterAt}
 use borrow.Author.Needs.{needs}
-use Rattle.sheet_names.proofs.access.letter_at.Statement.{statement}
-use Rattle.sheet_names.proofs.access.letter_at.Tie as tie
+use Rattle.sheet_access.proofs.letter_at.Statement.{statement}
+use Rattle.sheet_access.proofs.letter_at.Tie as tie
 
 returns : tie.Need-returns
 unfolding letterAt

@@ -6,7 +6,7 @@ use sheet_parts::NUMBERS;
 use sheet_parts::TEXT;
 ghost use mathlib.Core.Path.{_≡_};
 ghost use Rattle.sheet_lines.specs.Shape.{textIn};
-ghost use Rattle.sheet_names.specs.Access.{letterAt, cellAt, textAt};
+ghost use Rattle.sheet_access.specs.Access.{letterAt, cellAt, textAt};
 
 // The letter of a line, or that the line is past the end.
 pub enum Letter {

@@ -1,10 +1,10 @@
--- `sheet_names::access::number_at` meets its contract, by the counts of lines and numbers and by what the columns hold. Assumes nothing.
+-- `sheet_access::number_at` meets its contract, by the counts of lines and numbers and by what the columns hold. Assumes nothing.
 use mathlib.Core.Path.{_≡_, sym, _∙_, ap}
 use borrow.Author.Tests.{lt-ltb, le-ltb}
-use Rattle.sheet_names.specs.Access.{cellOf, cellAt}
+use Rattle.sheet_access.specs.Access.{cellOf, cellAt}
 use borrow.Author.Needs.{needs}
-use Rattle.sheet_names.proofs.access.number_at.Statement.{statement}
-use Rattle.sheet_names.proofs.access.number_at.Tie as tie
+use Rattle.sheet_access.proofs.number_at.Statement.{statement}
+use Rattle.sheet_access.proofs.number_at.Tie as tie
 
 returns : tie.Need-returns
 unfolding cellAt
