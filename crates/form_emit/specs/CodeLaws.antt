@@ -22,8 +22,8 @@ use Rattle.resolve_kids.specs.Params.{params-of}
 use Rattle.form_laws.specs.Nodes.{node}
 use Rattle.form_nodes.specs.Words.{word, node-of}
 use Rattle.form_node_words.specs.Own.{y-node}
-use Rattle.form_node_words.specs.Put.{Put, put-none, put-more, put-stop}
-use Rattle.form_node_words.specs.Stands.{stands-put}
+use Rattle.form_puts.specs.Put.{Put, put-none, put-more, put-stop}
+use Rattle.form_puts.specs.Stands.{stands-put}
 use Rattle.keep_layouts.specs.States.{unfold-at, lay-of}
 use Rattle.form_emit.specs.Emit.{run, step, filled, grown, form-words, words, kid-words, Asked}
 use Rattle.form_emit.specs.Filling.{leaf, leaf-var, leaf-own}

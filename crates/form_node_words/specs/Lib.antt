@@ -1,4 +1,2 @@
-pub mod Put
 pub mod Own
 pub mod OwnLaws
-pub mod Stands

@@ -1,8 +1,5 @@
-// The words of nodes: of a Y line's own node, of a variable, and into an array where there is room.
-pub mod copies;
-
+// The words of nodes: of a Y line's own node, and of a variable.
 ghost use mathlib.Core.Path.{_≡_};
-ghost use mathlib.Core.List.{_∷_, []};
 ghost use Prim.Native.Nat.{_+_, _*_, _≤_, _<_};
 ghost use lib.ListN.{length, getD};
 ghost use Rattle.meaning.specs.Program as program;
@@ -13,21 +10,8 @@ ghost use Rattle.form_laws.specs.Nodes.{node};
 ghost use Rattle.model.specs.Decl.{member};
 ghost use Rattle.form_laws.specs.Forms.{place, variable};
 ghost use Rattle.form_nodes.specs.Words.{word};
-ghost use Rattle.form_node_words.specs.Put.{Put};
 ghost use Rattle.form_node_words.specs.Own as specs;
 use form_nodes::pack;
-
-// A word at a place of the array, and the place after it; a place past the end where there is no room.
-pub fn put(out: &mut [u64], at: usize, w: u64) -> usize
-    requires { ⌜ at ≤ length (now out) ⌝ }
-    ensures { λ r. ⌜ Put (w ∷ []) (now (out .entry)) at r (now (out .exit)) ⌝ }
-{
-    if at < out.len() {
-        out[at] = w;
-        return at + 1;
-    }
-    at + 1
-}
 
 // The node of Y line y's type itself, where that is neither a variable nor a name.
 pub fn own_word(t: &[u32], y: usize) -> u64

@@ -25,7 +25,7 @@ use Rattle.form_node_words.specs.Own.{label}
 use Rattle.keep_layouts.specs.States.{body-of, lay-of}
 use Rattle.form_emit.specs.Emit.{form-words, form-of, words}
 use Rattle.form_normal.specs.Tables.{own-words, with-form, Names, counts, Table, Added}
-use Rattle.form_node_words.specs.Put.{Put}
+use Rattle.form_puts.specs.Put.{Put}
 
 -- ---- the words of a type depend on the forms of its unfolded names alone
 alike-self : (l : Unfold) (xs ys : List Node) → (Unfolds l → xs ≡ ys) → Alike l l xs ys

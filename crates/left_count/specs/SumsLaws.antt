@@ -22,7 +22,7 @@ use Rattle.keep_layouts.specs.Kept.{body-kind, field-type}
 use Rattle.form_laws.specs.Nodes.{post, count-args}
 use Rattle.form_laws.specs.NodesLaws.{emit-args}
 use Rattle.form_nodes.specs.Words.{node-of}
-use Rattle.form_node_words.specs.Put.{Put}
+use Rattle.form_puts.specs.Put.{Put}
 use Rattle.form_emit.specs.Emit.{words}
 use Rattle.keep_layouts.specs.States.{state, kept-types, resolves-of}
 use Rattle.left_laws.specs.Lefts.{Ready}

@@ -26,7 +26,7 @@ use Rattle.left_emitter.specs.declared.Pen.{Pen}
 use Rattle.left_emitter.specs.Pens.{Sheet, sheet, moved, write-line, write-lines}
 use Rattle.left_emitter.specs.LaidLaws.{laid, puts-put, Shows, Space, shows-type}
 use Rattle.form_nodes.specs.Words.{node-of}
-use Rattle.form_node_words.specs.Put.{Put}
+use Rattle.form_puts.specs.Put.{Put}
 use Rattle.form_emit.specs.Emit.{words}
 use Rattle.sheet.specs.Sheet.{lines, line}
 use Rattle.form_emit.specs.Left.{left-type}

@@ -8,9 +8,9 @@ use native.Mathlib.Omega.{arith}
 use lib.ListN.{length, getD, take, drop}
 use borrow.Author.Needs.{needs}
 use Rattle.resolve_kids.specs.Nodes.{kids-of}
-use Rattle.form_node_words.specs.Put.{Put, put-none, put-more}
+use Rattle.form_puts.specs.Put.{Put, put-none, put-more}
 use Rattle.resolve_kids.specs.NodesLaws.{node-at}
-use Rattle.form_node_words.specs.Stands.{Stands, stands-put, stands-kept, stands-at, stands-by, put-stands}
+use Rattle.form_puts.specs.Stands.{Stands, stands-put, stands-kept, stands-at, stands-by, put-stands}
 use Rattle.form_emit.specs.Filling.{step-given, step-left}
 use Rattle.form_emit.specs.CodeLaws.{put-same, run-none, run-more, run-stop, filled-none, filled-more, filled-all, filled-stop, put-leaf, put-plain, stop-plain, put-gone, put-stays, stop-stays, stop-form, put-form, put-surplus, surplus-none, surplus-kept, surplus-stop, surplus-put, grown-word, below, state-below, count-few, name-kids, asked-kid}
 use Rattle.form_emit.specs.Emit.{run, filled, words, kid-words}
@@ -45,11 +45,11 @@ use Rattle.form_emit.proofs.words.argument_line.Reads as argument-line-
 use Rattle.form_emit.proofs.words.leaf_word.Reads as leaf-word-reads
 use Rattle.form_emit.proofs.words.left_word.Reads as left-word-reads
 use Rattle.resolve_kids.proofs.params.Reads as params-reads
-use Rattle.form_node_words.proofs.copies.again.Reads as again-reads
+use Rattle.form_puts.proofs.again.Reads as again-reads
 use Rattle.resolve_kids.proofs.kid.Reads as kid-reads
 use Rattle.resolve_kids.proofs.kids.Reads as kids-reads
 use Rattle.form_node_words.proofs.own_word.Reads as own-word-reads
-use Rattle.form_node_words.proofs.put.Reads as put-reads
+use Rattle.form_puts.proofs.put.Reads as put-reads
 use Rattle.form_node_words.proofs.state.Reads as state-reads
 use Rattle.form_nodes.proofs.count.Reads as count-reads
 use Rattle.form_nodes.proofs.kind.Reads as kind-reads

@@ -1,8 +1,8 @@
--- `form_node_words::put` meets its contract, whether there is room or not. Assumes nothing.
-use Rattle.form_node_words.specs.Put.{put-one, put-past}
+-- `form_puts::put` meets its contract, whether there is room or not. Assumes nothing.
+use Rattle.form_puts.specs.Put.{put-one, put-past}
 use borrow.Author.Needs.{needs}
-use Rattle.form_node_words.proofs.put.Statement.{statement}
-use Rattle.form_node_words.proofs.put.Tie as tie
+use Rattle.form_puts.proofs.put.Statement.{statement}
+use Rattle.form_puts.proofs.put.Tie as tie
 
 returns : tie.Need-returns
 returns c = put-one _ _ _ (c .if1 .taken)

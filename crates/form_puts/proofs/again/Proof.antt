@@ -1,4 +1,4 @@
--- `form_node_words::copies::again` meets its contract: after i turns the first i words are copied. Assumes nothing.
+-- `form_puts::again` meets its contract: after i turns the first i words are copied. Assumes nothing.
 use mathlib.Core.Path.{_≡_, refl, ap, sym, _∙_}
 use mathlib.Core.List.{List, _++_, append-assoc}
 use Prim.Native.Nat.{ℕ, _+_, _-_, _≤_, _<_}
@@ -7,9 +7,9 @@ use native.Mathlib.Numerals.{add-one}
 use lib.ListN.{length, getD, take, drop, set, length-set, length-drop}
 use lib.Seq.{paste, paste-zero, paste-suc, getD-take, getD-drop, take-at, length-take-le}
 use borrow.Author.Needs.{needs}
-use Rattle.form_node_words.specs.Put.{Put}
-use Rattle.form_node_words.proofs.copies.again.Statement.{statement}
-use Rattle.form_node_words.proofs.copies.again.Tie as tie
+use Rattle.form_puts.specs.Put.{Put}
+use Rattle.form_puts.proofs.again.Statement.{statement}
+use Rattle.form_puts.proofs.again.Tie as tie
 
 -- the words in front of the copy are the same
 front-same : (d : List ℕ) (at : ℕ) (s : List ℕ) (i k : ℕ) → at ≤ length d → k < at → getD (paste d at s i) k 0 ≡ getD d k 0

@@ -5,7 +5,7 @@ use Prim.Native.Nat.{ℕ, zero, suc, _-_, _≤_, _<_}
 use native.Mathlib.Omega.{arith}
 use lib.ListN.{length, take, drop}
 use lib.Seq.{take-nil, take-at, drop-at, take-take, length-take-le}
-use Rattle.form_node_words.specs.Put.{Put}
+use Rattle.form_puts.specs.Put.{Put}
 
 -- The words p, from place `from` to place `end`, which is not past place `at`.
 pub record Stands (p out : List ℕ) (from end at : ℕ) : Type 0 where
