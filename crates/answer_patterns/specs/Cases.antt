@@ -29,7 +29,7 @@ abbrev pub told-of : List String → List (List ℕ)
 told-of sheet = answers small sheet 999 999
 
 -- ---- accepted
--- the header and the left declarations of `a = A of (b : int, c : unit)`
+-- the header and the left declarations of `a = A of (b : exn, c : unit)`
 abbrev pub lap-names : List String
 lap-names = "N     0a" ∷ "N     1A" ∷ "N     2b" ∷ "N     3c" ∷ []
 
