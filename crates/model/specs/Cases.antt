@@ -79,8 +79,8 @@ use Rattle.model.specs.Decl.{
 }
 use Rattle.model.specs.Erasure.{round, cty-erased, fields-erased, body-erased, dtype-erased, marked, rule-of, rule, update, sweep, same, Settled, settle, start-of, start, erasure-fixpoint}
 use Rattle.model.specs.Reach.{go, cyclic}
-use Rattle.model.specs.Layout.{slots, kept, ctor-layout, ctor-layouts, first-kept, newtype-of-ctor, newtype-of, candidate, candidates, positions, type-names, steps, payload, guard-next, dropped, collapse, layout-of-body, layout-of, compute-layouts}
-use Rattle.model.specs.Resolve.{Unfold, gone, newtype, abbreviation, stays, unfolded, unfold-body, unfold-dtype, unfold-of, unfolds, unfold-name, attach, instance, applied, resolve, Result, ok, fault, spent, bind, sized, within, surplus, checked-applied, checked, resolve-checked}
+use Rattle.model.specs.Layout.{slots, kept, ctor-layout, ctor-layouts, first-kept, newtype-of-ctor, newtype-of, candidate, candidates, positions, type-names, steps, payload, source-passes, passed, passes, guard-next, dropped, collapse, layout-of-body, layout-of, compute-layouts, source-layouts}
+use Rattle.model.specs.Resolve.{Unfold, gone, newtype, abbreviation, stays, unfolded, abbreviation-of, unfold-body, unfold-dtype, unfold-of, unfolds, unfold-name, attach, instance, applied, resolve, Result, ok, fault, spent, bind, sized, within, surplus, checked-applied, checked, resolve-checked}
 use Rattle.model.specs.Run.{all-in, collapsed-abbrev, resolved-field, resolved-ctor, struct-body, rw-decl, record-body, record-verdict, record-of, info, layouts-of, Ran, run, unfold-next, returns, field-types, resolves, fault-code, decl-fault}
 use Rattle.model.specs.Names.{fields-names, ctors-names, body-names, dtype-names, undeclared, pins}
 
@@ -262,8 +262,13 @@ unfolding table ctor-layouts ctor-layout slots kept cty-erased ctors-of
 laid-out b = ctor-layouts er (decl t 0 [] b .dtype)
 
 unfoldable pub layouts : List Decl → List Layout
-unfolding layouts-of erasure-fixpoint settle start start-of rule rule-of update sweep round same marked position dtype-erased body-erased fields-erased cty-erased has-flag compute-layouts candidates candidate table ctor-layouts ctor-layout slots kept ctors-of first-kept newtype-of newtype-of-ctor uninline positions type-names steps payload names-of-cty gather guard-next dropped cyclic go collapse layout-of-body layout-of
+unfolding layouts-of erasure-fixpoint settle start start-of rule rule-of update sweep round same marked position dtype-erased body-erased fields-erased cty-erased has-flag compute-layouts candidates candidate table ctor-layouts ctor-layout slots kept ctors-of first-kept newtype-of newtype-of-ctor uninline positions type-names steps passes passed abbreviation-of unfold-of unfold-dtype unfold-body names-of-cty gather guard-next dropped cyclic go collapse layout-of-body layout-of
 layouts = layouts-of
+
+-- with the source's guard
+unfoldable pub source-laid : List Decl → List Layout
+unfolding layouts source-layouts source-passes payload
+source-laid ds = source-layouts ds (erasure-fixpoint ds .marks)
 
 unfoldable pub number-of : Layout → ℕ
 unfolding layout-number
@@ -603,7 +608,6 @@ layout-cases =
     ∷ layouts (wrap t (app l (TBuf (name t) ∷ [])) ∷ []) gives (struct (app l (TBuf (name t) ∷ [])) ∷ [])
     -- not where it only leads to a loop, nor through what is no candidate or no payload
     ∷ layouts (wrap t (name p) ∷ wrap p (name p) ∷ []) gives (newt A x 0 (name p) ∷ struct (name p) ∷ [])
-    ∷ layouts (wrap t (name p) ∷ abbr p (name t) ∷ []) gives (newt A x 0 (name p) ∷ L-abbrev (name t) ∷ [])
     ∷ layouts (wrap t (name p) ∷ decl p NoNewtype [] (one A (field x (name t) ∷ [])) ∷ [])
     gives (newt A x 0 (name p) ∷ struct (name t) ∷ [])
     ∷ layouts (wrap t (TBuf (name p)) ∷ decl p Erased [] (one A (field x (name t) ∷ [])) ∷ []) gives (newt A x 0 (TBuf (name p)) ∷ L-erased ∷ [])
@@ -611,6 +615,19 @@ layout-cases =
     -- but through a candidate that is itself dropped
     ∷ layouts (wrap p (tuple (name p ∷ name t ∷ [])) ∷ wrap t (name p) ∷ [])
     gives (struct (tuple (name p ∷ name t ∷ [])) ∷ struct (name p) ∷ [])
+    -- and through unfolded abbreviations, local and imported, whatever the arguments; an import by its layout, and not by its mark
+    ∷ layouts (wrap t (name p) ∷ abbr p (name t) ∷ []) gives (struct (name p) ∷ L-abbrev (name t) ∷ [])
+    ∷ layouts (wrap t (app p (int ∷ [])) ∷ abbr p (name q) ∷ abbr q (TBuf (name t)) ∷ [])
+    gives (struct (app p (int ∷ [])) ∷ L-abbrev (name q) ∷ L-abbrev (TBuf (name t)) ∷ [])
+    ∷ layouts (wrap t (TBuf (name p)) ∷ import (abbr p (name t)) (verdict true (L-abbrev (name t)) [] false) ∷ [])
+    gives (struct (TBuf (name p)) ∷ L-abbrev (name t) ∷ [])
+    ∷ layouts (wrap t (name p) ∷ abbr p (name q) ∷ wrap q (tuple (name q ∷ name t ∷ [])) ∷ [])
+    gives (struct (name p) ∷ L-abbrev (name q) ∷ struct (tuple (name q ∷ name t ∷ [])) ∷ [])
+    -- not through erased ones, nor through those whose names stay
+    ∷ layouts (wrap t (TBuf (name p)) ∷ decl p Erased [] (TAbbrev (name t)) ∷ []) gives (newt A x 0 (TBuf (name p)) ∷ L-erased ∷ [])
+    ∷ layouts (wrap t (TBuf (name p)) ∷ import (abbr p (name t)) (verdict false L-erased [] false) ∷ []) gives (newt A x 0 (TBuf (name p)) ∷ L-erased ∷ [])
+    ∷ layouts (wrap t (name p) ∷ decl p NoUnfold [] (TAbbrev (name t)) ∷ []) gives (newt A x 0 (name p) ∷ L-abbrev (name t) ∷ [])
+    ∷ layouts (wrap t (name p) ∷ decl p Realized [] (TAbbrev (name t)) ∷ []) gives (newt A x 0 (name p) ∷ L-abbrev (name t) ∷ [])
     -- a name that stands twice, and is followed once
     ∷ layouts (wrap t (tuple (name p ∷ name p ∷ name q ∷ [])) ∷ wrap p (name p) ∷ wrap q (name t) ∷ [])
     gives (struct (tuple (name p ∷ name p ∷ name q ∷ [])) ∷ struct (name p) ∷ struct (name t) ∷ [])
@@ -623,6 +640,19 @@ layout-cases =
 pub layouts-computed : Passed layout-cases
 unfolding layout-cases
 layouts-computed = refl
+
+-- the source's guard: through payloads of candidates, dropped ones too, and not through abbreviations
+unfoldable pub source-cases : List (Case (List Layout))
+unfolding source-laid list
+source-cases =
+    source-laid (wrap t (name p) ∷ abbr p (name t) ∷ []) gives (newt A x 0 (name p) ∷ L-abbrev (name t) ∷ [])
+    ∷ source-laid (wrap p (tuple (name p ∷ name t ∷ [])) ∷ wrap t (name p) ∷ [])
+    gives (struct (tuple (name p ∷ name t ∷ [])) ∷ struct (name p) ∷ [])
+    ∷ []
+
+pub source-guarded : Passed source-cases
+unfolding source-cases
+source-guarded = refl
 
 -- the numbers of layouts (FORMAT, section 2), and the places of names
 unfoldable pub number-cases : List (Case (List ℕ))
@@ -952,10 +982,12 @@ unfolding returning list
 return-cases =
     -- through abbreviations and newtypes, and not from a name that only leads to a loop
     returning (abbr p (name p) ∷ abbr q (name p) ∷ []) gives (true ∷ false ∷ [])
-    ∷ returning (wrap t (name p) ∷ abbr p (name t) ∷ []) gives (true ∷ true ∷ [])
+    ∷ returning (wrap t (name p) ∷ import (wrap p (name t)) (verdict false (newt A x 0 (name t)) [] false) ∷ []) gives (true ∷ true ∷ [])
+    ∷ returning (import (wrap p (name q)) (verdict false (newt A x 0 (name q)) [] false) ∷ abbr q (name p) ∷ []) gives (true ∷ true ∷ [])
     ∷ returning (abbr p (tuple (name q ∷ TBuf (name p) ∷ [])) ∷ abbr q int ∷ []) gives (true ∷ false ∷ [])
     -- not through what is not unfolded: a struct, an abbreviation that stays, an erased one
     ∷ returning (wrap t (name t) ∷ []) gives (false ∷ [])
+    ∷ returning (wrap t (name p) ∷ abbr p (name t) ∷ []) gives (false ∷ false ∷ [])
     ∷ returning (decl p NoUnfold [] (TAbbrev (name q)) ∷ abbr q (name p) ∷ []) gives (false ∷ false ∷ [])
     ∷ returning (decl p Erased [] (TAbbrev (name q)) ∷ decl q Realized [] (TAbbrev (name p)) ∷ []) gives (false ∷ false ∷ [])
     ∷ []

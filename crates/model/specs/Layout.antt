@@ -41,6 +41,7 @@ use Rattle.model.specs.Decl.{
 }
 use Rattle.model.specs.Erasure.{cty-erased, marked}
 use Rattle.model.specs.Reach.{cyclic}
+use Rattle.model.specs.Resolve.{abbreviation-of, unfold-of}
 
 -- ---- ctor_layouts
 unfoldable pub slots : (ℕ → Bool) → List Field → List Bool
@@ -95,6 +96,23 @@ candidates ds er s =
 abbrev pub candidates-of : List Decl → List Bool → List (Option NewtypeLayout)
 candidates-of ds s = candidates ds (marked ds s) s
 
+-- ---- layouts of declarations
+unfoldable pub collapse : Bool → Option NewtypeLayout → List CtorLayout → Layout
+collapse true cand cls = L-struct cls
+collapse false none cls = L-struct cls
+collapse false (some nt) cls = L-newtype nt
+
+unfoldable pub layout-of-body : Body → Bool → Option NewtypeLayout → List CtorLayout → Layout
+layout-of-body TAbstract drop cand cls = L-opaque
+layout-of-body (TAbbrev c) drop cand cls = L-abbrev c
+layout-of-body (TRecord fs) drop cand cls = collapse drop cand cls
+layout-of-body (TVariant cs) drop cand cls = collapse drop cand cls
+
+unfoldable pub layout-of : Dtype → Origin → Bool → Bool → Option NewtypeLayout → List CtorLayout → Layout
+layout-of d (imported ti) e drop cand cls = ti .ti-layout
+layout-of d here true drop cand cls = L-erased
+layout-of d here false drop cand cls = layout-of-body (d .dt-body) drop cand cls
+
 -- ---- acyclic_candidates
 unfoldable pub positions : List Decl → List ℕ → List ℕ
 positions ds [] = []
@@ -117,37 +135,50 @@ unfoldable pub payload : Option NewtypeLayout → Option Cty
 payload none = none
 payload (some nt) = some (nt .nt-ty)
 
--- the guard goes on through the payloads of candidates
-unfoldable pub guard-next : List Decl → List (Option NewtypeLayout) → ℕ → List ℕ
-guard-next ds cands = steps ds (λ i. payload (getD cands i none))
+-- The source's guard goes on through the payloads of candidates, dropped ones too.
+unfoldable pub source-passes : List (Option NewtypeLayout) → List (Option Cty)
+source-passes cands = map payload cands
+
+-- The guard here goes on through the bodies of unfolded abbreviations besides: local ones that are not
+-- erased and imported ones whose layout is not, without `Realized` and `NoUnfold` (`unfold-of`). A
+-- declaration that is no candidate becomes the same whatever is dropped.
+unfoldable pub passed : Dtype → Origin → Bool → Option NewtypeLayout → Option Cty
+passed d o e none = abbreviation-of (unfold-of d (layout-of d o e true none []))
+passed d o e (some nt) = some (nt .nt-ty)
+
+unfoldable pub passes : List Decl → List Bool → List (Option NewtypeLayout) → List (Option Cty)
+passes ds s cands = table (λ i. passed (dtype-at ds i) (origin-at ds i) (getD s i false) (getD cands i none)) (length ds)
+
+-- what the guard goes on through in a program with these marks
+abbrev pub passes-of : List Decl → List Bool → List (Option Cty)
+passes-of ds s = passes ds s (candidates-of ds s)
+
+-- the guard's steps, by a table of what is gone on through
+unfoldable pub guard-next : List Decl → List (Option Cty) → ℕ → List ℕ
+guard-next ds through = steps ds (λ i. getD through i none)
+
+-- the steps of the source's guard
+abbrev pub source-guard-next : List Decl → List (Option NewtypeLayout) → ℕ → List ℕ
+source-guard-next ds cands = guard-next ds (source-passes cands)
 
 -- Layout's `acyclic_candidates`: whether candidate i is dropped
-unfoldable pub dropped : List Decl → List (Option NewtypeLayout) → ℕ → Bool
-dropped ds cands i = cyclic (guard-next ds cands) (length ds) i
+unfoldable pub dropped : List Decl → List (Option Cty) → ℕ → Bool
+dropped ds through i = cyclic (guard-next ds through) (length ds) i
 
 -- ---- compute_layouts
-unfoldable pub collapse : Bool → Option NewtypeLayout → List CtorLayout → Layout
-collapse true cand cls = L-struct cls
-collapse false none cls = L-struct cls
-collapse false (some nt) cls = L-newtype nt
-
-unfoldable pub layout-of-body : Body → Bool → Option NewtypeLayout → List CtorLayout → Layout
-layout-of-body TAbstract drop cand cls = L-opaque
-layout-of-body (TAbbrev c) drop cand cls = L-abbrev c
-layout-of-body (TRecord fs) drop cand cls = collapse drop cand cls
-layout-of-body (TVariant cs) drop cand cls = collapse drop cand cls
-
-unfoldable pub layout-of : Dtype → Origin → Bool → Bool → Option NewtypeLayout → List CtorLayout → Layout
-layout-of d (imported ti) e drop cand cls = ti .ti-layout
-layout-of d here true drop cand cls = L-erased
-layout-of d here false drop cand cls = layout-of-body (d .dt-body) drop cand cls
-
--- Layout's `compute_layouts`
-unfoldable pub compute-layouts : List Decl → List Bool → List Layout
-compute-layouts ds s =
+-- Layout's `compute_layouts`, by what its guard goes on through
+abbrev pub layouts-by : List Decl → List Bool → List (Option Cty) → List Layout
+layouts-by ds s through =
     let er : ℕ → Bool = marked ds s in
     let cands : List (Option NewtypeLayout) = candidates ds er s in
-    table (λ i. layout-of (dtype-at ds i) (origin-at ds i) (getD s i false) (dropped ds cands i) (getD cands i none) (ctor-layouts er (dtype-at ds i))) (length ds)
+    table (λ i. layout-of (dtype-at ds i) (origin-at ds i) (getD s i false) (dropped ds through i) (getD cands i none) (ctor-layouts er (dtype-at ds i))) (length ds)
+
+unfoldable pub compute-layouts : List Decl → List Bool → List Layout
+compute-layouts ds s = layouts-by ds s (passes-of ds s)
+
+-- the layouts with the source's guard
+unfoldable pub source-layouts : List Decl → List Bool → List Layout
+source-layouts ds s = layouts-by ds s (source-passes (candidates-of ds s))
 
 -- ---- what is claimed of them
 -- What makes a declaration a candidate for a newtype: it is not erased, has not the flag `NoNewtype`,

@@ -12,6 +12,11 @@ module _ (next : ℕ → List ℕ) where
     one : {a b : ℕ} → List·Memᴰ b (next a) → Reach a b
     more : {a b c : ℕ} → List·Memᴰ b (next a) → Reach b c → Reach a c
 
+  -- the nodes that are left on the way, the first among them; on a way back to it, all
+  unfoldable pub nodes : {a b : ℕ} → Reach a b → List ℕ
+  nodes (one {a} m) = a ∷ []
+  nodes (more {a} m r) = a ∷ nodes r
+
   -- `go` of the source's `acyclic_candidates`: true at the first node equal to the start. The fuel
   -- counts the nodes that are marked.
   unfoldable pub go : ℕ → ℕ → List ℕ → List Bool → Bool

@@ -71,6 +71,13 @@ unfolded (newtype ps c) = some c
 unfolded (abbreviation ps c) = some c
 unfolded stays = none
 
+-- the type that an unfolded abbreviation stands for
+unfoldable pub abbreviation-of : Unfold → Option Cty
+abbreviation-of gone = none
+abbreviation-of (newtype ps c) = none
+abbreviation-of (abbreviation ps c) = some c
+abbreviation-of stays = none
+
 unfoldable pub unfold-body : List ℕ → Body → Unfold
 unfold-body ps TAbstract = stays
 unfold-body ps (TAbbrev c) = abbreviation ps c

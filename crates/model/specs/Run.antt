@@ -1,5 +1,6 @@
 -- The pass over a program of types: `rw_decl`, `collapsed_abbrev`, `record_verdict` and `run` of the
 -- source's Layout file. Assumes nothing.
+use mathlib.Core.Path.{_≡_}
 use mathlib.Core.List.{List, [], _∷_, map}
 use mathlib.Core.Bool.{Bool, true, false, _&&_, not}
 use mathlib.Core.Option.{Option, none, some}
@@ -20,6 +21,7 @@ use Rattle.model.specs.Decl.{
   SourceRecord,
   has-flag,
   CtorLayout,
+  NewtypeLayout,
   Layout,
   L-erased,
   L-newtype,
@@ -39,7 +41,7 @@ use Rattle.model.specs.Decl.{
 use Rattle.model.specs.Erasure.{Settled, marked, erasure-fixpoint}
 use Rattle.model.specs.Layout.{ctor-layouts, compute-layouts, steps}
 use Rattle.model.specs.Reach.{cyclic}
-use Rattle.model.specs.Resolve.{Unfold, stays, unfolded, unfolds, unfold-name, resolve, Result, ok, fault, spent, resolve-checked}
+use Rattle.model.specs.Resolve.{Unfold, stays, unfolded, abbreviation-of, unfolds, unfold-name, resolve, Result, ok, fault, spent, resolve-checked}
 
 -- ---- the left declaration
 abbrev pub with-body : Dtype → Body → Dtype
@@ -160,6 +162,18 @@ unfold-next ds ls = steps ds (λ i. unfolded (getD (unfolds ds ls) i stays))
 -- row 8: an unfolded name reaches itself
 unfoldable pub returns : List Decl → List Layout → ℕ → Bool
 returns ds ls i = cyclic (unfold-next ds ls) (length ds) i
+
+-- What the claims say of such loops: declaration i is an abbreviation that is unfolded.
+pub record Abbreviates (ds : List Decl) (ls : List Layout) (i : ℕ) : Type 0 where
+  pub type : Cty
+  pub unfolds-to : abbreviation-of (getD (unfolds ds ls) i stays) ≡ some type
+
+-- Declaration i is imported as a newtype.
+pub record ImportedNewtype (ds : List Decl) (i : ℕ) : Type 0 where
+  pub verdict : TypeInfo
+  pub newtype : NewtypeLayout
+  pub is-imported : origin-at ds i ≡ imported verdict
+  pub is-newtype : verdict .ti-layout ≡ L-newtype newtype
 
 unfoldable pub field-types : List CtorLayout → List Cty
 field-types [] = []
