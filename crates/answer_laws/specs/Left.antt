@@ -21,7 +21,7 @@ use Rattle.sheet.specs.ListLaws.{false-true, both, one-of, Every, every-map}
 use Rattle.model.specs.Cty.{Cty, size}
 use Rattle.model.specs.Decl.{NewtypeLayout, Field, Body, TAbstract, TAbbrev, TRecord, TVariant, Dtype, ctors-of, ctors-of-tydef, CtorLayout, L-erased, L-struct, L-opaque, TypeInfo, Origin, here, imported, Decl, no-decl, dtype-at, origin-at, close-fields}
 use Rattle.model.specs.Erasure.{marked, erasure-fixpoint}
-use Rattle.model.specs.Layout.{collapse, ctor-layouts, newtype-of-ctor, newtype-of, dropped, layout-of, candidates-of}
+use Rattle.model.specs.Layout.{collapse, ctor-layouts, newtype-of-ctor, newtype-of, dropped, layout-of, candidates-of, passes-of}
 use Rattle.model.specs.Resolve.{stays, resolve}
 use Rattle.model.specs.Run.{left-program, layouts-of, run, returns, resolves, decl-fault, lay, layout-of-decl, left-at}
 use Rattle.meaning.specs.Program.{name-line, arg-line, type-line, local-line, param-line, ctor-line, field-line, verdict-line, import-line, is, is-head, select, before, Group, keeps-of, ctor-layouts-by, abbreviated, layout-by, info-of, verdict-of, trees, dtype-of, decl-of, program}
@@ -228,8 +228,8 @@ module _ (ls : List Line) (pass : Clear (length ls) (row7 ls)) where
       cand : Option NewtypeLayout
       cand = getD (candidates-of ds s) i none
 
-      go : (o : Origin) → origin-at ds i ≡ o → Matches (dtype-at ds i .dt-body) (layout-of (dtype-at ds i) o (getD s i false) (dropped ds (candidates-of ds s) i) cand (ctor-layouts (marked ds s) (dtype-at ds i)))
-      go here e = layout-matches (marked ds s) (dtype-at ds i) (getD s i false) (dropped ds (candidates-of ds s) i) cand
+      go : (o : Origin) → origin-at ds i ≡ o → Matches (dtype-at ds i .dt-body) (layout-of (dtype-at ds i) o (getD s i false) (dropped ds (passes-of ds s) i) cand (ctor-layouts (marked ds s) (dtype-at ds i)))
+      go here e = layout-matches (marked ds s) (dtype-at ds i) (getD s i false) (dropped ds (passes-of ds s) i) cand
       go (imported ti) e =
           let r : HeadAt ls i = head-at ls i (omega (arith, length-program ls)) in
           let q = ap (λ (k : ℕ). getD ds k no-decl) (sym (r .passed)) ∙ program-at ls (r .place) no-decl (r .inside) (r .heads-it) in

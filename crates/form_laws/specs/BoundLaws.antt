@@ -53,7 +53,7 @@ use Rattle.model.specs.Decl.{
   close-fields,
 }
 use Rattle.model.specs.Erasure.{marked, erasure-fixpoint}
-use Rattle.model.specs.Layout.{layouts-of-ctors, slots, kept, ctor-layout, ctor-layouts, newtype-of-ctor, newtype-of, candidate, dropped, collapse, layout-of-body, layout-of, candidates-of}
+use Rattle.model.specs.Layout.{layouts-of-ctors, slots, kept, ctor-layout, ctor-layouts, newtype-of-ctor, newtype-of, candidate, dropped, collapse, layout-of-body, layout-of, candidates-of, passes-of}
 use Rattle.meaning.specs.Program.{import-line, is, is-head, Group, groups, keeps-of, ctor-layouts-by, abbreviated, layout-by, info-of, verdict-of, dtype-of, decl-of, trees, program}
 use Rattle.model.specs.Resolve.{Unfold, gone, newtype, abbreviation, stays, unfold-body, unfold-dtype, unfold-of}
 use Rattle.model.specs.Run.{layouts-of, lay, layout-of-decl}
@@ -264,8 +264,8 @@ module _ (ds : List Decl) (closed : Every Closed ds) where
           rw (getD-candidates ds (marked ds s) s i none h)
           (candidate-payload (Bounded ps) up (dtype-at ds i) (origin-at ds i) (getD s i false) cls (layouts-types (Bounded ps) up (marked ds s) (ctors-of-tydef (dtype-at ds i)) (ctors-types (Bounded ps) up (dtype-at ds i .dt-name) (dtype-at ds i .dt-body) (every-at Closed no-decl ds closed i h .types))))
 
-      go : (o : Origin) → origin-at ds i ≡ o → OriginPayload ps o → Payload (Bounded ps) up (layout-of (dtype-at ds i) o (getD s i false) (dropped ds (candidates-of ds s) i) cand cls)
-      go here e k = local-payload (Bounded ps) up (dtype-at ds i) (getD s i false) (dropped ds (candidates-of ds s) i) cand cls cand-bounded
+      go : (o : Origin) → origin-at ds i ≡ o → OriginPayload ps o → Payload (Bounded ps) up (layout-of (dtype-at ds i) o (getD s i false) (dropped ds (passes-of ds s) i) cand cls)
+      go here e k = local-payload (Bounded ps) up (dtype-at ds i) (getD s i false) (dropped ds (passes-of ds s) i) cand cls cand-bounded
       go (imported ti) e k = k
 
   dtype-bound : (d : Dtype) → BodyTypes (Bounded (d .dt-params)) (d .dt-body) → BodyBound (unfold-dtype d)

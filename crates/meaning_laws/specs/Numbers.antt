@@ -90,7 +90,7 @@ use Rattle.model.specs.Decl.{
   close-fields,
 }
 use Rattle.model.specs.Erasure.{marked, erasure-fixpoint}
-use Rattle.model.specs.Layout.{layouts-of-ctors, slots, kept, ctor-layout, ctor-layouts, newtype-of-ctor, newtype-of, candidate, dropped, collapse, layout-of-body, layout-of, compute-layouts, candidates-of}
+use Rattle.model.specs.Layout.{layouts-of-ctors, slots, kept, ctor-layout, ctor-layouts, newtype-of-ctor, newtype-of, candidate, dropped, collapse, layout-of-body, layout-of, compute-layouts, candidates-of, passes-of}
 use Rattle.model.specs.Run.{left-program, with-body, all-in, collapsed-abbrev, resolved-field, resolved-ctor, struct-body, rw-decl, somes, layouts-of, run, lay, left-at}
 use Rattle.meaning.specs.Program.{
   arg-line,
@@ -446,7 +446,7 @@ module _ (Q : ℕ → Type 0) (kind : (n : ℕ) → n ≤ 12 → Q n) (down : (m
             let k = ctor-layouts-full (marked ds s) (dtype-at ds i) (f .dtype-full) in
             let n : ℕ = body-fields (dtype-at ds i .dt-body) in
             rw (getD-layouts ds s i L-opaque l)
-            (layout-full (dtype-at ds i) (origin-at ds i) (getD s i false) (dropped ds (candidates-of ds s) i) (getD (candidates-of ds s) i none) (ctor-layouts (marked ds s) (dtype-at ds i)) (f .dtype-full) (f .origin-full)
+            (layout-full (dtype-at ds i) (origin-at ds i) (getD s i false) (dropped ds (passes-of ds s) i) (getD (candidates-of ds s) i none) (ctor-layouts (marked ds s) (dtype-at ds i)) (f .dtype-full) (f .origin-full)
             (rw (getD-candidates ds (marked ds s) s i none l) (candidate-full n (dtype-at ds i) (origin-at ds i) (getD s i false) (ctor-layouts (marked ds s) (dtype-at ds i)) (k .1)))
             k)
         go false e = rw (getD-layouts-past ds s i L-opaque (ltb-false i (length ds) e)) tt

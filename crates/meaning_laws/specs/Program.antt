@@ -51,7 +51,7 @@ use Rattle.model.specs.Decl.{
   close-fields,
 }
 use Rattle.model.specs.Erasure.{cty-erased, marked, erasure-fixpoint}
-use Rattle.model.specs.Layout.{layouts-of-ctors, slots, ctor-layout, ctor-layouts, newtype-of, candidate, candidates, dropped, collapse, layout-of-body, layout-of}
+use Rattle.model.specs.Layout.{layouts-of-ctors, slots, ctor-layout, ctor-layouts, newtype-of, candidate, passes-of, dropped, collapse, layout-of-body, layout-of}
 use Rattle.model.specs.Names.{pin, pins}
 use Rattle.model.specs.Run.{info, run}
 use Rattle.meaning.specs.Program.{
@@ -1282,7 +1282,7 @@ pub run-told : (fuel : ℕ) (ds : List Decl) → AllTold ds (run fuel ds .infos)
 unfolding run
 run-told fuel ds =
     let s : List Bool = erasure-fixpoint ds .marks in
-    told-table ds _ (λ i h. rw (getD-layouts ds s i L-opaque h, getD-candidates ds (marked ds s) s i none h) (info-tells (marked ds s) (dtype-at ds i) (origin-at ds i) (getD s i false) (dropped ds (candidates ds (marked ds s) s) i) _))
+    told-table ds _ (λ i h. rw (getD-layouts ds s i L-opaque h, getD-candidates ds (marked ds s) s i none h) (info-tells (marked ds s) (dtype-at ds i) (origin-at ds i) (getD s i false) (dropped ds (passes-of ds s) i) _))
 
 -- ---- a verdict sheet filled again
 pub fill-all-append : (gs hs : List Group) (tis us : List TypeInfo) → length tis ≡ length gs → fill-all (gs ++ hs) (tis ++ us) ≡ fill-all gs tis ++ fill-all hs us

@@ -1,7 +1,7 @@
 -- Laws of the layouts: what each entry of the tables is, where the steps of the two searches lead, when
 -- a declaration becomes a newtype, and what the layouts depend on. Assumes nothing.
 use mathlib.Core.Logic.{_⊎_, inl, inr, ⊎-elim, _↔_}
-use mathlib.Core.Path.{_≡_, refl, ap, sym, _∙_}
+use mathlib.Core.Path.{_≡_, refl, ap, sym, _∙_, subst}
 use mathlib.Core.List.{List, [], _∷_, List·Memᴰ, List·Memᴰ·head, List·Memᴰ·tail, List·Memᴰ·not-nil, List·Memᴰ·cases-cons, Memᴰ·append-left}
 use mathlib.Core.Bool.{Bool, true, false, _||_}
 use mathlib.Core.Option.{Option, none, some}
@@ -13,16 +13,16 @@ use borrow.Author.Tests.{ltb-false}
 use Rattle.number_columns.specs.Column.{pick}
 use Rattle.sheet.specs.ListLaws.{false-true, same-test}
 use Rattle.model.specs.Cty.{Cty, names-of-cty}
-use Rattle.model.specs.Decl.{table, Field, Ctor, Body, TAbstract, TAbbrev, TRecord, TVariant, Dtype, NoNewtype, has-flag, ctors-of, ctors-of-tydef, CtorLayout, NewtypeLayout, Layout, L-newtype, L-opaque, Origin, here, imported, Decl, dtype-at, origin-at, position}
+use Rattle.model.specs.Decl.{table, Field, Ctor, Body, TAbstract, TAbbrev, TRecord, TVariant, Dtype, NoNewtype, Realized, NoUnfold, has-flag, ctors-of, ctors-of-tydef, CtorLayout, NewtypeLayout, Layout, L-erased, L-newtype, L-struct, L-abbrev, L-opaque, Origin, here, imported, Decl, dtype-at, origin-at, position}
 use Rattle.model.specs.Erasure.{marked}
-use Rattle.model.specs.Layout.{Candidate, candidates-of, layouts-of-ctors, slots, kept, ctor-layout, ctor-layouts, newtype-of-ctor, newtype-of, candidate, candidates, positions, names-in, type-names, steps, payload, guard-next, dropped, collapse, layout-of-body, layout-of, compute-layouts}
-use Rattle.model.specs.Resolve.{Unfold, gone, newtype, abbreviation, stays, unfolded, unfolds}
+use Rattle.model.specs.Layout.{Candidate, candidates-of, passes-of, layouts-of-ctors, slots, kept, ctor-layout, ctor-layouts, newtype-of-ctor, newtype-of, candidate, candidates, positions, names-in, type-names, steps, passed, passes, guard-next, dropped, collapse, layout-of-body, layout-of, compute-layouts}
+use Rattle.model.specs.Resolve.{stays, unfolded, abbreviation-of, unfold-body, unfold-dtype, unfold-of, unfolds}
 use Rattle.model.specs.Run.{unfold-next}
 use Rattle.model_laws.specs.Erasure.{marked-same, ctor-layouts-local}
-use Rattle.model.specs.Names.{fields-names, ctors-names, dtype-names, Declared, Agree, Pin}
+use Rattle.model.specs.Names.{fields-names, ctors-names, body-names, dtype-names, Declared, Agree, Pin}
 use Rattle.model_laws.specs.Names.{position-name, position-same, agree-sym, kept-names, declared-cases, agree-foreign, ctors-own}
-use Rattle.model.specs.Reach.{Reach, one, more}
-use Rattle.model_laws.specs.Reach.{reach-loop, reach-stays, cyclic-iff}
+use Rattle.model.specs.Reach.{Reach}
+use Rattle.model_laws.specs.Reach.{reach-loop, reach-outside, cyclic-iff}
 use Rattle.model_laws.specs.Lists.{getD-table, getD-table-past, table-cong}
 use Rattle.model_laws.specs.Cty.{uninline-names}
 
@@ -44,7 +44,7 @@ getD-candidates-past ds er s i d h = getD-table-past (candidate-at ds er s) (len
 -- what the table of layouts has at place i
 abbrev pub layout-at : List Decl → List Bool → ℕ → Layout
 layout-at ds s i =
-    layout-of (dtype-at ds i) (origin-at ds i) (getD s i false) (dropped ds (candidates-of ds s) i) (getD (candidates-of ds s) i none) (ctor-layouts (marked ds s) (dtype-at ds i))
+    layout-of (dtype-at ds i) (origin-at ds i) (getD s i false) (dropped ds (passes-of ds s) i) (getD (candidates-of ds s) i none) (ctor-layouts (marked ds s) (dtype-at ds i))
 
 pub getD-layouts : (ds : List Decl) (s : List Bool) (i : ℕ) (d : Layout) → i < length ds → getD (compute-layouts ds s) i d ≡ layout-at ds s i
 unfolding compute-layouts
@@ -111,56 +111,51 @@ names-in-iff ds c j =
 pub names-in-below : (ds : List Decl) (c : Cty) (j : ℕ) → List·Memᴰ j (names-in ds c) → j < length ds
 names-in-below ds c j m = positions-placed ds (names-of-cty c) j m .below
 
+pub type-names-below : (ds : List Decl) (o : Option Cty) (j : ℕ) → List·Memᴰ j (type-names ds o) → j < length ds
+unfolding type-names
+type-names-below ds none j m = absurd (List·Memᴰ·not-nil m)
+type-names-below ds (some c) j m = names-in-below ds c j m
+
 -- the steps of the guard stay among the declarations
-pub guard-below : (ds : List Decl) (cands : List (Option NewtypeLayout)) (a b : ℕ) → List·Memᴰ b (guard-next ds cands a) → b < length ds
-unfolding guard-next steps payload type-names
-guard-below ds cands a b m = by (getD cands a none) m
-  where
-    by : (o : Option NewtypeLayout) → List·Memᴰ b (type-names ds (payload o)) → b < length ds
-    by none z = absurd (List·Memᴰ·not-nil z)
-    by (some nt) z = names-in-below ds (nt .nt-ty) b z
+pub guard-below : (ds : List Decl) (through : List (Option Cty)) (a b : ℕ) → List·Memᴰ b (guard-next ds through a) → b < length ds
+unfolding guard-next steps
+guard-below ds through a b m = type-names-below ds (getD through a none) b m
 
 -- and so do the steps of unfolding
 pub unfold-below : (ds : List Decl) (ls : List Layout) (a b : ℕ) → List·Memᴰ b (unfold-next ds ls a) → b < length ds
-unfolding unfold-next steps unfolded type-names
-unfold-below ds ls a b m = by (getD (unfolds ds ls) a stays) m
-  where
-    by : (u : Unfold) → List·Memᴰ b (type-names ds (unfolded u)) → b < length ds
-    by gone z = absurd (List·Memᴰ·not-nil z)
-    by (newtype ps c) z = names-in-below ds c b z
-    by (abbreviation ps c) z = names-in-below ds c b z
-    by stays z = absurd (List·Memᴰ·not-nil z)
+unfolding unfold-next steps
+unfold-below ds ls a b m = type-names-below ds (unfolded (getD (unfolds ds ls) a stays)) b m
 
 -- ---- the guard
--- a step of the guard: a is a candidate, and b the place of a name in its payload
-pub record Step (ds : List Decl) (cands : List (Option NewtypeLayout)) (a b : ℕ) : Type 0 where
-  pub newtype : NewtypeLayout
-  pub is-candidate : getD cands a none ≡ some newtype
-  pub place : Placed ds (names-of-cty (newtype .nt-ty)) b
+-- a step of the guard: it goes on through a type of a, and b is the place of a name in it
+pub record Step (ds : List Decl) (through : List (Option Cty)) (a b : ℕ) : Type 0 where
+  pub type : Cty
+  pub passes : getD through a none ≡ some type
+  pub place : Placed ds (names-of-cty type) b
 
-pub guard-step : (ds : List Decl) (cands : List (Option NewtypeLayout)) (a b : ℕ) → List·Memᴰ b (guard-next ds cands a) → Step ds cands a b
-unfolding guard-next steps payload type-names
-guard-step ds cands a b m = by (getD cands a none) refl m
+pub guard-step : (ds : List Decl) (through : List (Option Cty)) (a b : ℕ) → List·Memᴰ b (guard-next ds through a) → Step ds through a b
+unfolding guard-next steps type-names
+guard-step ds through a b m = by (getD through a none) refl m
   where
-    by : (o : Option NewtypeLayout) → getD cands a none ≡ o → List·Memᴰ b (type-names ds (payload o)) → Step ds cands a b
+    by : (o : Option Cty) → getD through a none ≡ o → List·Memᴰ b (type-names ds o) → Step ds through a b
     by none e z = absurd (List·Memᴰ·not-nil z)
-    by (some nt) e z = record { newtype = nt; is-candidate = e; place = names-in-iff ds (nt .nt-ty) b .0 z }
+    by (some c) e z = record { type = c; passes = e; place = names-in-iff ds c b .0 z }
 
-pub step-guard : (ds : List Decl) (cands : List (Option NewtypeLayout)) (a b : ℕ) → Step ds cands a b → List·Memᴰ b (guard-next ds cands a)
-unfolding guard-next steps payload type-names
-step-guard ds cands a b p = rw (p .is-candidate) (names-in-iff ds (p .newtype .nt-ty) b .1 (p .place))
+pub step-guard : (ds : List Decl) (through : List (Option Cty)) (a b : ℕ) → Step ds through a b → List·Memᴰ b (guard-next ds through a)
+unfolding guard-next steps type-names
+step-guard ds through a b p = rw (p .passes) (names-in-iff ds (p .type) b .1 (p .place))
 
 -- The guard drops what reaches itself.
-pub dropped-iff : (ds : List Decl) (cands : List (Option NewtypeLayout)) (i : ℕ) → (dropped ds cands i ≡ true) ↔ Reach (guard-next ds cands) i i
+pub dropped-iff : (ds : List Decl) (through : List (Option Cty)) (i : ℕ) → (dropped ds through i ≡ true) ↔ Reach (guard-next ds through) i i
 unfolding dropped
-dropped-iff ds cands i = cyclic-iff (guard-next ds cands) (length ds) i (guard-below ds cands)
+dropped-iff ds through i = cyclic-iff (guard-next ds through) (length ds) i (guard-below ds through)
 
-pub not-dropped : (ds : List Decl) (cands : List (Option NewtypeLayout)) (i : ℕ) → (dropped ds cands i ≡ false) ↔ (Reach (guard-next ds cands) i i → ⊥)
-not-dropped ds cands i =
-    (λ e r. false-true (sym e ∙ dropped-iff ds cands i .1 r), λ n. by n (dropped ds cands i) refl)
+pub not-dropped : (ds : List Decl) (through : List (Option Cty)) (i : ℕ) → (dropped ds through i ≡ false) ↔ (Reach (guard-next ds through) i i → ⊥)
+not-dropped ds through i =
+    (λ e r. false-true (sym e ∙ dropped-iff ds through i .1 r), λ n. by n (dropped ds through i) refl)
   where
-    by : (Reach (guard-next ds cands) i i → ⊥) → (b : Bool) → dropped ds cands i ≡ b → b ≡ false
-    by n true e = absurd (n (dropped-iff ds cands i .0 e))
+    by : (Reach (guard-next ds through) i i → ⊥) → (b : Bool) → dropped ds through i ≡ b → b ≡ false
+    by n true e = absurd (n (dropped-iff ds through i .0 e))
     by n false e = refl
 
 -- ---- candidates
@@ -226,19 +221,19 @@ layout-newtype er d e drop nt = (by e refl, back)
         rw (candidate-iff er d e nt .1 (k .0), k .0 .not-erased, k .1) (newtype-body (d .dt-name) (d .dt-body) (k .0 .ctor) nt (ctor-layouts er d) (k .0 .one-ctor))
 
 -- A local declaration becomes a newtype exactly where it is a candidate and does not reach itself
--- through the payloads of candidates.
+-- through the payloads of candidates and the bodies of unfolded abbreviations.
 pub collapsed : (ds : List Decl) (s : List Bool) (i : ℕ)
     → i < length ds
     → origin-at ds i ≡ here
     → (nt : NewtypeLayout)
-    → (getD (compute-layouts ds s) i L-opaque ≡ L-newtype nt) ↔ (Candidate (marked ds s) (dtype-at ds i) (getD s i false) nt × (Reach (guard-next ds (candidates-of ds s)) i i → ⊥))
+    → (getD (compute-layouts ds s) i L-opaque ≡ L-newtype nt) ↔ (Candidate (marked ds s) (dtype-at ds i) (getD s i false) nt × (Reach (guard-next ds (passes-of ds s)) i i → ⊥))
 collapsed ds s i h o nt =
     let d : Dtype = dtype-at ds i in
     let e : Bool = getD s i false in
-    let k = layout-newtype (marked ds s) d e (dropped ds (candidates-of ds s) i) nt in
-    let q : getD (compute-layouts ds s) i L-opaque ≡ layout-of d here e (dropped ds (candidates-of ds s) i) (candidate d here e (ctor-layouts (marked ds s) d)) (ctor-layouts (marked ds s) d) =
+    let k = layout-newtype (marked ds s) d e (dropped ds (passes-of ds s) i) nt in
+    let q : getD (compute-layouts ds s) i L-opaque ≡ layout-of d here e (dropped ds (passes-of ds s) i) (candidate d here e (ctor-layouts (marked ds s) d)) (ctor-layouts (marked ds s) d) =
     getD-layouts ds s i L-opaque h ∙ rw (o, getD-candidates ds (marked ds s) s i none h, o) in
-    (λ z. let r = k .0 (sym q ∙ z) in (r .0, not-dropped ds (candidates-of ds s) i .0 (r .1)), λ z. q ∙ k .1 (z .0, not-dropped ds (candidates-of ds s) i .1 (z .1)))
+    (λ z. let r = k .0 (sym q ∙ z) in (r .0, not-dropped ds (passes-of ds s) i .0 (r .1)), λ z. q ∙ k .1 (z .0, not-dropped ds (passes-of ds s) i .1 (z .1)))
 
 -- ---- names of a payload
 -- A candidate's payload names nothing that its declaration does not.
@@ -270,23 +265,78 @@ candidate-entry ds er s i nt e = by (ltb i (length ds)) refl
         let y : _≡_ {A = ℕ} 0 1 = cc in
         absurd (omega arith)
 
+-- ---- what is gone on through
+-- an unfolded abbreviation stands for its body
+dtype-abbreviation : (d : Dtype) (c : Cty) → abbreviation-of (unfold-dtype d) ≡ some c → d .dt-body ≡ TAbbrev c
+unfolding unfold-dtype unfold-body abbreviation-of
+dtype-abbreviation d c e = go (has-flag d Realized || has-flag d NoUnfold) (d .dt-body) refl e
+  where
+    go : (x : Bool) (b : Body) → d .dt-body ≡ b → abbreviation-of (pick x stays (unfold-body (d .dt-params) b)) ≡ some c → d .dt-body ≡ TAbbrev c
+    go true b q z = let y : _≡_ {A = ℕ} 0 1 = cc in absurd (omega arith)
+    go false TAbstract q z = let y : _≡_ {A = ℕ} 0 1 = cc in absurd (omega arith)
+    go false (TAbbrev t) q z = let y : t ≡ c = cc in q ∙ ap TAbbrev y
+    go false (TRecord fs) q z = let y : _≡_ {A = ℕ} 0 1 = cc in absurd (omega arith)
+    go false (TVariant cs) q z = let y : _≡_ {A = ℕ} 0 1 = cc in absurd (omega arith)
+
+pub abbreviation-body : (d : Dtype) (l : Layout) (c : Cty) → abbreviation-of (unfold-of d l) ≡ some c → d .dt-body ≡ TAbbrev c
+unfolding unfold-of abbreviation-of
+abbreviation-body d L-erased c e = let y : _≡_ {A = ℕ} 0 1 = cc in absurd (omega arith)
+abbreviation-body d (L-newtype nt) c e = let y : _≡_ {A = ℕ} 0 1 = cc in absurd (omega arith)
+abbreviation-body d (L-struct cls) c e = dtype-abbreviation d c e
+abbreviation-body d (L-abbrev t) c e = dtype-abbreviation d c e
+abbreviation-body d L-opaque c e = dtype-abbreviation d c e
+
+-- what the table has at place i
+abbrev pub passed-at : List Decl → List Bool → ℕ → Option Cty
+passed-at ds s i = passed (dtype-at ds i) (origin-at ds i) (getD s i false) (getD (candidates-of ds s) i none)
+
+pub getD-passes : (ds : List Decl) (s : List Bool) (i : ℕ) (d : Option Cty) → i < length ds → getD (passes-of ds s) i d ≡ passed-at ds s i
+unfolding passes
+getD-passes ds s i d h = getD-table (passed-at ds s) (length ds) i d h
+
+pub getD-passes-past : (ds : List Decl) (s : List Bool) (i : ℕ) (d : Option Cty) → length ds ≤ i → getD (passes-of ds s) i d ≡ d
+unfolding passes
+getD-passes-past ds s i d h = getD-table-past (passed-at ds s) (length ds) i d h
+
+-- an entry of it stands among the declarations, and its declaration names what it names
+pub record PassedAt (ds : List Decl) (i : ℕ) (c : Cty) : Type 0 where
+  pub below : i < length ds
+  pub named : (n : ℕ) → List·Memᴰ n (names-of-cty c) → List·Memᴰ n (dtype-names (dtype-at ds i))
+
+pub passes-entry : (ds : List Decl) (s : List Bool) (i : ℕ) (c : Cty) → getD (passes-of ds s) i none ≡ some c → PassedAt ds i c
+unfolding passed dtype-names body-names
+passes-entry ds s i c e = by (ltb i (length ds)) refl
+  where
+    on : i < length ds → (o : Option NewtypeLayout) → getD (candidates-of ds s) i none ≡ o → passed (dtype-at ds i) (origin-at ds i) (getD s i false) o ≡ some c → PassedAt ds i c
+    on h none u z = record { below = h; named = λ n m. subst (λ (b : Body). List·Memᴰ n (body-names b)) (sym (abbreviation-body (dtype-at ds i) _ c z)) m }
+    on h (some nt) u z =
+        let q : nt .nt-ty ≡ c = cc in
+        let k : CandidateAt ds (marked ds s) s i nt = candidate-entry ds (marked ds s) s i nt u in
+        record { below = h; named = λ n m. payload-named (marked ds s) (dtype-at ds i) (getD s i false) nt (k .candidate) n (rw q m) }
+
+    by : (b : Bool) → ltb i (length ds) ≡ b → PassedAt ds i c
+    by true u = let h : i < length ds = ltb→lt i (length ds) (rw u tt) in on h (getD (candidates-of ds s) i none) refl (sym (getD-passes ds s i none h) ∙ e)
+    by false u =
+        let z : getD (passes-of ds s) i none ≡ none = getD-passes-past ds s i none (ltb-false i (length ds) u) in
+        let y : _≡_ {A = ℕ} 0 1 = cc in
+        absurd (omega arith)
+
 -- A step of the guard leads from a declaration to the place of a name in it.
-pub guard-named : (ds : List Decl) (er : ℕ → Bool) (s : List Bool) (a b : ℕ) → List·Memᴰ b (guard-next ds (candidates ds er s) a) → Placed ds (dtype-names (dtype-at ds a)) b
-guard-named ds er s a b m =
-    let p : Step ds (candidates ds er s) a b = guard-step ds (candidates ds er s) a b m in
-    let k : CandidateAt ds er s a (p .newtype) = candidate-entry ds er s a (p .newtype) (p .is-candidate) in
+pub guard-named : (ds : List Decl) (s : List Bool) (a b : ℕ) → List·Memᴰ b (guard-next ds (passes-of ds s) a) → Placed ds (dtype-names (dtype-at ds a)) b
+guard-named ds s a b m =
+    let p : Step ds (passes-of ds s) a b = guard-step ds (passes-of ds s) a b m in
     record {
       name = p .place .name;
-      named = payload-named er (dtype-at ds a) (getD s a false) (p .newtype) (k .candidate) (p .place .name) (p .place .named);
+      named = passes-entry ds s a (p .type) (p .passes) .named (p .place .name) (p .place .named);
       placed = p .place .placed;
       below = p .place .below;
     }
 
 -- and starts among the declarations
-pub guard-from : (ds : List Decl) (er : ℕ → Bool) (s : List Bool) (a b : ℕ) → List·Memᴰ b (guard-next ds (candidates ds er s) a) → a < length ds
-guard-from ds er s a b m =
-    let p : Step ds (candidates ds er s) a b = guard-step ds (candidates ds er s) a b m in
-    candidate-entry ds er s a (p .newtype) (p .is-candidate) .below
+pub guard-from : (ds : List Decl) (s : List Bool) (a b : ℕ) → List·Memᴰ b (guard-next ds (passes-of ds s) a) → a < length ds
+guard-from ds s a b m =
+    let p : Step ds (passes-of ds s) a b = guard-step ds (passes-of ds s) a b m in
+    passes-entry ds s a (p .type) (p .passes) .below
 
 -- ---- programs that agree
 -- i and j are the places of one name of S in the two programs
@@ -334,26 +384,32 @@ module _ (S : ℕ → Bool) (ds ds' : List Decl) (s s' : List Bool) (a : Alike S
       ∙ candidate-cong n h d
       ∙ sym (getD-candidates ds' (marked ds' s') s' (position ds' n) none (a .agree .declared n h .0 d))
 
-  guard-match : (i i' j : ℕ) → Places S ds ds' i i' → List·Memᴰ j (guard-next ds (candidates-of ds s) i) → (j' : ℕ) × List·Memᴰ j' (guard-next ds' (candidates-of ds' s') i') × Places S ds ds' j j'
+  -- the same types gone on through,
+  pub passes-same : (n : ℕ) → S n ≡ true → Declared ds n → getD (passes-of ds s) (position ds n) none ≡ getD (passes-of ds' s') (position ds' n) none
+  passes-same n h d = getD-passes ds s (position ds n) none d ∙ inner ∙ sym (getD-passes ds' s' (position ds' n) none (a .agree .declared n h .0 d))
+    where
+      inner : passed-at ds s (position ds n) ≡ passed-at ds' s' (position ds' n)
+      inner = rw (candidate-same n h d, a .agree .same-dtype n h d, a .agree .same-origin n h d, mark-same n h)
+
+  guard-match : (i i' j : ℕ) → Places S ds ds' i i' → List·Memᴰ j (guard-next ds (passes-of ds s) i) → (j' : ℕ) × List·Memᴰ j' (guard-next ds' (passes-of ds' s') i') × Places S ds ds' j j'
   guard-match i i' j p m =
-      let q : Step ds (candidates-of ds s) i j = guard-step ds (candidates-of ds s) i j m in
-      let k : CandidateAt ds (marked ds s) s i (q .newtype) = candidate-entry ds (marked ds s) s i (q .newtype) (q .is-candidate) in
+      let q : Step ds (passes-of ds s) i j = guard-step ds (passes-of ds s) i j m in
       let n : ℕ = q .place .name in
-      let named : List·Memᴰ n (dtype-names (dtype-at ds i)) = payload-named (marked ds s) (dtype-at ds i) (getD s i false) (q .newtype) (k .candidate) n (q .place .named) in
+      let named : List·Memᴰ n (dtype-names (dtype-at ds i)) = passes-entry ds s i (q .type) (q .passes) .named n (q .place .named) in
       let inside : S n ≡ true = a .agree .closed (p .name) (p .member) (p .declared) n (rw (p .first) named) in
       let decl : Declared ds n = rw (q .place .placed) (q .place .below) in
       let decl' : Declared ds' n = a .agree .declared n inside .0 decl in
-      let cand : getD (candidates-of ds' s') i' none ≡ some (q .newtype) =
-      rw (← (p .second)) (sym (candidate-same (p .name) (p .member) (p .declared)) ∙ rw (p .first) (q .is-candidate)) in
-      let step : Step ds' (candidates-of ds' s') i' (position ds' n) =
-      record { newtype = q .newtype; is-candidate = cand; place = record { name = n; named = q .place .named; placed = refl; below = decl' } } in
-      (position ds' n, step-guard ds' (candidates-of ds' s') i' (position ds' n) step, record { name = n; member = inside; declared = decl; first = q .place .placed; second = refl })
+      let same : getD (passes-of ds' s') i' none ≡ some (q .type) =
+      rw (← (p .second)) (sym (passes-same (p .name) (p .member) (p .declared)) ∙ rw (p .first) (q .passes)) in
+      let step : Step ds' (passes-of ds' s') i' (position ds' n) =
+      record { type = q .type; passes = same; place = record { name = n; named = q .place .named; placed = refl; below = decl' } } in
+      (position ds' n, step-guard ds' (passes-of ds' s') i' (position ds' n) step, record { name = n; member = inside; declared = decl; first = q .place .placed; second = refl })
 
-  loop-same : (n : ℕ) → S n ≡ true → Declared ds n → dropped ds (candidates-of ds s) (position ds n) ≡ true → dropped ds' (candidates-of ds' s') (position ds' n) ≡ true
+  loop-same : (n : ℕ) → S n ≡ true → Declared ds n → dropped ds (passes-of ds s) (position ds n) ≡ true → dropped ds' (passes-of ds' s') (position ds' n) ≡ true
   loop-same n h d e =
       let p : Places S ds ds' (position ds n) (position ds' n) = record { name = n; member = h; declared = d; first = refl; second = refl } in
-      dropped-iff ds' (candidates-of ds' s') (position ds' n) .1
-      (reach-loop (guard-next ds (candidates-of ds s)) (guard-next ds' (candidates-of ds' s')) (Places S ds ds') guard-match (position ds n) (position ds' n) p (λ j r. places-only S ds ds' (position ds n) (position ds' n) j p r) (dropped-iff ds (candidates-of ds s) (position ds n) .0 e))
+      dropped-iff ds' (passes-of ds' s') (position ds' n) .1
+      (reach-loop (guard-next ds (passes-of ds s)) (guard-next ds' (passes-of ds' s')) (Places S ds ds') guard-match (position ds n) (position ds' n) p (λ j r. places-only S ds ds' (position ds n) (position ds' n) j p r) (dropped-iff ds (passes-of ds s) (position ds n) .0 e))
 
 -- the same candidates dropped,
 pub dropped-same : (S : ℕ → Bool) (ds ds' : List Decl) (s s' : List Bool)
@@ -361,11 +417,11 @@ pub dropped-same : (S : ℕ → Bool) (ds ds' : List Decl) (s s' : List Bool)
     → (n : ℕ)
     → S n ≡ true
     → Declared ds n
-    → dropped ds (candidates-of ds s) (position ds n) ≡ dropped ds' (candidates-of ds' s') (position ds' n)
+    → dropped ds (passes-of ds s) (position ds n) ≡ dropped ds' (passes-of ds' s') (position ds' n)
 dropped-same S ds ds' s s' a n h d =
     same-test
-    (dropped ds (candidates-of ds s) (position ds n))
-    (dropped ds' (candidates-of ds' s') (position ds' n))
+    (dropped ds (passes-of ds s) (position ds n))
+    (dropped ds' (passes-of ds' s') (position ds' n))
     (loop-same S ds ds' s s' a n h d)
     (loop-same S ds' ds s' s (alike-sym S ds ds' s s' a) n h (a .agree .declared n h .0 d))
 
@@ -409,69 +465,55 @@ module _ (B : ℕ → Bool) (ds ds' : List Decl) (s : List Bool) (p : PinnedLayo
       inner : candidate-at ds (marked ds s) s i ≡ candidate-at ds' (marked ds' s) s i
       inner = rw (ctor-layouts-pinned i h, p .same-dtypes i h, p .others i h b)
 
-  -- and one in B is no candidate any more
-  candidate-pinned : (i : ℕ) → i < length ds → B i ≡ true → getD (candidates-of ds' s) i none ≡ none
-  unfolding candidate
-  candidate-pinned i h b = getD-candidates ds' (marked ds' s) s i none (rw (p .same-length) at h) ∙ rw (p .pins i h b .pinned)
-
-  -- a step of the guard from outside B is one in the other program too,
-  step-to : (a b : ℕ) → B a ≡ false → List·Memᴰ b (guard-next ds (candidates-of ds s) a) → List·Memᴰ b (guard-next ds' (candidates-of ds' s) a)
-  unfolding guard-next steps payload type-names
-  step-to a b e m =
-      let h : a < length ds = guard-from ds (marked ds s) s a b m in
-      let q : Step ds (candidates-of ds s) a b = guard-step ds (candidates-of ds s) a b m in
-      let r : getD (candidates-of ds' s) a none ≡ some (q .newtype) = sym (candidate-other a h e) ∙ q .is-candidate in
-      rw (r, ← (positions-same ds ds' (p .same-length) (p .same-dtypes) (names-of-cty (q .newtype .nt-ty)))) (rw (q .is-candidate) at m)
-
-  -- and no step is new
-  step-from : (a b : ℕ) → List·Memᴰ b (guard-next ds' (candidates-of ds' s) a) → List·Memᴰ b (guard-next ds (candidates-of ds s) a)
-  unfolding guard-next steps payload type-names
-  step-from a b m = by (B a) refl
+  -- so the guard goes on through the same type there,
+  passes-other : (i : ℕ) → i < length ds → B i ≡ false → getD (passes-of ds s) i none ≡ getD (passes-of ds' s) i none
+  passes-other i h b = getD-passes ds s i none h ∙ inner ∙ sym (getD-passes ds' s i none (rw (p .same-length) at h))
     where
-      q : Step ds' (candidates-of ds' s) a b
-      q = guard-step ds' (candidates-of ds' s) a b m
+      inner : passed-at ds s i ≡ passed-at ds' s i
+      inner = rw (candidate-other i h b, p .same-dtypes i h, p .others i h b)
 
-      h : a < length ds
-      h = rw (p .same-length) (guard-from ds' (marked ds' s) s a b m)
-
-      by : (x : Bool) → B a ≡ x → List·Memᴰ b (guard-next ds (candidates-of ds s) a)
-      by true e =
-          let z : none ≡ some (q .newtype) = sym (candidate-pinned a h e) ∙ q .is-candidate in
-          let y : _≡_ {A = ℕ} 0 1 = cc in
-          absurd (omega arith)
-      by false e =
-          let r : getD (candidates-of ds s) a none ≡ some (q .newtype) = candidate-other a h e ∙ q .is-candidate in
-          rw (r, positions-same ds ds' (p .same-length) (p .same-dtypes) (names-of-cty (q .newtype .nt-ty))) (rw (q .is-candidate) at m)
-
-  -- B is not left
-  step-inside : (a b : ℕ) → B a ≡ true → List·Memᴰ b (guard-next ds (candidates-of ds s) a) → B b ≡ true
-  step-inside a b e m = p .closed a b (guard-from ds (marked ds s) s a b m) e (guard-named ds (marked ds s) s a b m)
-
-  -- so a walk that ends outside B never was in it
-  walk-to : {a c : ℕ} → B c ≡ false → Reach (guard-next ds (candidates-of ds s)) a c → Reach (guard-next ds' (candidates-of ds' s)) a c
-  walk-to e (one {a} {b} m) = one (step-to a b (by (B a) refl) m)
+  steps-other : (a : ℕ) → a < length ds → B a ≡ false → guard-next ds (passes-of ds s) a ≡ guard-next ds' (passes-of ds' s) a
+  unfolding guard-next steps type-names
+  steps-other a h e = ap (type-names ds) (passes-other a h e) ∙ by (getD (passes-of ds' s) a none)
     where
-      by : (x : Bool) → B a ≡ x → x ≡ false
-      by true z = false-true (sym e ∙ step-inside a b z m)
-      by false z = refl
-  walk-to {c = c} e (more {a} {b} m r) = more (step-to a b (by (B a) refl) m) (walk-to e r)
-    where
-      by : (x : Bool) → B a ≡ x → x ≡ false
-      by true z =
-          false-true (sym e ∙ reach-stays (guard-next ds (candidates-of ds s)) (λ (i : ℕ). B i ≡ true) step-inside r (step-inside a b z m))
-      by false z = refl
+      by : (o : Option Cty) → type-names ds o ≡ type-names ds' o
+      by none = refl
+      by (some c) = positions-same ds ds' (p .same-length) (p .same-dtypes) (names-of-cty c)
 
-  walk-from : {a c : ℕ} → Reach (guard-next ds' (candidates-of ds' s)) a c → Reach (guard-next ds (candidates-of ds s)) a c
-  walk-from (one {a} {b} m) = one (step-from a b m)
-  walk-from (more {a} {b} m r) = more (step-from a b m) (walk-from r)
+  -- and in neither program it leaves B;
+  step-inside : (a b : ℕ) → B a ≡ true → List·Memᴰ b (guard-next ds (passes-of ds s) a) → B b ≡ true
+  step-inside a b e m = p .closed a b (guard-from ds s a b m) e (guard-named ds s a b m)
 
-  dropped-other : (i : ℕ) → B i ≡ false → dropped ds (candidates-of ds s) i ≡ dropped ds' (candidates-of ds' s) i
+  step-inside' : (a b : ℕ) → B a ≡ true → List·Memᴰ b (guard-next ds' (passes-of ds' s) a) → B b ≡ true
+  step-inside' a b e m =
+      let h : a < length ds = rw (p .same-length) (guard-from ds' s a b m) in
+      let q : Placed ds' (dtype-names (dtype-at ds' a)) b = guard-named ds' s a b m in
+      p .closed a b h e
+      (record {
+        name = q .name;
+        named = rw (p .same-dtypes a h) (q .named);
+        placed = position-same ds ds' (q .name) (p .same-length) (p .same-dtypes) ∙ q .placed;
+        below = rw (p .same-length) (q .below);
+      })
+
+  -- so a walk that ends outside B never was in it, and is one in the other program
+  walk-to : {a c : ℕ} → B c ≡ false → Reach (guard-next ds (passes-of ds s)) a c → Reach (guard-next ds' (passes-of ds' s)) a c
+  walk-to e r = reach-outside (guard-next ds (passes-of ds s)) (guard-next ds' (passes-of ds' s)) B step-inside (λ a b z m. rw (← (steps-other a (guard-from ds s a b m) z)) m) e r
+
+  walk-from : {a c : ℕ} → B c ≡ false → Reach (guard-next ds' (passes-of ds' s)) a c → Reach (guard-next ds (passes-of ds s)) a c
+  walk-from e r =
+      reach-outside (guard-next ds' (passes-of ds' s)) (guard-next ds (passes-of ds s)) B step-inside'
+      (λ a b z m. let h : a < length ds = rw (p .same-length) (guard-from ds' s a b m) in rw (steps-other a h z) m)
+      e
+      r
+
+  dropped-other : (i : ℕ) → B i ≡ false → dropped ds (passes-of ds s) i ≡ dropped ds' (passes-of ds' s) i
   dropped-other i e =
       same-test
-      (dropped ds (candidates-of ds s) i)
-      (dropped ds' (candidates-of ds' s) i)
-      (λ z. dropped-iff ds' (candidates-of ds' s) i .1 (walk-to e (dropped-iff ds (candidates-of ds s) i .0 z)))
-      (λ z. dropped-iff ds (candidates-of ds s) i .1 (walk-from (dropped-iff ds' (candidates-of ds' s) i .0 z)))
+      (dropped ds (passes-of ds s) i)
+      (dropped ds' (passes-of ds' s) i)
+      (λ z. dropped-iff ds' (passes-of ds' s) i .1 (walk-to e (dropped-iff ds (passes-of ds s) i .0 z)))
+      (λ z. dropped-iff ds (passes-of ds s) i .1 (walk-from e (dropped-iff ds' (passes-of ds' s) i .0 z)))
 
   layout-pinned : (i : ℕ) → i < length ds → layout-at ds s i ≡ layout-at ds' s i
   unfolding layout-of

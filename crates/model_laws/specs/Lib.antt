@@ -5,6 +5,7 @@ pub mod Rounds
 pub mod Erasure
 pub mod Reach
 pub mod Layout
+pub mod Guard
 pub mod Resolve
 pub mod Run
 pub mod Own

@@ -52,3 +52,9 @@ pub table-cong : {A : Type 0} (f g : ℕ → A) (n : ℕ) → ((i : ℕ) → i <
 unfolding table
 table-cong f g zero e = refl
 table-cong f g (suc n) e = ap₂ _∷_ (e 0 (omega arith)) (table-cong (λ i. f (suc i)) (λ i. g (suc i)) n (λ i h. e (suc i) (omega arith)))
+
+-- a table of what a function makes of entries
+pub table-map : {A B : Type 0} (g : A → B) (f : ℕ → A) (n : ℕ) → table (λ i. g (f i)) n ≡ map g (table f n)
+unfolding table
+table-map g f zero = refl
+table-map g f (suc n) = ap (λ xs. g (f 0) ∷ xs) (table-map g (λ i. f (suc i)) n)

@@ -14,7 +14,7 @@ use Rattle.sheet.specs.ListLaws.{Every}
 use Rattle.model.specs.Cty.{Cty, names-of-cty}
 use Rattle.model.specs.Decl.{Field, Body, TAbstract, TAbbrev, TRecord, TVariant, Dtype, Realized, NoUnfold, has-flag, CtorLayout, NewtypeLayout, Layout, L-erased, L-newtype, L-struct, L-abbrev, L-opaque, Origin, here, imported, Decl, dtype-at, origin-at, position}
 use Rattle.model.specs.Erasure.{marked, erasure-fixpoint}
-use Rattle.model.specs.Layout.{steps, type-names, ctor-layouts, candidate, dropped, names-in, layout-of, candidates-of}
+use Rattle.model.specs.Layout.{steps, type-names, ctor-layouts, candidate, dropped, names-in, layout-of, candidates-of, passes-of}
 use Rattle.model.specs.Resolve.{unfolded, Unfold, gone, newtype, abbreviation, stays, unfold-body, unfold-dtype, unfold-of, unfolds, unfold-name, resolve}
 use Rattle.model.specs.Run.{rw-decl, record-of, info, layouts-of, unfold-next, returns, resolves, decl-fault, lay, layout-of-decl, left-at, info-at}
 use Rattle.model.specs.Names.{OwnImports, fields-names, dtype-names, body-names, Declared, Agree, Among, cls-names, layout-names}
@@ -31,7 +31,7 @@ pub layouts-own : (ds : List Decl) → OwnImports ds → (i : ℕ) → i < lengt
 unfolding layouts-of layout-of
 layouts-own ds own i h =
     subst (λ (l : Layout). Among (layout-names l) (dtype-names (dtype-at ds i))) (sym (getD-layouts ds (erasure-fixpoint ds .marks) i L-opaque h))
-    (go (dropped ds (candidates-of ds s) i) (getD (candidates-of ds s) i none) (origin-at ds i) refl (getD-candidates ds (marked ds (erasure-fixpoint ds .marks)) (erasure-fixpoint ds .marks) i none h))
+    (go (dropped ds (passes-of ds s) i) (getD (candidates-of ds s) i none) (origin-at ds i) refl (getD-candidates ds (marked ds (erasure-fixpoint ds .marks)) (erasure-fixpoint ds .marks) i none h))
   where
     s : List Bool
     s = erasure-fixpoint ds .marks

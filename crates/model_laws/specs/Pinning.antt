@@ -26,7 +26,7 @@ use Rattle.model.specs.Decl.{
   position,
 }
 use Rattle.model.specs.Erasure.{marked, rule, rule-of, erasure-fixpoint}
-use Rattle.model.specs.Layout.{ctor-layouts, dropped, layout-of, compute-layouts, candidates-of}
+use Rattle.model.specs.Layout.{ctor-layouts, dropped, layout-of, compute-layouts, candidates-of, passes-of}
 use Rattle.model.specs.Run.{left-program, info, layouts-of, somes, run, returns, decl-fault, layout-of-decl, left-at, info-at}
 use Rattle.model.specs.Names.{dtype-names, Declared, undeclared, Distinct, Agree, Pin, pins, OwnImports}
 use Rattle.model_laws.specs.Names.{position-name, position-distinct, position-declared, position-append-left, agree-prefix, undeclared-of, position-same, not-declared}
@@ -238,7 +238,7 @@ module _ (ds es : List Decl) (distinct : Distinct (ds ++ es)) (apart : Apart ds 
             → info (marked (ds ++ es) s) (dtype-at (ds ++ es) i) o (getD s i false) (layout-of-decl (ds ++ es) i) (left-at fuel (ds ++ es) i) .ti-layout ≡ layout-of-decl (ds ++ es) i
         go here e k = refl
         go (imported ti) e k =
-            sym (k ∙ ap (λ (o : Origin). layout-of (dtype-at (ds ++ es) i) o (getD s i false) (dropped (ds ++ es) (candidates-of (ds ++ es) s) i) (getD (candidates-of (ds ++ es) s) i none) (ctor-layouts (marked (ds ++ es) s) (dtype-at (ds ++ es) i))) e)
+            sym (k ∙ ap (λ (o : Origin). layout-of (dtype-at (ds ++ es) i) o (getD s i false) (dropped (ds ++ es) (passes-of (ds ++ es) s) i) (getD (candidates-of (ds ++ es) s) i none) (ctor-layouts (marked (ds ++ es) s) (dtype-at (ds ++ es) i))) e)
 
     -- the marks
     origins-split : (i : ℕ) → i < length (ds ++ es) → (origin-at (ds ++ es) i ≡ origin-at imported-first i) ⊎ Pin (λ ti. ti ≡ info-at fuel (ds ++ es) i) imported-first i

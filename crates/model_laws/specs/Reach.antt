@@ -89,6 +89,22 @@ reach-map next next′ R f (more {a} {b} m w) a′ r =
     let t = reach-map next next′ R f w (s .0) (s .2) in
     (t .0, more (s .1) (t .1), t .2)
 
+-- A walk that ends outside a set that is not left is one in another graph that has the same steps outside it.
+pub reach-outside : (next next′ : ℕ → List ℕ) (B : ℕ → Bool)
+    → ((a b : ℕ) → B a ≡ true → List·Memᴰ b (next a) → B b ≡ true)
+    → ((a b : ℕ) → B a ≡ false → List·Memᴰ b (next a) → List·Memᴰ b (next′ a))
+    → {a c : ℕ} → B c ≡ false → Reach next a c → Reach next′ a c
+reach-outside next next′ B stays f e (one {a} {b} m) = one (f a b (by (B a) refl) m)
+  where
+    by : (x : Bool) → B a ≡ x → x ≡ false
+    by true z = false-true (sym e ∙ stays a b z m)
+    by false z = refl
+reach-outside next next′ B stays f e (more {a} {b} m r) = more (f a b (by (B a) refl) m) (reach-outside next next′ B stays f e r)
+  where
+    by : (x : Bool) → B a ≡ x → x ≡ false
+    by true z = false-true (sym e ∙ reach-stays next (λ (i : ℕ). B i ≡ true) stays r (stays a b z m))
+    by false z = refl
+
 -- A node that reaches itself does so in the other graph, where R relates it to one node there.
 pub reach-loop : (next next′ : ℕ → List ℕ) (R : ℕ → ℕ → Type 0)
     → ((a a′ b : ℕ) → R a a′ → List·Memᴰ b (next a) → (b′ : ℕ) × List·Memᴰ b′ (next′ a′) × R b b′)

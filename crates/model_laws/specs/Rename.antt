@@ -73,6 +73,7 @@ use Rattle.model.specs.Resolve.{
   abbreviation,
   stays,
   unfold-body,
+  abbreviation-of,
   unfold-dtype,
   unfold-of,
   unfolds,
@@ -95,14 +96,14 @@ use Rattle.model.specs.Resolve.{
   checkeds,
   resolve-checked,
 }
-use Rattle.model.specs.Layout.{layouts-of-ctors, slots, kept, ctor-layout, ctor-layouts, first-kept, newtype-of-ctor, newtype-of, candidate, candidates, positions, names-in, type-names, steps, payload, guard-next, dropped, collapse, layout-of-body, layout-of, compute-layouts, candidates-of}
+use Rattle.model.specs.Layout.{layouts-of-ctors, slots, kept, ctor-layout, ctor-layouts, first-kept, newtype-of-ctor, newtype-of, candidate, candidates, positions, names-in, type-names, steps, passed, passes, guard-next, dropped, collapse, layout-of-body, layout-of, compute-layouts, candidates-of, passes-of}
 use Rattle.model.specs.Reach.{cyclic}
 use Rattle.model.specs.Run.{with-body, all-in, collapsed-abbrev, resolved-field, resolved-ctor, struct-body, rw-decl, record-body, record-verdict, record-of, info, layouts-of, Ran, run, unfold-next, returns, field-types, resolves, fault-code, decl-fault, lay, layout-of-decl, left-at, info-at}
 use Rattle.model.specs.Names.{fields-names, ctors-names, body-names, dtype-names, Declared, Agree, Among, cls-names, layout-names, OwnImports}
-use Rattle.model_laws.specs.Layout.{candidate-at, layout-at}
+use Rattle.model_laws.specs.Layout.{candidate-at, passed-at, layout-at}
 use Rattle.model_laws.specs.Locality.{marks-local, layouts-local, left-local, fault-local, info-local, returns-local}
 use Rattle.model_laws.specs.Run.{run-lefts, run-infos}
-use Rattle.model_laws.specs.Lists.{getD-map, table-cong}
+use Rattle.model_laws.specs.Lists.{getD-map, table-cong, table-map}
 
 -- ---- lists
 -- two ways round through two maps
@@ -115,11 +116,6 @@ pub getD-read : {A B C : Type 0} (f : A → B) (p : A → C) (q : B → C) → (
 getD-read f p q e a b z [] i = z
 getD-read f p q e a b z (x ∷ xs) zero = e x
 getD-read f p q e a b z (x ∷ xs) (suc i) = getD-read f p q e a b z xs i
-
-pub table-map : {A B : Type 0} (g : A → B) (f : ℕ → A) (n : ℕ) → table (λ i. g (f i)) n ≡ map g (table f n)
-unfolding table
-table-map g f zero = refl
-table-map g f (suc n) = ap (λ xs. g (f 0) ∷ xs) (table-map g (λ i. f (suc i)) n)
 
 -- ---- renumbering
 -- no two numbers become one
@@ -614,82 +610,6 @@ module _ (ρ : ℕ → ℕ) where
   layout-of-rename d here true drop cand cls = refl
   layout-of-rename d here false drop cand cls = layout-of-body-rename (d .dt-body) drop cand cls
 
--- ---- compute_layouts
-module _ (ρ : ℕ → ℕ) (inj : Injective ρ) where
-  pub positions-rename : (ds : List Decl) (ns : List ℕ) → positions (rename-decls ρ ds) (map ρ ns) ≡ positions ds ns
-  unfolding positions
-  positions-rename ds [] = refl
-  positions-rename ds (n ∷ ns) =
-      ap₂ (λ (i : ℕ) (is : List ℕ). pick (ltb i (length (rename-decls ρ ds))) (i ∷ is) is) (position-rename ρ inj ds n) (positions-rename ds ns)
-      ∙ ap (λ (k : ℕ). pick (ltb (position ds n) k) (position ds n ∷ positions ds ns) (positions ds ns)) (length-map ds (rename-decl ρ))
-
-  pub names-in-rename : (ds : List Decl) (c : Cty) → names-in (rename-decls ρ ds) (rename-cty ρ c) ≡ names-in ds c
-  names-in-rename ds c = ap (positions (rename-decls ρ ds)) (names-rename ρ c) ∙ positions-rename ds (names-of-cty c)
-
-  type-names-rename : (ds : List Decl) (o : Option Cty) → type-names (rename-decls ρ ds) (Option·map (rename-cty ρ) o) ≡ type-names ds o
-  unfolding type-names
-  type-names-rename ds none = refl
-  type-names-rename ds (some c) = names-in-rename ds c
-
-  payload-rename : (o : Option NewtypeLayout) → payload (rename-candidate ρ o) ≡ Option·map (rename-cty ρ) (payload o)
-  unfolding payload
-  payload-rename none = refl
-  payload-rename (some nt) = refl
-
-  pub guard-rename : (ds : List Decl) (cands : List (Option NewtypeLayout)) (i : ℕ) → guard-next (rename-decls ρ ds) (map (rename-candidate ρ) cands) i ≡ guard-next ds cands i
-  unfolding guard-next steps
-  guard-rename ds cands i =
-      ap (type-names (rename-decls ρ ds)) (ap payload (List·getD-map (rename-candidate ρ) cands i none) ∙ payload-rename (getD cands i none))
-      ∙ type-names-rename ds (payload (getD cands i none))
-
-  -- the same candidates dropped
-  pub dropped-rename : (ds : List Decl) (cands : List (Option NewtypeLayout)) (i : ℕ) → dropped (rename-decls ρ ds) (map (rename-candidate ρ) cands) i ≡ dropped ds cands i
-  unfolding dropped
-  dropped-rename ds cands i =
-      ap₂ (λ (next : ℕ → List ℕ) (n : ℕ). cyclic next n i) (fun-ext (λ j. guard-rename ds cands j)) (length-map ds (rename-decl ρ))
-
-  module _ (ds : List Decl) (s : List Bool) where
-    cls-at : (i : ℕ) → i < length ds
-        → ctor-layouts (marked (rename-decls ρ ds) s) (dtype-at (rename-decls ρ ds) i) ≡ map (rename-ctor-layout ρ) (ctor-layouts (marked ds s) (dtype-at ds i))
-    cls-at i h =
-        ap (ctor-layouts (marked (rename-decls ρ ds) s)) (dtype-rename ρ ds i h)
-        ∙ ctor-layouts-rename ρ (marked ds s) (marked (rename-decls ρ ds) s) (marked-rename ρ inj ds s) (dtype-at ds i)
-
-    candidate-at-rename : (i : ℕ) → i < length ds → candidate-at (rename-decls ρ ds) (marked (rename-decls ρ ds) s) s i ≡ rename-candidate ρ (candidate-at ds (marked ds s) s i)
-    candidate-at-rename i h =
-        ap₂ (λ (d : Dtype) (o : Origin). candidate d o (getD s i false) (ctor-layouts (marked (rename-decls ρ ds) s) (dtype-at (rename-decls ρ ds) i))) (dtype-rename ρ ds i h) (origin-rename ρ ds i h)
-        ∙ (ap (candidate (rename-dtype ρ (dtype-at ds i)) (rename-origin ρ (origin-at ds i)) (getD s i false)) (cls-at i h)
-        ∙ candidate-rename ρ (dtype-at ds i) (origin-at ds i) (getD s i false) (ctor-layouts (marked ds s) (dtype-at ds i)))
-
-    pub candidates-rename : candidates-of (rename-decls ρ ds) s ≡ map (rename-candidate ρ) (candidates-of ds s)
-    unfolding candidates
-    candidates-rename =
-        ap (table (candidate-at (rename-decls ρ ds) (marked (rename-decls ρ ds) s) s)) (length-map ds (rename-decl ρ))
-        ∙ (table-cong _ _ (length ds) candidate-at-rename
-        ∙ table-map (rename-candidate ρ) (candidate-at ds (marked ds s) s) (length ds))
-
-    layout-at-rename : (i : ℕ) → i < length ds → layout-at (rename-decls ρ ds) s i ≡ rename-layout ρ (layout-at ds s i)
-    layout-at-rename i h =
-        rw (dtype-rename ρ ds i h, origin-rename ρ ds i h)
-        (ap₂ (λ (cands : List (Option NewtypeLayout)) (cls : List CtorLayout). layout-of (rename-dtype ρ (dtype-at ds i)) (rename-origin ρ (origin-at ds i)) (getD s i false) (dropped (rename-decls ρ ds) cands i) (getD cands i none) cls)
-        candidates-rename (ctor-layouts-rename ρ (marked ds s) (marked (rename-decls ρ ds) s) (marked-rename ρ inj ds s) (dtype-at ds i))
-        ∙ (ap₂ (λ (drop : Bool) (cand : Option NewtypeLayout). layout-of (rename-dtype ρ (dtype-at ds i)) (rename-origin ρ (origin-at ds i)) (getD s i false) drop cand (map (rename-ctor-layout ρ) (ctor-layouts (marked ds s) (dtype-at ds i))))
-        (dropped-rename ds (candidates-of ds s) i) (List·getD-map (rename-candidate ρ) (candidates-of ds s) i none)
-        ∙ layout-of-rename ρ (dtype-at ds i) (origin-at ds i) (getD s i false) (dropped ds (candidates-of ds s) i) (getD (candidates-of ds s) i none) (ctor-layouts (marked ds s) (dtype-at ds i))))
-
-    pub compute-layouts-rename : compute-layouts (rename-decls ρ ds) s ≡ map (rename-layout ρ) (compute-layouts ds s)
-    unfolding compute-layouts
-    compute-layouts-rename =
-        ap (table (layout-at (rename-decls ρ ds) s)) (length-map ds (rename-decl ρ))
-        ∙ (table-cong _ _ (length ds) layout-at-rename
-        ∙ table-map (rename-layout ρ) (layout-at ds s) (length ds))
-
-  -- the layouts of a renamed program
-  pub layouts-rename : (ds : List Decl) → layouts-of (rename-decls ρ ds) ≡ map (rename-layout ρ) (layouts-of ds)
-  unfolding layouts-of
-  layouts-rename ds =
-      ap (λ (s : Settled). compute-layouts (rename-decls ρ ds) (s .marks)) (erasure-rename ρ inj ds) ∙ compute-layouts-rename ds (erasure-fixpoint ds .marks)
-
 -- ---- what becomes of a name
 module _ (ρ : ℕ → ℕ) where
   unfold-dtype-rename : (d : Dtype) → unfold-dtype (rename-dtype ρ d) ≡ rename-unfold ρ (unfold-dtype d)
@@ -711,11 +631,112 @@ module _ (ρ : ℕ → ℕ) where
   unfold-of-rename d (L-abbrev c) = unfold-dtype-rename d
   unfold-of-rename d L-opaque = unfold-dtype-rename d
 
+  abbreviation-rename : (u : Unfold) → abbreviation-of (rename-unfold ρ u) ≡ Option·map (rename-cty ρ) (abbreviation-of u)
+  unfolding abbreviation-of
+  abbreviation-rename gone = refl
+  abbreviation-rename (newtype ps c) = refl
+  abbreviation-rename (abbreviation ps c) = refl
+  abbreviation-rename stays = refl
+
+  -- what the guard goes on through
+  pub passed-rename : (d : Dtype) (o : Origin) (e : Bool) (cand : Option NewtypeLayout) → passed (rename-dtype ρ d) (rename-origin ρ o) e (rename-candidate ρ cand) ≡ Option·map (rename-cty ρ) (passed d o e cand)
+  unfolding passed
+  passed-rename d o e none =
+      ap (λ (l : Layout). abbreviation-of (unfold-of (rename-dtype ρ d) l)) (layout-of-rename ρ d o e true none [])
+      ∙ (ap abbreviation-of (unfold-of-rename d (layout-of d o e true none []))
+      ∙ abbreviation-rename (unfold-of d (layout-of d o e true none [])))
+  passed-rename d o e (some nt) = refl
+
+-- ---- compute_layouts
+module _ (ρ : ℕ → ℕ) (inj : Injective ρ) where
+  pub positions-rename : (ds : List Decl) (ns : List ℕ) → positions (rename-decls ρ ds) (map ρ ns) ≡ positions ds ns
+  unfolding positions
+  positions-rename ds [] = refl
+  positions-rename ds (n ∷ ns) =
+      ap₂ (λ (i : ℕ) (is : List ℕ). pick (ltb i (length (rename-decls ρ ds))) (i ∷ is) is) (position-rename ρ inj ds n) (positions-rename ds ns)
+      ∙ ap (λ (k : ℕ). pick (ltb (position ds n) k) (position ds n ∷ positions ds ns) (positions ds ns)) (length-map ds (rename-decl ρ))
+
+  pub names-in-rename : (ds : List Decl) (c : Cty) → names-in (rename-decls ρ ds) (rename-cty ρ c) ≡ names-in ds c
+  names-in-rename ds c = ap (positions (rename-decls ρ ds)) (names-rename ρ c) ∙ positions-rename ds (names-of-cty c)
+
+  type-names-rename : (ds : List Decl) (o : Option Cty) → type-names (rename-decls ρ ds) (Option·map (rename-cty ρ) o) ≡ type-names ds o
+  unfolding type-names
+  type-names-rename ds none = refl
+  type-names-rename ds (some c) = names-in-rename ds c
+
+  pub guard-rename : (ds : List Decl) (through : List (Option Cty)) (i : ℕ) → guard-next (rename-decls ρ ds) (map (Option·map (rename-cty ρ)) through) i ≡ guard-next ds through i
+  unfolding guard-next steps
+  guard-rename ds through i =
+      ap (type-names (rename-decls ρ ds)) (List·getD-map (Option·map (rename-cty ρ)) through i none) ∙ type-names-rename ds (getD through i none)
+
+  -- the same candidates dropped
+  pub dropped-rename : (ds : List Decl) (through : List (Option Cty)) (i : ℕ) → dropped (rename-decls ρ ds) (map (Option·map (rename-cty ρ)) through) i ≡ dropped ds through i
+  unfolding dropped
+  dropped-rename ds through i =
+      ap₂ (λ (next : ℕ → List ℕ) (n : ℕ). cyclic next n i) (fun-ext (λ j. guard-rename ds through j)) (length-map ds (rename-decl ρ))
+
+  module _ (ds : List Decl) (s : List Bool) where
+    cls-at : (i : ℕ) → i < length ds
+        → ctor-layouts (marked (rename-decls ρ ds) s) (dtype-at (rename-decls ρ ds) i) ≡ map (rename-ctor-layout ρ) (ctor-layouts (marked ds s) (dtype-at ds i))
+    cls-at i h =
+        ap (ctor-layouts (marked (rename-decls ρ ds) s)) (dtype-rename ρ ds i h)
+        ∙ ctor-layouts-rename ρ (marked ds s) (marked (rename-decls ρ ds) s) (marked-rename ρ inj ds s) (dtype-at ds i)
+
+    candidate-at-rename : (i : ℕ) → i < length ds → candidate-at (rename-decls ρ ds) (marked (rename-decls ρ ds) s) s i ≡ rename-candidate ρ (candidate-at ds (marked ds s) s i)
+    candidate-at-rename i h =
+        ap₂ (λ (d : Dtype) (o : Origin). candidate d o (getD s i false) (ctor-layouts (marked (rename-decls ρ ds) s) (dtype-at (rename-decls ρ ds) i))) (dtype-rename ρ ds i h) (origin-rename ρ ds i h)
+        ∙ (ap (candidate (rename-dtype ρ (dtype-at ds i)) (rename-origin ρ (origin-at ds i)) (getD s i false)) (cls-at i h)
+        ∙ candidate-rename ρ (dtype-at ds i) (origin-at ds i) (getD s i false) (ctor-layouts (marked ds s) (dtype-at ds i)))
+
+    pub candidates-rename : candidates-of (rename-decls ρ ds) s ≡ map (rename-candidate ρ) (candidates-of ds s)
+    unfolding candidates
+    candidates-rename =
+        ap (table (candidate-at (rename-decls ρ ds) (marked (rename-decls ρ ds) s) s)) (length-map ds (rename-decl ρ))
+        ∙ (table-cong _ _ (length ds) candidate-at-rename
+        ∙ table-map (rename-candidate ρ) (candidate-at ds (marked ds s) s) (length ds))
+
+    passed-at-rename : (i : ℕ) → i < length ds → passed-at (rename-decls ρ ds) s i ≡ Option·map (rename-cty ρ) (passed-at ds s i)
+    passed-at-rename i h =
+        rw (dtype-rename ρ ds i h, origin-rename ρ ds i h, candidates-rename, List·getD-map (rename-candidate ρ) (candidates-of ds s) i none)
+        (passed-rename ρ (dtype-at ds i) (origin-at ds i) (getD s i false) (getD (candidates-of ds s) i none))
+
+    pub passes-rename : passes-of (rename-decls ρ ds) s ≡ map (Option·map (rename-cty ρ)) (passes-of ds s)
+    unfolding passes
+    passes-rename =
+        ap (table (passed-at (rename-decls ρ ds) s)) (length-map ds (rename-decl ρ))
+        ∙ (table-cong _ _ (length ds) passed-at-rename
+        ∙ table-map (Option·map (rename-cty ρ)) (passed-at ds s) (length ds))
+
+    layout-at-rename : (i : ℕ) → i < length ds → layout-at (rename-decls ρ ds) s i ≡ rename-layout ρ (layout-at ds s i)
+    layout-at-rename i h =
+        rw (dtype-rename ρ ds i h, origin-rename ρ ds i h)
+        (ap₂ (λ (cand : Option NewtypeLayout) (cls : List CtorLayout). layout-of (rename-dtype ρ (dtype-at ds i)) (rename-origin ρ (origin-at ds i)) (getD s i false) (dropped (rename-decls ρ ds) (passes-of (rename-decls ρ ds) s) i) cand cls)
+        (ap (λ (cands : List (Option NewtypeLayout)). getD cands i none) candidates-rename ∙ List·getD-map (rename-candidate ρ) (candidates-of ds s) i none)
+        (ctor-layouts-rename ρ (marked ds s) (marked (rename-decls ρ ds) s) (marked-rename ρ inj ds s) (dtype-at ds i))
+        ∙ (ap (λ (drop : Bool). layout-of (rename-dtype ρ (dtype-at ds i)) (rename-origin ρ (origin-at ds i)) (getD s i false) drop (rename-candidate ρ (getD (candidates-of ds s) i none)) (map (rename-ctor-layout ρ) (ctor-layouts (marked ds s) (dtype-at ds i))))
+        (ap (λ (through : List (Option Cty)). dropped (rename-decls ρ ds) through i) passes-rename ∙ dropped-rename ds (passes-of ds s) i)
+        ∙ layout-of-rename ρ (dtype-at ds i) (origin-at ds i) (getD s i false) (dropped ds (passes-of ds s) i) (getD (candidates-of ds s) i none) (ctor-layouts (marked ds s) (dtype-at ds i))))
+
+    pub compute-layouts-rename : compute-layouts (rename-decls ρ ds) s ≡ map (rename-layout ρ) (compute-layouts ds s)
+    unfolding compute-layouts
+    compute-layouts-rename =
+        ap (table (layout-at (rename-decls ρ ds) s)) (length-map ds (rename-decl ρ))
+        ∙ (table-cong _ _ (length ds) layout-at-rename
+        ∙ table-map (rename-layout ρ) (layout-at ds s) (length ds))
+
+  -- the layouts of a renamed program
+  pub layouts-rename : (ds : List Decl) → layouts-of (rename-decls ρ ds) ≡ map (rename-layout ρ) (layouts-of ds)
+  unfolding layouts-of
+  layouts-rename ds =
+      ap (λ (s : Settled). compute-layouts (rename-decls ρ ds) (s .marks)) (erasure-rename ρ inj ds) ∙ compute-layouts-rename ds (erasure-fixpoint ds .marks)
+
+-- ---- what becomes of every name
+module _ (ρ : ℕ → ℕ) where
   pub unfolds-rename : (ds : List Decl) (ls : List Layout) → unfolds (rename-decls ρ ds) (map (rename-layout ρ) ls) ≡ map (rename-unfold ρ) (unfolds ds ls)
   unfolding unfolds
   unfolds-rename ds ls =
       ap (table (λ i. unfold-of (dtype-at (rename-decls ρ ds) i) (getD (map (rename-layout ρ) ls) i L-opaque))) (length-map ds (rename-decl ρ))
-      ∙ (table-cong _ _ (length ds) (λ i h. ap₂ unfold-of (dtype-rename ρ ds i h) (List·getD-map (rename-layout ρ) ls i L-opaque) ∙ unfold-of-rename (dtype-at ds i) (getD ls i L-opaque))
+      ∙ (table-cong _ _ (length ds) (λ i h. ap₂ unfold-of (dtype-rename ρ ds i h) (List·getD-map (rename-layout ρ) ls i L-opaque) ∙ unfold-of-rename ρ (dtype-at ds i) (getD ls i L-opaque))
       ∙ table-map (rename-unfold ρ) (λ i. unfold-of (dtype-at ds i) (getD ls i L-opaque)) (length ds))
 
 -- ---- results

@@ -14,7 +14,7 @@ use Rattle.sheet.specs.ListLaws.{Every, at-every, false-true}
 use Rattle.model.specs.Cty.{uninline}
 use Rattle.model.specs.Decl.{Field, Ctor, Body, TAbstract, TAbbrev, TRecord, TVariant, CtorLayout, NewtypeLayout, Layout, L-erased, L-newtype, L-struct, L-abbrev, L-opaque, TypeInfo, here, dtype-at, origin-at, close-fields}
 use Rattle.model.specs.Erasure.{marked, erasure-fixpoint}
-use Rattle.model.specs.Layout.{first-kept, newtype-of-ctor, newtype-of, candidates, dropped, collapse, ctor-layouts}
+use Rattle.model.specs.Layout.{first-kept, newtype-of-ctor, newtype-of, passes-of, dropped, collapse, ctor-layouts}
 use Rattle.model.specs.Run.{run, layouts-of, layout-of-decl}
 use Rattle.model_laws.specs.Layout.{getD-layouts, getD-candidates}
 use Rattle.model_laws.specs.Run.{getD-infos, length-infos, import-layout}
@@ -70,7 +70,7 @@ module _ (ls : List Line) (d : ℕ) (h : d < decls-of ls) where
   suits-here o =
       let s : List Bool = erasure-fixpoint (program ls) .marks in
       rw (getD-layouts (program ls) s d L-opaque below, getD-candidates (program ls) (marked (program ls) s) s d none below, o)
-      (layout-coherent (dtype-at (program ls) d) (getD s d false) (dropped (program ls) (candidates (program ls) (marked (program ls) s) s) d) (ctor-layouts (marked (program ls) s) (dtype-at (program ls) d)) .0)
+      (layout-coherent (dtype-at (program ls) d) (getD s d false) (dropped (program ls) (passes-of (program ls) s) d) (ctor-layouts (marked (program ls) s) (dtype-at (program ls) d)) .0)
 
   -- A declaration that is a newtype has the constructor and the field that make it one.
   pub newtype-made : (nt : NewtypeLayout) → layout-of-decl (program ls) d ≡ L-newtype nt → newtype-of (ctors-at (program ls) d) ≡ some nt

@@ -39,7 +39,7 @@ use Rattle.model.specs.Decl.{
   position,
 }
 use Rattle.model.specs.Erasure.{marked, erasure-fixpoint}
-use Rattle.model.specs.Layout.{slots, kept, ctor-layout, layouts-of-ctors, ctor-layouts, candidates-of, dropped, collapse, layout-of-body, layout-of}
+use Rattle.model.specs.Layout.{slots, kept, ctor-layout, layouts-of-ctors, ctor-layouts, candidates-of, passes-of, dropped, collapse, layout-of-body, layout-of}
 use Rattle.model.specs.Run.{run, layouts-of, layout-of-decl, info-at}
 use Rattle.model.specs.Names.{Declared}
 use Rattle.model_laws.specs.Lists.{trues}
@@ -229,7 +229,7 @@ here-sound er d true drop cand cls = with-layout L-erased tt er (ctors-of-tydef 
 here-sound er d false drop cand cls = body-sound er (d .dt-name) (d .dt-body) drop cand cls
 
 local-layout : (ds : List Decl) (i : ℕ) → i < length ds → origin-at ds i ≡ here
-    → layout-of-decl ds i ≡ (let s : List Bool = erasure-fixpoint ds .marks in layout-of (dtype-at ds i) here (getD s i false) (dropped ds (candidates-of ds s) i) (getD (candidates-of ds s) i none) (ctor-layouts (marked ds s) (dtype-at ds i)))
+    → layout-of-decl ds i ≡ (let s : List Bool = erasure-fixpoint ds .marks in layout-of (dtype-at ds i) here (getD s i false) (dropped ds (passes-of ds s) i) (getD (candidates-of ds s) i none) (ctor-layouts (marked ds s) (dtype-at ds i)))
 unfolding layouts-of
 local-layout ds i h o = getD-layouts ds (erasure-fixpoint ds .marks) i L-opaque h ∙ rw o
 
