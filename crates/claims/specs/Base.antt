@@ -7,7 +7,7 @@ use mathlib.Core.Logic.{_↔_}
 use mathlib.Core.Path.{_≡_}
 use mathlib.Core.List.{List, [], _∷_, _++_, map, List·Memᴰ}
 use mathlib.Core.Bool.{Bool, true, false}
-use mathlib.Core.Option.{some}
+use mathlib.Core.Option.{none, some}
 use Prim.Native.Nat.{ℕ, suc, _+_, _-_, _≤_, _<_}
 use native.Mathlib.Omega.{arith}
 use lib.ListN.{length, getD}
@@ -17,9 +17,9 @@ use Rattle.sheet.specs.Sheet.{count, lines}
 use Rattle.model.specs.Cty.{Cty}
 use Rattle.model.specs.Decl.{NewtypeLayout, L-newtype, TypeInfo, here, imported, dtype-at, origin-at}
 use Rattle.model.specs.Reach.{Reach}
-use Rattle.model.specs.Layout.{guard-next, candidates-of, Candidate}
-use Rattle.model.specs.Resolve.{stays}
-use Rattle.model.specs.Run.{run, info-at, lay, layout-of-decl, resolves}
+use Rattle.model.specs.Layout.{guard-next, passes-of, source-layouts, Candidate}
+use Rattle.model.specs.Resolve.{stays, abbreviation-of, unfolds}
+use Rattle.model.specs.Run.{run, info-at, lay, layouts-of, layout-of-decl, resolves}
 use Rattle.model.specs.Names.{Declared, Agree}
 use Rattle.meaning.specs.Program.{type-line, trees}
 use Rattle.meaning.specs.Rows.{line-at, heads-before, head-of}
@@ -33,7 +33,7 @@ use Rattle.answer_patterns.specs.Passes.{Passes}
 use Rattle.answer_patterns.specs.Cut.{build, builds, Cut, Call, Over, InTurn, last-call, AllAccept, Wrote}
 use Rattle.sheet.specs.FormatLaws.{base-ample}
 use Rattle.answer_laws.specs.Pass.{own-imports}
-use Rattle.claims.specs.Claims.{Accepts, decl-lines, pattern-lines, decls, marks, erased, Least, Rounds, LocalVerdict, Unspent, OfSource, Unchanged, Holds, Same, FirstUnits, sheet-pattern, sheet-rewritten, PatternOfSource}
+use Rattle.claims.specs.Claims.{Accepts, decl-lines, pattern-lines, decls, marks, erased, Least, Rounds, LocalVerdict, GuardMore, LoopsLeft, Unspent, OfSource, Unchanged, Holds, Same, FirstUnits, sheet-pattern, sheet-rewritten, PatternOfSource}
 use Rattle.claims.specs.Claims as claims
 
 -- ---- demand 1: refusals
@@ -71,8 +71,21 @@ kept-fields = claims.kept-fields base
 pub collapsed : (b : List ℕ) (v l : ℕ) → Accepts base b v l → (i : ℕ) → i < length (decls base b) → origin-at (decls base b) i ≡ here → (nt : NewtypeLayout)
     → (layout-of-decl (decls base b) i ≡ L-newtype nt)
     ↔ (Candidate (erased (decls base b)) (dtype-at (decls base b) i) (getD (marks (decls base b)) i false) nt
-    × (Reach (guard-next (decls base b) (candidates-of (decls base b) (marks (decls base b)))) i i → ⊥))
+    × (Reach (guard-next (decls base b) (passes-of (decls base b) (marks (decls base b)))) i i → ⊥))
 collapsed = claims.collapsed base
+
+-- the guard drops what the source's drops, and on loops through unfolded abbreviations more
+pub guard-more : (b : List ℕ) (i : ℕ) → GuardMore (decls base b) i
+guard-more b = claims.guard-more (decls base b)
+
+-- a loop that code 8 refuses is of abbreviations alone, or has an imported newtype on it
+pub loops-left : (b : List ℕ) (i : ℕ) → LoopsLeft (decls base b) i
+loops-left b = claims.loops-left (decls base b)
+
+-- without unfolded abbreviations the layouts are those of the source's guard
+pub guard-here : (b : List ℕ) → ((i : ℕ) → i < length (decls base b) → abbreviation-of (getD (unfolds (decls base b) (layouts-of (decls base b))) i stays) ≡ none)
+    → layouts-of (decls base b) ≡ source-layouts (decls base b) (marks (decls base b))
+guard-here b = claims.guard-here (decls base b)
 
 -- imports keep what their lines say
 pub imports : (b : List ℕ) (v l : ℕ) → Accepts base b v l → (i : ℕ) (ti : TypeInfo) → i < length (decls base b) → origin-at (decls base b) i ≡ imported ti
@@ -83,7 +96,7 @@ imports = claims.imports base
 pub unspent : (b : List ℕ) (v l : ℕ) → Accepts base b v l → (i : ℕ) → i < length (decls base b) → (c : Cty) → List·Memᴰ c (resolves (layout-of-decl (decls base b) i)) → Unspent base (decls base b) c
 unspent b v l = claims.unspent base b v l base-ample
 
--- the two sheets are those of the source's `run`
+-- the two sheets are those of `run`: the source's, with this guard
 pub run-of-source : (b : List ℕ) (v l : ℕ) → Accepts base b v l → OfSource base b (answer base b v l)
 run-of-source = claims.run-of-source base
 

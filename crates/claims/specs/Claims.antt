@@ -6,11 +6,11 @@
 -- and the left sheet. f is the format; `base` is the one of FORMAT, and `Ample f` says that its limits do
 -- not outgrow its columns and the fuel, which `base-ample` of `FormatLaws` shows of it.
 -- Assumes nothing.
-use mathlib.Core.Logic.{_↔_, ⊎-elim}
+use mathlib.Core.Logic.{_↔_, _⊎_, ⊎-elim}
 use mathlib.Core.Path.{_≡_, refl, sym, _∙_, ap, subst}
 use mathlib.Core.List.{List, [], _∷_, _++_, map, append-nil, append-assoc, List·Memᴰ, List·Memᴰ·append-cases}
 use mathlib.Core.Bool.{Bool, true, false, not}
-use mathlib.Core.Option.{Option, some}
+use mathlib.Core.Option.{Option, none, some}
 use Prim.Native.Nat.{_+_, _*_, _-_, ℕ, suc, _≤_, _<_}
 use native.Mathlib.Omega.{arith}
 use lib.Dec.{T}
@@ -37,13 +37,15 @@ use Rattle.model.specs.Decl.{
   ctors-of-tydef,
 }
 use Rattle.model.specs.Erasure.{cty-erased, marked, rule, start, erasure-fixpoint, Made, locals}
-use Rattle.model.specs.Reach.{Reach}
-use Rattle.model.specs.Layout.{ctor-layouts, guard-next, Candidate, candidates-of}
-use Rattle.model.specs.Resolve.{stays, resolve, ok, resolve-checked}
-use Rattle.model.specs.Run.{record-of, left-program, run, layouts-of, resolves, decl-fault, returns, lay, layout-of-decl, left-at, info-at}
+use Rattle.model.specs.Reach.{Reach, nodes}
+use Rattle.model.specs.Layout.{ctor-layouts, guard-next, source-guard-next, Candidate, candidates-of, passes-of, source-layouts}
+use Rattle.model.specs.Resolve.{stays, abbreviation-of, unfolds, resolve, ok, resolve-checked}
+use Rattle.model.specs.Run.{record-of, left-program, run, layouts-of, resolves, decl-fault, unfold-next, returns, Abbreviates, ImportedNewtype, lay, layout-of-decl, left-at, info-at}
 use Rattle.model.specs.Names.{Declared, Agree, OwnImports}
 use Rattle.model_laws.specs.Erasure.{erasure-solves, erasure-least, erasure-made, erasure-rounds}
+use Rattle.model_laws.specs.Reach.{cyclic-iff}
 use Rattle.model_laws.specs.Layout as layouts
+use Rattle.model_laws.specs.Guard as guard
 use Rattle.model_laws.specs.Cty.{every-mem}
 use Rattle.model_laws.specs.Run.{getD-infos, local-info, import-info, import-layout}
 use Rattle.model_laws.specs.Locality.{marks-local, layouts-local, info-local, left-local, fault-local, returns-local}
@@ -164,13 +166,55 @@ imports f b v l a i ti h o = (
 
 -- COLLAPSED. A local type is a newtype exactly where its guards allow it (`Candidate`: not erased, without
 -- `NoNewtype`, one constructor, one kept field, whose type less one `TInline` is the payload) and no steps
--- from its payload, through payloads of candidates, also of those that are dropped, lead back to its name.
+-- from its payload, through payloads of candidates, also of those that are dropped, and bodies of unfolded
+-- abbreviations lead back to its name.
 pub collapsed : (f : Format) (b : List ℕ) (v l : ℕ) → Accepts f b v l → (i : ℕ) → i < length (decls f b) → origin-at (decls f b) i ≡ here → (nt : NewtypeLayout)
     → (layout-of-decl (decls f b) i ≡ L-newtype nt)
     ↔ (Candidate (erased (decls f b)) (dtype-at (decls f b) i) (getD (marks (decls f b)) i false) nt
-    × (Reach (guard-next (decls f b) (candidates-of (decls f b) (marks (decls f b)))) i i → ⊥))
+    × (Reach (guard-next (decls f b) (passes-of (decls f b) (marks (decls f b)))) i i → ⊥))
 unfolding layouts-of
 collapsed f b v l a i h o nt = layouts.collapsed (decls f b) (marks (decls f b)) i h o nt
+
+-- ---- the guard and the source's
+-- The source's guard (`source-guard-next`) goes on through payloads of candidates alone. The next three claims say what
+-- differs; they are of any program.
+--
+-- GUARD MORE. What the source's guard drops is dropped. What is dropped and would not be by the source's guard lies on loops
+-- that each have an unfolded abbreviation on them.
+pub record GuardMore (ds : List Decl) (i : ℕ) : Type 0 where
+  pub drops : Reach (source-guard-next ds (candidates-of ds (marks ds))) i i → Reach (guard-next ds (passes-of ds (marks ds))) i i
+  pub alone :
+      (Reach (source-guard-next ds (candidates-of ds (marks ds))) i i → ⊥)
+      → (w : Reach (guard-next ds (passes-of ds (marks ds))) i i)
+      → (j : ℕ) × List·Memᴰ j (nodes (guard-next ds (passes-of ds (marks ds))) w) × Abbreviates ds (layouts-of ds) j
+
+pub guard-more : (ds : List Decl) (i : ℕ) → GuardMore ds i
+unfolding layouts-of
+guard-more ds i =
+    record { drops = guard.source-dropped ds (marks ds); alone = λ n w. ⊎-elim (λ r. absurd (n r)) (λ q. q) (guard.guard-walk ds (marks ds) w) }
+
+-- LOOPS LEFT. Row 8 refuses a declaration exactly where it is on a loop of unfolded names; every such loop is of abbreviations
+-- alone, or an imported newtype is on it.
+pub record LoopsLeft (ds : List Decl) (i : ℕ) : Type 0 where
+  pub refused-by-loop : (returns ds (layouts-of ds) i ≡ true) ↔ Reach (unfold-next ds (layouts-of ds)) i i
+  pub loop-is :
+      (w : Reach (unfold-next ds (layouts-of ds)) i i)
+      → ((j : ℕ) → List·Memᴰ j (nodes (unfold-next ds (layouts-of ds)) w) → Abbreviates ds (layouts-of ds) j)
+      ⊎ ((j : ℕ) × List·Memᴰ j (nodes (unfold-next ds (layouts-of ds)) w) × ImportedNewtype ds j)
+
+pub loops-left : (ds : List Decl) (i : ℕ) → LoopsLeft ds i
+unfolding returns layouts-of
+loops-left ds i =
+    record {
+      refused-by-loop = cyclic-iff (unfold-next ds (layouts-of ds)) (length ds) i (layouts.unfold-below ds (layouts-of ds));
+      loop-is = guard.loop-left ds (marks ds) i;
+    }
+
+-- GUARD HERE. A program without unfolded abbreviations has the layouts that the source's guard gives, and so the source's
+-- verdicts and left declarations.
+pub guard-here : (ds : List Decl) → ((i : ℕ) → i < length ds → abbreviation-of (getD (unfolds ds (layouts-of ds)) i stays) ≡ none) → layouts-of ds ≡ source-layouts ds (marks ds)
+unfolding layouts-of
+guard-here ds = guard.guard-source ds (marks ds)
 
 -- RESOLVED. No type in the left sheet names a collapsed, erased or unfolded type: the name of every `TApp`
 -- line read from its bytes stays. (The checklist's third line.)
@@ -203,8 +247,9 @@ unspent f b v l ample a i h c m =
       more = λ m q. fuel-same (decls f b) (pass-no-return f (front (f .columns) b) v l ample p) m (f .fuel) (omega (arith, few)) few c;
     }
 
--- RUN. The verdicts and the declarations that are left are those of the model of the source's `run`. The Q lines stay in the
--- verdict sheet, and in the left sheet their pattern follows the declarations, rewritten (`pattern-of-source`).
+-- RUN. The verdicts and the declarations that are left are those of `run`: the source's, but for the guard, which goes on
+-- through unfolded abbreviations too (`guard-more`, `loops-left`, `guard-here`). The Q lines stay in the verdict sheet, and in
+-- the left sheet their pattern follows the declarations, rewritten (`pattern-of-source`).
 pub record OfSource (f : Format) (b : List ℕ) (a : Answer) : Type 0 where
   pub verdicts : a .verdict ≡ encodes (f .columns) (verdict-lines (decl-lines f b) (run (f .fuel) (decls f b) .infos)) ++ tail (f .columns) b
   pub declarations : a .left ≡ encodes (f .columns) (left-lines (decl-lines f b) (left-program (run (f .fuel) (decls f b)))) ++ encodes (f .columns) (following f (decl-lines f b) (pattern-lines f b))

@@ -219,7 +219,7 @@ starred =
           ∷ "V     0     0     0     0     0"
           ∷ [];
     }
-    -- *8 `t` holds an abbreviation of `t`: refused by row 8, at `t`
+    -- *8 `t` holds an abbreviation of `t`: a struct, and the abbreviation of it stays
     ∷ record {
       number = 8;
       view = summary;
@@ -238,7 +238,17 @@ starred =
           ∷ "V     0     0     0     0     0"
           ∷ [];
       told =
-          "R     8     6     0     0     0"
+          "R     0     0     1     0     0"
+          ∷ "V     0     2     1     0     0"
+          ∷ "V     0     3     0     0     0"
+          ∷ "Y     8     1     0     0     0"
+          ∷ "Y     8     1     0     0     0"
+          ∷ "D     1     0     3     0     1"
+          ∷ "C     2     1     0     0     0"
+          ∷ "F     3     0     0     0     0"
+          ∷ "V     0     0     0     0     0"
+          ∷ "D     0     0     1     0     1"
+          ∷ "V     0     0     0     0     0"
           ∷ [];
     }
     -- *9 `Realized` does not keep a type from being a newtype
