@@ -1,11 +1,15 @@
 -- One node more, and what a table of steps says of the steps that it holds. Assumes nothing.
 use mathlib.Core.Path.{_≡_, ap, _∙_}
 use mathlib.Core.List.{List, List·Memᴰ}
+use mathlib.Core.Bool.{Bool}
 use Prim.Native.Nat.{ℕ, _+_, _≤_, _<_}
 use native.Mathlib.Omega.{arith}
 use native.Mathlib.Decide.{ℕ-discrete}
+use lib.Dec.{eqb}
 use lib.ListN.{length, getD, set, length-set}
 use lib.Seq.{getD-set-same, getD-set-other}
+use borrow.Author.Tests.{eq-eqb, ne-eqb}
+use Rattle.number_columns.specs.Column.{pick}
 use Rattle.sheet.specs.ListLaws.{contrary}
 use Rattle.sheet.specs.FirstLaws.{first-before, first-congr}
 use Rattle.model.specs.Decl.{bit}
@@ -15,7 +19,7 @@ use Rattle.set_search.specs.declared.Found.{Found}
 use Rattle.set_search.specs.declared.Found.the-variants.{Start, Reached}
 use Rattle.set_search.specs.Search.{steps, Searched}
 use Rattle.set_search.specs.SearchLaws.{Holds, start-found, reached-all, holds-cyclic, holds-rank}
-use Rattle.set_search.specs.Loops.{start, Looped, Ranked, First}
+use Rattle.set_search.specs.Loops.{start, mark, Looped, Ranked, First}
 
 -- one place more of a list
 more : (f : ℕ → ℕ) (k : ℕ) (s t : List ℕ) (v : ℕ) → k < length t → v ≡ f k → ((i : ℕ) → i < k → getD t i 0 ≡ f i) → (i : ℕ) → i < k + 1 → getD (set t k v) i 0 ≡ f i
@@ -25,21 +29,33 @@ more f k s t v h e r i l = go (ℕ-discrete i k)
     go (yes z) = rw z (getD-set-same t k v 0 h ∙ e)
     go (no z) = getD-set-other t k i v 0 z ∙ r i (omega arith)
 
-module _ (next : ℕ → List ℕ) (n : ℕ) where
-  pub looped-more : (k : ℕ) (s t : List ℕ) (v : ℕ) → k < length s → v ≡ bit (cyclic next n k) → Looped next n k s t → Looped next n (k + 1) s (set t k v)
-  looped-more k s t v h e r =
-      record { long = length-set t k v ∙ r .long; marked = more (λ i. bit (cyclic next n i)) k s t v (omega (arith, r .long)) e (r .marked) }
+module _ (next : ℕ → List ℕ) (starts : List ℕ) (none : ℕ) where
+  pub looped-more : (k : ℕ) (s t : List ℕ) (v : ℕ) → k < length s → v ≡ mark next starts none k → Looped next starts none k s t → Looped next starts none (k + 1) s (set t k v)
+  looped-more k s t v h e r = record { long = length-set t k v ∙ r .long; marked = more (mark next starts none) k s t v (omega (arith, r .long)) e (r .marked) }
 
--- the mark of a node by what the search from it answers
-pub start-bit : (next : ℕ → List ℕ) (n k : ℕ) (r : Found) (s : List ℕ) → Searched next n k r s → start r ≡ bit (cyclic next n k)
-start-bit next n k Start s d = rw (start-found next n k s d)
-start-bit next n k (Reached c) s d = rw (reached-all next n k s c d .0)
+  -- no start
+  pub mark-none : (k : ℕ) → getD starts k 0 ≡ none → 0 ≡ mark next starts none k
+  unfolding mark
+  mark-none k e = rw (eq-eqb (getD starts k 0) none e)
+
+  -- a start, by what the search from it answers
+  pub mark-start : (k : ℕ) → (getD starts k 0 ≡ none → ⊥) → (r : Found) (s : List ℕ) → Searched next (length starts) k r s → start r ≡ mark next starts none k
+  unfolding mark
+  mark-start k e Start s d = rw (ne-eqb (getD starts k 0) none e, start-found next (length starts) k s d)
+  mark-start k e (Reached c) s d = rw (ne-eqb (getD starts k 0) none e, reached-all next (length starts) k s c d .0)
 
 -- ---- of the steps that a table holds
-module _ (next : ℕ → List ℕ) (n words : ℕ) (t : List ℕ) (h : Holds next n words t) (s s′ : List ℕ) where
-  pub looped-as : (k : ℕ) → k ≤ n → Looped (steps n words t) n k s s′ → Looped next n k s s′
-  looped-as k l r = record { long = r .long; marked = λ i j. r .marked i j ∙ ap bit (holds-cyclic next n words t h i (omega arith)) }
+pub looped-as : (next : ℕ → List ℕ) (starts : List ℕ) (none words : ℕ) (t : List ℕ) → Holds next (length starts) words t → (s s′ : List ℕ)
+    → Looped (steps (length starts) words t) starts none (length starts) s s′
+    → Looped next starts none (length starts) s s′
+unfolding mark
+looped-as next starts none words t h s s′ r =
+    record {
+      long = r .long;
+      marked = λ i j. r .marked i j ∙ ap (λ (c : Bool). pick (eqb (getD starts i 0) none) 0 (bit c)) (holds-cyclic next (length starts) words t h i j);
+    }
 
+module _ (next : ℕ → List ℕ) (n words : ℕ) (t : List ℕ) (h : Holds next n words t) (s s′ : List ℕ) where
   pub ranked-as : (k : ℕ) → k ≤ n → Ranked (steps n words t) n k s s′ → Ranked next n k s s′
   ranked-as k l r = record { long = r .long; ranks = λ i j. r .ranks i j ∙ holds-rank next n words t h i (omega arith) }
 
