@@ -1,4 +1,4 @@
--- The candidates for a newtype, by the F lines of their payloads, and the types that the guard goes on through. Assumes nothing.
+-- The candidates for a newtype, by the F lines of their payloads. Assumes nothing.
 use mathlib.Core.Path.{_≡_}
 use mathlib.Core.List.{List}
 use mathlib.Core.Bool.{true}
@@ -8,19 +8,15 @@ use lib.Dec.{ltb}
 use lib.ListN.{length, getD}
 use Rattle.number_columns.specs.Column.{pick}
 use Rattle.sheet.specs.Line.{Line}
-use Rattle.model.specs.Cty.{Cty}
-use Rattle.model.specs.Decl.{close, NewtypeLayout}
+use Rattle.model.specs.Decl.{NewtypeLayout}
 use Rattle.model.specs.Erasure.{erasure-fixpoint}
-use Rattle.model.specs.Layout.{candidates-of, payload}
-use Rattle.meaning.specs.Program.{type-line, field-line, program}
+use Rattle.model.specs.Layout.{candidates-of}
+use Rattle.meaning.specs.Program.{field-line, program}
 use Rattle.meaning.specs.Rows.{count-of}
 use Rattle.table_access.specs.Tables.{decls-of, first-of}
 use Rattle.erasure_marks.specs.Marks.{marks-of}
 use Rattle.keep_fields.specs.Keeps.{Slotted}
-use Rattle.resolve_kids.specs.Nodes.{type-of}
-use Rattle.resolve_kids.specs.Params.{params-of}
 use Rattle.keep_layouts.specs.Layouts.{newtype-told}
-use Rattle.collapse_candidates.specs.Payloads.{Payload}
 use Rattle.collapse_newtypes.specs.declared.Only.{Only}
 use Rattle.collapse_newtypes.specs.declared.Only.the-variants.{Field, Nothing}
 use Rattle.collapse_newtypes.specs.Newtypes.{one-ctor, ctor-told}
@@ -44,10 +40,6 @@ candidate-of ls d = getD (candidates-of (program ls) (erasure-fixpoint (program 
 unfoldable pub field-told : List Line → ℕ → ℕ → Option NewtypeLayout
 field-told ls d f = pick (ltb f (count-of field-line ls)) (some (newtype-told ls d (ctor-told ls d) f)) none
 
--- the type of Y line y, closed by the parameters of declaration d, and none where there is no such line
-unfoldable pub body-told : List Line → ℕ → ℕ → Option Cty
-body-told ls d y = pick (ltb y (count-of type-line ls)) (some (close (params-of ls d) (type-of ls y))) none
-
 -- the number of no F line
 abbrev pub no-field : ℕ
 no-field = 65535
@@ -61,11 +53,6 @@ number-of Nothing = no-field
 abbrev pub Sole : List Line → ℕ → ℕ → Type 0
 Sole ls d f = (f < count-of field-line ls) × (first-of field-line ls d ≤ f) × (one-ctor ls d ≡ true)
 
--- the type that the guard goes on through: the payload of F line f, or none
-pub record Body (ls : List Line) (f y : ℕ) : Type 0 where
-  pub none : f ≡ no-field → y ≡ count-of type-line ls
-  pub some : (f ≡ no-field → ⊥) → Payload ls f y
-
 -- declaration d is a candidate by F line f, or none
 pub record Candidate (ls : List Line) (d f : ℕ) : Type 0 where
   pub told : candidate-of ls d ≡ field-told ls d f
@@ -73,23 +60,11 @@ pub record Candidate (ls : List Line) (d f : ℕ) : Type 0 where
   pub one : f < count-of field-line ls → one-ctor ls d ≡ true
 
 -- the first n declarations
-pub record Partly (ls : List Line) (fields bodies : List ℕ) (n : ℕ) : Type 0 where
-  pub fields-long : length fields ≡ decls-of ls
-  pub bodies-long : length bodies ≡ decls-of ls
-  pub field : (d : ℕ) → d < n → Candidate ls d (getD fields d 0)
-  pub body : (d : ℕ) → d < n → payload (candidate-of ls d) ≡ body-told ls d (getD bodies d 0)
+pub record Partly (ls : List Line) (fields : List ℕ) (n : ℕ) : Type 0 where
+  pub long : length fields ≡ decls-of ls
+  pub each : (d : ℕ) → d < n → Candidate ls d (getD fields d 0)
 
--- the F line of each declaration's payload
+-- Every candidate is known by the F line of its payload.
 pub record Fields (ls : List Line) (fields : List ℕ) : Type 0 where
   pub long : length fields ≡ decls-of ls
   pub each : (d : ℕ) → d < decls-of ls → Candidate ls d (getD fields d 0)
-
--- the Y line of each declaration's payload
-pub record Payloads (ls : List Line) (bodies : List ℕ) : Type 0 where
-  pub long : length bodies ≡ decls-of ls
-  pub each : (d : ℕ) → d < decls-of ls → payload (candidate-of ls d) ≡ body-told ls d (getD bodies d 0)
-
--- Every candidate is known by its payload.
-pub record Candidates (ls : List Line) (fields bodies : List ℕ) : Type 0 where
-  pub by-field : Fields ls fields
-  pub by-type : Payloads ls bodies

@@ -2,7 +2,7 @@
 use mathlib.Core.Path.{_≡_, refl, ap, sym, _∙_}
 use mathlib.Core.List.{List}
 use mathlib.Core.Bool.{Bool, true, false, not}
-use mathlib.Core.Option.{Option, none, some}
+use mathlib.Core.Option.{Option, none}
 use Prim.Native.Nat.{ℕ, _+_, _/_, _%_, _<_}
 use native.Mathlib.Omega.{arith}
 use lib.Dec.{eqb}
@@ -11,12 +11,12 @@ use lib.Seq.{getD-set-same, getD-set-other}
 use borrow.Author.Tests.{ne-eqb, lt-ltb, le-ltb}
 use Rattle.number_columns.specs.Column.{pick}
 use Rattle.sheet.specs.Line.{Line, number}
-use Rattle.model.specs.Decl.{close, close-fields, has-flag, NoNewtype, NewtypeLayout, dtype-at}
+use Rattle.model.specs.Decl.{close-fields, has-flag, NoNewtype, NewtypeLayout, dtype-at}
 use Rattle.model.specs.Erasure.{erasure-fixpoint, marked}
-use Rattle.model.specs.Layout.{candidate, newtype-of, payload}
+use Rattle.model.specs.Layout.{candidate, newtype-of}
 use Rattle.model_laws.specs.Layout.{candidate-at, getD-candidates}
 use Rattle.model_laws.specs.Rounds.{cases-eq}
-use Rattle.meaning.specs.Program.{type-line, field-line, import-line, is, dtype-of, program}
+use Rattle.meaning.specs.Program.{field-line, import-line, is, dtype-of, program}
 use Rattle.meaning.specs.Rows.{count-of}
 use Rattle.meaning_laws.specs.Program.{length-program}
 use Rattle.table_declared.specs.Passed.{Passed}
@@ -25,19 +25,17 @@ use Rattle.table_declared.specs.DeclLaws.{dtype-is, origin-local, origin-import
 use Rattle.table_declared.specs.PassedLaws.{fields-few}
 use Rattle.erasure_marks.specs.Marks.{marks-of}
 use Rattle.erasure_marks.specs.MarksLaws.{marks-at}
-use Rattle.resolve_kids.specs.Nodes.{type-of}
-use Rattle.resolve_kids.specs.Params.{params-of}
-use Rattle.keep_layouts.specs.Kept.{ctors-of-decl, ctors-at, field-type}
-use Rattle.keep_layouts.specs.Layouts.{newtype-told}
-use Rattle.collapse_candidates.specs.Payloads.{Payload}
-use Rattle.collapse_candidates.specs.PayloadsLaws.{close-uninline}
+use Rattle.keep_layouts.specs.Kept.{ctors-of-decl, ctors-at}
 use Rattle.collapse_newtypes.specs.declared.Only.{Only}
 use Rattle.collapse_newtypes.specs.declared.Only.the-variants.{Field, Nothing}
 use Rattle.collapse_newtypes.specs.Newtypes.{only-told}
-use Rattle.collapse_candidates.specs.Candidates.{candidate-of, Sole, no-field, number-of, field-told, body-told, Body, Candidate, Partly, Candidates}
-use Rattle.erasure_laws.specs.BodiesLaws as bodies
+use Rattle.collapse_candidates.specs.Candidates.{candidate-of, Sole, no-field, number-of, field-told, Candidate, Partly, Fields}
 
 -- ---- declaration d
+-- its mark
+pub mark-is : (ls : List Line) (d : ℕ) (decl : List ℕ) → marks-of decl ≡ erasure-fixpoint (program ls) .marks → getD (erasure-fixpoint (program ls) .marks) d false ≡ eqb (getD decl d 0) 1
+mark-is ls d decl m = ap (λ (s : List Bool). getD s d false) (sym m) ∙ marks-at decl d
+
 module _ (ls : List Line) (d : ℕ) (h : d < decls-of ls) where
   at : candidate-of ls d ≡ candidate-at (program ls) (marked (program ls) (erasure-fixpoint (program ls) .marks)) (erasure-fixpoint (program ls) .marks) d
   at = getD-candidates (program ls) (marked (program ls) (erasure-fixpoint (program ls) .marks)) (erasure-fixpoint (program ls) .marks) d none (rw (length-program ls) h)
@@ -48,9 +46,6 @@ module _ (ls : List Line) (d : ℕ) (h : d < decls-of ls) where
   import-none e = at ∙ rw (origin-import ls d h e)
 
   module _ (decl : List ℕ) (m : marks-of decl ≡ erasure-fixpoint (program ls) .marks) (e : is import-line (head-line ls d) ≡ false) where
-    mark-is : getD (erasure-fixpoint (program ls) .marks) d false ≡ eqb (getD decl d 0) 1
-    mark-is = ap (λ (s : List Bool). getD s d false) (sym m) ∙ marks-at decl d
-
     flag-is : has-flag (dtype-at (program ls) d) NoNewtype ≡ eqb (number (head-line ls d) 1 / 4 % 2) 1
     unfolding has-flag close-fields dtype-of
     flag-is = rw (dtype-is ls d h)
@@ -58,12 +53,12 @@ module _ (ls : List Line) (d : ℕ) (h : d < decls-of ls) where
     -- an erased declaration is none,
     pub erased-none : getD decl d 0 ≡ 1 → candidate-of ls d ≡ none
     unfolding candidate
-    erased-none q = at ∙ rw (origin-local ls d h e, mark-is, q)
+    erased-none q = at ∙ rw (origin-local ls d h e, mark-is ls d decl m, q)
 
     -- and any other is by its flags and its kept fields
     pub by-flag : (getD decl d 0 ≡ 1 → ⊥) → (n : ℕ) → n ≡ number (head-line ls d) 1 → candidate-of ls d ≡ pick (not (eqb (n / 4 % 2) 1)) (newtype-of (ctors-at (program ls) d)) none
     unfolding candidate ctors-of-decl
-    by-flag k n q = at ∙ rw (origin-local ls d h e, mark-is, ne-eqb (getD decl d 0) 1 k, flag-is, q) (go (eqb (number (head-line ls d) 1 / 4 % 2) 1) _)
+    by-flag k n q = at ∙ rw (origin-local ls d h e, mark-is ls d decl m, ne-eqb (getD decl d 0) 1 k, flag-is, q) (go (eqb (number (head-line ls d) 1 / 4 % 2) 1) _)
       where
         go : (x : Bool) (o : Option NewtypeLayout) → pick x none o ≡ pick (not x) o none
         go true o = refl
@@ -95,43 +90,18 @@ module _ (ls : List Line) (p : Passed ls) (d : ℕ) where
   pub only-small : (r : Only) → ((g : ℕ) → r ≡ Field g → Sole ls d g) → (f : ℕ) → r ≡ Field f → f < 65536
   only-small r g f e = omega (arith, g f e .0, fields-few ls p)
 
-module _ (ls : List Line) (p : Passed ls) (d f : ℕ) (c : Candidate ls d f) where
-  -- the type that the guard goes on through
-  body-none : (y : ℕ) → f ≡ no-field → y ≡ count-of type-line ls → payload (candidate-of ls d) ≡ body-told ls d y
-  unfolding field-told body-told payload
-  body-none y e l =
-      let h = fields-few ls p in
-      rw (c .told, le-ltb f (count-of field-line ls) (omega arith), le-ltb y (count-of type-line ls) (omega arith))
-
-  body-some : (y : ℕ) → (f ≡ no-field → ⊥) → Payload ls f y → payload (candidate-of ls d) ≡ body-told ls d y
-  unfolding field-told body-told payload newtype-told
-  body-some y n q =
-      rw (c .told, lt-ltb f (count-of field-line ls) (c .named n), lt-ltb y (count-of type-line ls) (q .inside))
-      (ap some (sym (close-uninline (params-of ls d) (type-of ls (field-type ls f))) ∙ ap (close (params-of ls d)) (sym (q .type))))
-
-  pub body-by : (y : ℕ) → Body ls f y → payload (candidate-of ls d) ≡ body-told ls d y
-  body-by y k = cases-eq f no-field (λ e. body-none y e (k .none e)) (λ n. body-some y n (k .some n))
-
 -- ---- one declaration after the other
-pub partly-none : (ls : List Line) (fields bodies : List ℕ) → length fields ≡ decls-of ls → length bodies ≡ decls-of ls → Partly ls fields bodies 0
-partly-none ls fields bodies e g = record { fields-long = e; bodies-long = g; field = λ d l. absurd (omega arith); body = λ d l. absurd (omega arith) }
+pub partly-none : (ls : List Line) (fields : List ℕ) → length fields ≡ decls-of ls → Partly ls fields 0
+partly-none ls fields e = record { long = e; each = λ d l. absurd (omega arith) }
 
-pub partly-next : (ls : List Line) (fields bodies : List ℕ) (n f y : ℕ) → n < decls-of ls → Candidate ls n f → payload (candidate-of ls n) ≡ body-told ls n y → Partly ls fields bodies n → Partly ls (set fields n f) (set bodies n y) (n + 1)
-partly-next ls fields bodies n f y h c e p =
+pub partly-next : (ls : List Line) (fields : List ℕ) (n f : ℕ) → n < decls-of ls → Candidate ls n f → Partly ls fields n → Partly ls (set fields n f) (n + 1)
+partly-next ls fields n f h c p =
     record {
-      fields-long = length-set fields n f ∙ p .fields-long;
-      bodies-long = length-set bodies n y ∙ p .bodies-long;
-      field = λ d l. cases-eq d n
-          (λ q. rw (q, getD-set-same fields n f 0 (omega (arith, p .fields-long))) c)
-          (λ o. rw (getD-set-other fields n d f 0 o) (p .field d (omega arith)));
-      body = λ d l. cases-eq d n
-          (λ q. rw (q, getD-set-same bodies n y 0 (omega (arith, p .bodies-long))) e)
-          (λ o. rw (getD-set-other bodies n d y 0 o) (p .body d (omega arith)));
+      long = length-set fields n f ∙ p .long;
+      each = λ d l. cases-eq d n
+          (λ q. rw (q, getD-set-same fields n f 0 (omega (arith, p .long))) c)
+          (λ o. rw (getD-set-other fields n d f 0 o) (p .each d (omega arith)));
     }
 
-pub partly-all : (ls : List Line) (fields bodies : List ℕ) (n : ℕ) → n ≡ decls-of ls → Partly ls fields bodies n → Candidates ls fields bodies
-partly-all ls fields bodies n e p =
-    record {
-      by-field = record { long = p .fields-long; each = λ d l. p .field d (omega arith) };
-      by-type = record { long = p .bodies-long; each = λ d l. p .body d (omega arith) };
-    }
+pub partly-all : (ls : List Line) (fields : List ℕ) (n : ℕ) → n ≡ decls-of ls → Partly ls fields n → Fields ls fields
+partly-all ls fields n e p = record { long = p .long; each = λ d l. p .each d (omega arith) }

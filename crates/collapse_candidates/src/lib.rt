@@ -9,7 +9,6 @@ ghost use lib.ListN.{length};
 ghost use Rattle.number_columns.specs.Column.{pick};
 ghost use Rattle.model.specs.Layout as layout;
 ghost use Rattle.meaning.specs.Program as program;
-ghost use Rattle.meaning.specs.Rows as rows;
 ghost use Rattle.table_access.specs.Tables as tables;
 ghost use Rattle.keep_layouts.specs.Kept as kept;
 ghost use Rattle.collapse_newtypes.specs.declared.Only.the-variants as only;
@@ -57,31 +56,17 @@ fn candidate(t: &[u32], decl: &[u8], keep: &[u8], d: usize) -> u16
     NONE
 }
 
-// The type that the guard goes on through: the payload that is F line f, or the number of types where there is none.
-fn body(t: &[u32], f: u16) -> u16
-    requires { ⌜ tables.Tabled (now t) ⌝ }
-    requires { ⌜ ((f ≡ candidates.no-field → ⊥) → f < rows.count-of program.field-line (tables.lines-in (now t))) ⌝ }
-    ensures { λ r. ⌜ candidates.Body (tables.lines-in (now (t .entry))) f r ⌝ }
-{
-    if f == NONE {
-        return table_access::types(t) as u16;
-    }
-    payloads::payload(t, f as usize) as u16
-}
-
-// For each declaration this F line, and this type.
-pub fn candidates(t: &[u32], decl: &[u8], keep: &[u8], fields: &mut [u16], bodies: &mut [u16])
+// For each declaration this F line.
+pub fn candidates(t: &[u32], decl: &[u8], keep: &[u8], fields: &mut [u16])
     requires { ⌜ tables.Tabled (now t) ⌝ }
     requires { ⌜ candidates.Ruled (tables.lines-in (now t)) (now decl) (now keep) ⌝ }
-    requires { ⌜ (length (now fields) ≡ tables.decls-of (tables.lines-in (now t))) × (length (now bodies) ≡ tables.decls-of (tables.lines-in (now t))) ⌝ }
-    ensures { λ _. ⌜ candidates.Candidates (tables.lines-in (now (t .entry))) (now (fields .exit)) (now (bodies .exit)) ⌝ }
+    requires { ⌜ length (now fields) ≡ tables.decls-of (tables.lines-in (now t)) ⌝ }
+    ensures { λ _. ⌜ candidates.Fields (tables.lines-in (now (t .entry))) (now (fields .exit)) ⌝ }
 {
     let n = fields.len();
     let mut d = 0;
     while d < n {
-        let f = candidate(t, decl, keep, d);
-        fields[d] = f;
-        bodies[d] = body(t, f);
+        fields[d] = candidate(t, decl, keep, d);
         d += 1;
     }
 }

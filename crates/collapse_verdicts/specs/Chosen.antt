@@ -1,12 +1,11 @@
 -- The layout that the code chooses for a declaration, against the source's. Assumes nothing.
 use mathlib.Core.Path.{_≡_}
 use mathlib.Core.List.{List}
-use mathlib.Core.Bool.{Bool, false}
+use mathlib.Core.Bool.{false}
 use Prim.Native.Nat.{ℕ, _≤_, _<_}
 use lib.ListN.{length}
 use Rattle.sheet.specs.Line.{Line}
-use Rattle.model.specs.Erasure.{erasure-fixpoint}
-use Rattle.model.specs.Layout.{newtype-of, candidates-of, dropped, collapse}
+use Rattle.model.specs.Layout.{newtype-of, collapse}
 use Rattle.meaning.specs.Program.{field-line, program}
 use Rattle.meaning.specs.Rows.{count-of}
 use Rattle.table_access.specs.Tables.{decls-of}
@@ -16,17 +15,13 @@ use Rattle.keep_layouts.specs.declared.Layout.the-variants.{Newtype}
 use Rattle.keep_layouts.specs.Layouts.{layout-told}
 use Rattle.collapse_newtypes.specs.Newtypes.{ctor-told}
 use Rattle.collapse_candidates.specs.Candidates.{candidate-of, Fields}
-use Rattle.collapse_verdicts.specs.Guard.{Guarded}
+use Rattle.collapse_verdicts.specs.Guard.{dropped-of, Guarded}
 use Rattle.model.specs.Decl as decl
-
--- whether the guard drops declaration d, under the marks of the rounds
-abbrev pub dropped-of : List Line → ℕ → Bool
-dropped-of ls d = dropped (program ls) (candidates-of (program ls) (erasure-fixpoint (program ls) .marks)) d
 
 -- the candidates are known, and which of them are dropped
 pub record Screened (ls : List Line) (fields found : List ℕ) : Type 0 where
   pub candidates : Fields ls fields
-  pub guarded : Guarded ls found
+  pub guarded : Guarded ls fields found
   pub long : decls-of ls ≤ length found
 
 -- declaration d by its candidate, where it has constructors, and by its kept fields, where it is an import

@@ -2,10 +2,13 @@
 use mathlib.Core.Path.{_≡_, refl, sym, _∙_}
 use mathlib.Core.List.{List}
 use mathlib.Core.Bool.{Bool, true, false}
+use mathlib.Core.Option.{none}
 use Prim.Native.Nat.{ℕ, _<_}
 use native.Mathlib.Omega.{arith}
+use lib.Dec.{eqb}
 use lib.ListN.{getD}
-use borrow.Author.Tests.{lt-ltb, le-ltb}
+use borrow.Author.Tests.{ne-eqb, lt-ltb, le-ltb}
+use Rattle.number_columns.specs.Column.{pick}
 use Rattle.sheet.specs.Line.{Line}
 use Rattle.model.specs.Decl.{close, L-erased, L-newtype, L-struct, L-abbrev, L-opaque, bit}
 use Rattle.model.specs.Layout.{newtype-of, collapse}
@@ -21,7 +24,8 @@ use Rattle.collapse_newtypes.specs.declared.Only.{Only}
 use Rattle.collapse_newtypes.specs.declared.Only.the-variants.{Field, Nothing}
 use Rattle.collapse_newtypes.specs.Newtypes.{ctor-told, only-told}
 use Rattle.collapse_candidates.specs.Candidates.{no-field, field-told}
-use Rattle.collapse_verdicts.specs.Chosen.{dropped-of, Screened, collapsed, kept-one, newtype, Chosen}
+use Rattle.collapse_verdicts.specs.Guard.{dropped-of}
+use Rattle.collapse_verdicts.specs.Chosen.{Screened, collapsed, kept-one, newtype, Chosen}
 use Rattle.model.specs.Decl as decl
 
 -- ---- a layout that is no newtype, and one that is
@@ -61,26 +65,30 @@ module _ (ls : List Line) (d : ℕ) where
   module _ (fields found : List ℕ) (s : Screened ls fields found) (h : d < decls-of ls) where
     pub candidate-dropped : getD found d 0 ≡ 1 → Chosen ls d (collapsed ls d) Struct
     unfolding collapse
-    candidate-dropped e = struct-chosen ls d _ (rw (bit-is (dropped-of ls d) (sym (s .guarded .each d h) ∙ e)))
+    candidate-dropped e = struct-chosen ls d _ (rw (go (eqb (getD fields d 0) no-field) (dropped-of ls d) (sym (s .guarded .each d h) ∙ e)))
       where
-        bit-is : (x : Bool) → bit x ≡ 1 → x ≡ true
-        bit-is true q = refl
-        bit-is false q = absurd (omega arith)
+        go : (c x : Bool) → pick c 0 (bit x) ≡ 1 → x ≡ true
+        go true x q = absurd (omega arith)
+        go false true q = refl
+        go false false q = absurd (omega arith)
 
-    module _ (k : getD found d 0 ≡ 1 → ⊥) where
-      stays : dropped-of ls d ≡ false
-      stays = go (dropped-of ls d) (λ e. k (s .guarded .each d h ∙ e))
-        where
-          go : (x : Bool) → (bit x ≡ 1 → ⊥) → x ≡ false
-          go true n = absurd (n refl)
-          go false n = refl
+    pub candidate-none : count-of field-line ls < no-field → getD fields d 0 ≡ no-field → Chosen ls d (collapsed ls d) Struct
+    unfolding collapse field-told
+    candidate-none l e = struct-chosen ls d _ (rw (s .candidates .each d h .told, le-ltb (getD fields d 0) (count-of field-line ls) (omega arith)) (go (dropped-of ls d)))
+      where
+        go : (x : Bool) → collapse x none (ctors-at (program ls) d) ≡ L-struct (ctors-at (program ls) d)
+        go true = refl
+        go false = refl
 
-      pub candidate-none : count-of field-line ls < no-field → getD fields d 0 ≡ no-field → Chosen ls d (collapsed ls d) Struct
-      unfolding collapse field-told
-      candidate-none l e = struct-chosen ls d _ (rw (stays, s .candidates .each d h .told, le-ltb (getD fields d 0) (count-of field-line ls) (omega arith)))
+    pub candidate-some : (getD found d 0 ≡ 1 → ⊥) → (getD fields d 0 ≡ no-field → ⊥) → Chosen ls d (collapsed ls d) (newtype ls d (getD fields d 0))
+    unfolding collapse field-told
+    candidate-some k n =
+        let c = s .candidates .each d h in
+        newtype-chosen ls d _ (ctor-told ls d) (getD fields d 0) (c .named n) (rw (stays, c .told, lt-ltb (getD fields d 0) (count-of field-line ls) (c .named n)))
+      where
+        go : (x : Bool) → (bit x ≡ 1 → ⊥) → x ≡ false
+        go true q = absurd (q refl)
+        go false q = refl
 
-      pub candidate-some : (getD fields d 0 ≡ no-field → ⊥) → Chosen ls d (collapsed ls d) (newtype ls d (getD fields d 0))
-      unfolding collapse field-told
-      candidate-some n =
-          let c = s .candidates .each d h in
-          newtype-chosen ls d _ (ctor-told ls d) (getD fields d 0) (c .named n) (rw (stays, c .told, lt-ltb (getD fields d 0) (count-of field-line ls) (c .named n)))
+        stays : dropped-of ls d ≡ false
+        stays = go (dropped-of ls d) (λ e. k (s .guarded .each d h ∙ rw (ne-eqb (getD fields d 0) no-field n) e))

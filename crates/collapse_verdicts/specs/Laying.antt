@@ -14,7 +14,8 @@ use Rattle.keep_layouts.specs.Kept.{ctors-at}
 use Rattle.keep_layouts.specs.declared.Verdict.{Verdict}
 use Rattle.keep_layouts.specs.Layouts.{no-verdict}
 use Rattle.collapse_candidates.specs.Candidates.{candidate-of}
-use Rattle.collapse_verdicts.specs.Chosen.{dropped-of, Chosen}
+use Rattle.collapse_verdicts.specs.Guard.{dropped-of}
+use Rattle.collapse_verdicts.specs.Chosen.{Chosen}
 use Rattle.model.specs.Decl as decl
 
 -- declaration d by its body, where it is not erased

@@ -1,5 +1,5 @@
 -- The layout of a declaration by its lines. Assumes nothing.
-use mathlib.Core.Path.{_≡_, refl, ap, sym, _∙_}
+use mathlib.Core.Path.{_≡_, refl, sym, _∙_}
 use mathlib.Core.List.{List}
 use mathlib.Core.Bool.{Bool, true, false}
 use mathlib.Core.Option.{Option}
@@ -11,52 +11,43 @@ use lib.Seq.{getD-set-same, getD-set-other}
 use borrow.Author.Tests.{ne-eqb}
 use Rattle.number_columns.specs.Column.{_⇒_∥_}
 use Rattle.sheet.specs.Line.{Line, number}
-use Rattle.model.specs.Decl.{close, close-body, close-fields, TAbstract, TAbbrev, TRecord, TVariant, CtorLayout, NewtypeLayout, L-opaque, here, dtype-at}
+use Rattle.model.specs.Decl.{close-body, TAbstract, TRecord, TVariant, CtorLayout, NewtypeLayout, L-opaque, here, dtype-at}
 use Rattle.model.specs.Erasure.{erasure-fixpoint}
 use Rattle.model.specs.Layout.{collapse, layout-of-body, layout-of}
 use Rattle.model.specs.Run.{layouts-of, layout-of-decl}
 use Rattle.model_laws.specs.Layout.{getD-layouts}
 use Rattle.model_laws.specs.Rounds.{cases-eq}
-use Rattle.model_laws.specs.Run.{import-layout}
-use Rattle.meaning.specs.Program.{import-line, verdict-line, is, trees, body-of, dtype-of, abbreviated, layout-by, info-of, program}
+use Rattle.meaning.specs.Program.{import-line, verdict-line, is, body-of, abbreviated, layout-by, program}
 use Rattle.meaning_laws.specs.Program.{length-program}
 use Rattle.table_declared.specs.Passed.{Passed}
-use Rattle.table_access.specs.Tables.{nth, group, head-line, decls-of}
-use Rattle.table_declared.specs.DeclLaws.{dtype-is, origin-local, origin-import, verdict-is}
+use Rattle.table_access.specs.Tables.{nth, head-line, decls-of}
+use Rattle.table_declared.specs.DeclLaws.{origin-local}
 use Rattle.erasure_marks.specs.Marks.{marks-of}
-use Rattle.erasure_marks.specs.MarksLaws.{marks-at}
-use Rattle.resolve_kids.specs.Nodes.{type-of}
 use Rattle.resolve_kids.specs.Params.{params-of}
-use Rattle.keep_layouts.specs.Kept.{ctors-of-decl, ctors-at, body-kind, body-last}
-use Rattle.keep_laws.specs.KeptLaws.{params-lines}
+use Rattle.keep_layouts.specs.Kept.{ctors-of-decl, ctors-at, body-kind}
 use Rattle.keep_layouts.specs.declared.Layout.{Layout}
 use Rattle.keep_layouts.specs.declared.Layout.the-variants.{Erased, Struct, Abbreviation, Opaque}
 use Rattle.keep_layouts.specs.declared.Verdict.{Verdict}
 use Rattle.keep_layouts.specs.Layouts.{no-verdict, Laid}
 use Rattle.collapse_candidates.specs.Candidates.{candidate-of}
-use Rattle.collapse_verdicts.specs.Chosen.{dropped-of, collapsed, kept-one, Chosen}
+use Rattle.collapse_candidates.specs.CandidatesLaws.{mark-is}
+use Rattle.collapse_passes.specs.BodyLaws.{body-is, abbrev-body, import-laid}
+use Rattle.collapse_verdicts.specs.Guard.{dropped-of}
+use Rattle.collapse_verdicts.specs.Chosen.{collapsed, kept-one, Chosen}
 use Rattle.collapse_verdicts.specs.ChosenLaws.{erased-chosen, struct-chosen, abbrev-chosen, opaque-chosen}
 use Rattle.collapse_verdicts.specs.Laying.{of-body, Partly}
 use Rattle.model.specs.Decl as decl
 
 -- ---- by the body
 module _ (ls : List Line) (d : ℕ) (h : d < decls-of ls) where
-  body-is : dtype-at (program ls) d .dt-body ≡ close-body (params-of ls d) (body-of (trees ls) (body-kind ls d) (body-last ls d) (group ls d .rest))
-  unfolding close-fields dtype-of
-  body-is = rw (dtype-is ls d h, params-lines ls d h)
-
-  pub abbrev-body : body-kind ls d ≡ 1 → dtype-at (program ls) d .dt-body ≡ TAbbrev (close (params-of ls d) (type-of ls (body-last ls d)))
-  unfolding body-of close-body
-  abbrev-body e = body-is ∙ rw e
-
   bare-body : body-kind ls d ≡ 0 → dtype-at (program ls) d .dt-body ≡ TAbstract
   unfolding body-of close-body
-  bare-body e = body-is ∙ rw e
+  bare-body e = body-is ls d h ∙ rw e
 
   -- only an abbreviation is laid out as one
   plain-body : (body-kind ls d ≡ 1 → ⊥) → abbreviated (dtype-at (program ls) d .dt-body) ≡ L-opaque
   unfolding body-of close-body
-  plain-body n = rw (body-is, ne-eqb (body-kind ls d) 1 n) (go (eqb (body-kind ls d) 2) (eqb (body-kind ls d) 3) _ _)
+  plain-body n = rw (body-is ls d h, ne-eqb (body-kind ls d) 1 n) (go (eqb (body-kind ls d) 2) (eqb (body-kind ls d) 3) _ _)
     where
       go : (x y : Bool) (fs : List decl.Field) (cs : List decl.Ctor) → abbreviated (close-body (params-of ls d) (x ⇒ TRecord fs ∥ y ⇒ TVariant cs ∥ TAbstract)) ≡ L-opaque
       go true y fs cs = refl
@@ -66,7 +57,7 @@ module _ (ls : List Line) (d : ℕ) (h : d < decls-of ls) where
   -- a record or a variant
   ctors-body : 2 ≤ body-kind ls d → body-kind ls d ≤ 3 → (drop : Bool) (cand : Option NewtypeLayout) (cls : List CtorLayout) → layout-of-body (dtype-at (program ls) d .dt-body) drop cand cls ≡ collapse drop cand cls
   unfolding body-of close-body layout-of-body
-  ctors-body l k drop cand cls = cases-eq (body-kind ls d) 2 (λ e. rw (body-is, e)) (λ n. let e : body-kind ls d ≡ 3 = omega arith in rw (body-is, e))
+  ctors-body l k drop cand cls = cases-eq (body-kind ls d) 2 (λ e. rw (body-is ls d h, e)) (λ n. let e : body-kind ls d ≡ 3 = omega arith in rw (body-is ls d h, e))
 
   pub body-opaque : (n : ℕ) → n ≡ body-kind ls d → n ≡ 0 → Chosen ls d (of-body ls d) Opaque
   unfolding layout-of-body
@@ -74,36 +65,31 @@ module _ (ls : List Line) (d : ℕ) (h : d < decls-of ls) where
 
   pub body-abbrev : (n : ℕ) → n ≡ body-kind ls d → n ≡ 1 → Chosen ls d (of-body ls d) Abbreviation
   unfolding layout-of-body
-  body-abbrev n q e = abbrev-chosen ls d _ (rw (abbrev-body (sym q ∙ e)))
+  body-abbrev n q e = abbrev-chosen ls d _ (rw (abbrev-body ls d h (sym q ∙ e)))
 
   pub body-ctors : (l : Layout) (n : ℕ) → n ≡ body-kind ls d → (n ≡ 0 → ⊥) → (n ≡ 1 → ⊥) → body-kind ls d ≤ 3 → Chosen ls d (collapsed ls d) l → Chosen ls d (of-body ls d) l
   body-ctors l n q n0 n1 o c = rw (ctors-body (omega arith) o (dropped-of ls d) (candidate-of ls d) (ctors-at (program ls) d)) c
 
   -- ---- a local declaration
-  module _ (decl : List ℕ) (m : marks-of decl ≡ erasure-fixpoint (program ls) .marks) where
-    pub mark-is : getD (erasure-fixpoint (program ls) .marks) d false ≡ eqb (getD decl d 0) 1
-    mark-is = ap (λ (s : List Bool). getD s d false) (sym m) ∙ marks-at decl d
+  module _ (decl : List ℕ) (m : marks-of decl ≡ erasure-fixpoint (program ls) .marks) (loc : is import-line (head-line ls d) ≡ false) where
+    local-is : layout-of-decl (program ls) d ≡ layout-of (dtype-at (program ls) d) here (getD (erasure-fixpoint (program ls) .marks) d false) (dropped-of ls d) (candidate-of ls d) (ctors-at (program ls) d)
+    unfolding layouts-of ctors-of-decl
+    local-is = getD-layouts (program ls) (erasure-fixpoint (program ls) .marks) d L-opaque (rw (length-program ls) h) ∙ rw (origin-local ls d h loc)
 
-    module _ (loc : is import-line (head-line ls d) ≡ false) where
-      local-is : layout-of-decl (program ls) d ≡ layout-of (dtype-at (program ls) d) here (getD (erasure-fixpoint (program ls) .marks) d false) (dropped-of ls d) (candidate-of ls d) (ctors-at (program ls) d)
-      unfolding layouts-of ctors-of-decl
-      local-is = getD-layouts (program ls) (erasure-fixpoint (program ls) .marks) d L-opaque (rw (length-program ls) h) ∙ rw (origin-local ls d h loc)
+    pub local-erased : getD decl d 0 ≡ 1 → Chosen ls d (layout-of-decl (program ls) d) Erased
+    unfolding layout-of
+    local-erased e = erased-chosen ls d _ (local-is ∙ rw (mark-is ls d decl m, e))
 
-      pub local-erased : getD decl d 0 ≡ 1 → Chosen ls d (layout-of-decl (program ls) d) Erased
-      unfolding layout-of
-      local-erased e = erased-chosen ls d _ (local-is ∙ rw (mark-is, e))
-
-      pub local-kept : (l : Layout) → (getD decl d 0 ≡ 1 → ⊥) → Chosen ls d (of-body ls d) l → Chosen ls d (layout-of-decl (program ls) d) l
-      unfolding layout-of
-      local-kept l k c = rw (local-is, mark-is, ne-eqb (getD decl d 0) 1 k) c
+    pub local-kept : (l : Layout) → (getD decl d 0 ≡ 1 → ⊥) → Chosen ls d (of-body ls d) l → Chosen ls d (layout-of-decl (program ls) d) l
+    unfolding layout-of
+    local-kept l k c = rw (local-is, mark-is ls d decl m, ne-eqb (getD decl d 0) 1 k) c
 
 -- ---- an import
 module _ (ls : List Line) (p : Passed ls) (d : ℕ) (h : d < decls-of ls) (imp : is import-line (head-line ls d) ≡ true) where
   import-is : layout-of-decl (program ls) d ≡ layout-by (number (nth verdict-line ls d) 1) (dtype-at (program ls) d .dt-body) (ctors-at (program ls) d)
-  unfolding ctors-of-decl info-of
+  unfolding layouts-of
   import-is =
-      import-layout (program ls) d _ (rw (length-program ls) h) (origin-import ls d h imp)
-      ∙ rw (verdict-is ls p d h, dtype-is ls d h, origin-import ls d h imp)
+      getD-layouts (program ls) (erasure-fixpoint (program ls) .marks) d L-opaque (rw (length-program ls) h) ∙ import-laid ls d h p imp _ _ _ _
 
   module _ (n : ℕ) (is : n ≡ number (nth verdict-line ls d) 1) where
     pub import-erased : n ≡ 0 → Chosen ls d (layout-of-decl (program ls) d) Erased

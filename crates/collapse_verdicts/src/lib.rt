@@ -1,4 +1,4 @@
-// From the marks and the kept fields to the verdicts: candidates, the guard against cycles, layouts.
+// From the marks and the kept fields to the verdicts: candidates, what the guard goes on through, the guard against cycles, layouts.
 mod guard;
 mod laying;
 
@@ -32,7 +32,8 @@ pub fn verdicts(
     requires { ⌜ Room (tables.decls-of (tables.lines-in (now t))) words (now fields) (now bodies) (now steps) (now marks) (now queue) (now found) ⌝ }
     ensures { λ r. ⌜ Laid (tables.lines-in (now (t .entry))) r ⌝ }
 {
-    collapse_candidates::candidates(t, decl, keep, fields, bodies);
-    guard::dropped(t, sets, words, bodies, steps, marks, queue, found);
+    collapse_candidates::candidates(t, decl, keep, fields);
+    collapse_passes::passes(t, decl, fields, bodies);
+    guard::dropped(t, sets, words, fields, bodies, steps, marks, queue, found);
     laying::compute_layouts(t, decl, keep, fields, found)
 }

@@ -1,15 +1,13 @@
 -- The cells of a declaration by its layout (FORMAT, section 6.6). Assumes nothing.
 use mathlib.Core.Path.{_≡_}
 use mathlib.Core.List.{List}
-use mathlib.Core.Bool.{Bool, _||_}
-use Prim.Native.Nat.{ℕ, _+_, _*_, _/_, _%_, _<_}
-use lib.Dec.{eqb}
+use Prim.Native.Nat.{ℕ, _+_, _*_, _<_}
 use lib.ListN.{length, getD, set}
 use Rattle.number_columns.specs.Column.{pick}
-use Rattle.sheet.specs.Line.{Line, number}
+use Rattle.sheet.specs.Line.{Line}
 use Rattle.meaning.specs.Program.{field-line}
 use Rattle.meaning.specs.Rows.{count-of}
-use Rattle.table_access.specs.Tables.{head-line, decls-of}
+use Rattle.table_access.specs.Tables.{decls-of}
 use Rattle.keep_layouts.specs.Kept.{body-kind, body-last}
 use Rattle.keep_layouts.specs.States.{state, body-of}
 use Rattle.keep_layouts.specs.declared.Layout.{Layout}
@@ -17,10 +15,7 @@ use Rattle.keep_layouts.specs.declared.Layout.the-variants.{Erased, Newtype, St
 use Rattle.keep_layouts.specs.declared.Verdict.{Verdict}
 use Rattle.keep_layouts.specs.Layouts.{no-verdict}
 use Rattle.collapse_candidates.specs.Payloads.{Payload}
-
--- declaration d has `Realized` or `NoUnfold`, which leave its name
-abbrev pub named : List Line → ℕ → Bool
-named ls d = eqb (number (head-line ls d) 1 / 2 % 2) 1 || eqb (number (head-line ls d) 1 / 8 % 2) 1
+use Rattle.collapse_passes.specs.Passes.{named}
 
 -- its cells
 abbrev pub Cells : List Line → ℕ → ℕ → ℕ → Layout → Type 0

@@ -1,32 +1,31 @@
 -- What the cells of all declarations say: the shape of each layout, and what becomes of every name. Assumes nothing.
 use mathlib.Core.Path.{_≡_, refl, ap, ap₂, sym, _∙_, subst}
 use mathlib.Core.List.{List, [], _∷_}
-use mathlib.Core.Bool.{Bool, true, false, _||_}
-use Prim.Native.Nat.{ℕ, zero, suc, _+_, _*_, _/_, _%_, _≤_, _<_}
+use mathlib.Core.Bool.{Bool, true, false}
+use Prim.Native.Nat.{ℕ, zero, suc, _+_, _*_, _≤_, _<_}
 use native.Mathlib.Omega.{arith}
 use native.Mathlib.Decide.{ℕ-discrete}
 use lib.Dec.{ltb}
 use lib.ListN.{length, getD, set, length-set, List·getD-eq-default}
 use lib.Seq.{getD-set-same, getD-set-other}
-use borrow.Author.Tests.{eq-eqb, ne-eqb, ltb-true, ltb-false}
+use borrow.Author.Tests.{ltb-true, ltb-false}
 use Rattle.number_columns.specs.Column.{pick}
-use Rattle.sheet.specs.Line.{Line, number}
+use Rattle.sheet.specs.Line.{Line}
 use Rattle.model.specs.Cty.{uninline}
-use Rattle.model.specs.Decl.{Body, TAbstract, TAbbrev, TRecord, TVariant, Dtype, has-flag, dtype-at, position, close, close-body, close-fields}
-use Rattle.model.specs.Resolve.{newtype, abbreviation, stays, unfold-body, unfold-dtype, unfold-of, unfolds, unfold-name}
+use Rattle.model.specs.Decl.{dtype-at, position, close}
+use Rattle.model.specs.Resolve.{newtype, abbreviation, stays, unfold-dtype, unfold-of, unfolds, unfold-name}
 use Rattle.model.specs.Run.{layouts-of, layout-of-decl}
 use Rattle.model_laws.specs.Lists.{getD-table, getD-table-past}
-use Rattle.meaning.specs.Program.{type-line, dtype-of, program}
+use Rattle.meaning.specs.Program.{type-line, program}
 use Rattle.meaning.specs.Rows.{count-of}
-use Rattle.meaning_laws.specs.Program.{length-program, body-number}
+use Rattle.meaning_laws.specs.Program.{length-program}
 use Rattle.table_declared.specs.Passed.{Passed}
-use Rattle.table_access.specs.Tables.{head-line, decls-of}
-use Rattle.table_declared.specs.DeclLaws.{dtype-is}
+use Rattle.table_access.specs.Tables.{decls-of}
 use Rattle.erasure_laws.specs.BodiesLaws.{last-types}
 use Rattle.resolve_kids.specs.Nodes.{type-of}
 use Rattle.resolve_kids.specs.Params.{params-of}
 use Rattle.keep_layouts.specs.Kept.{body-kind, body-last, field-type}
-use Rattle.keep_laws.specs.KeptLaws.{params-lines, params-are}
+use Rattle.keep_laws.specs.KeptLaws.{params-are}
 use Rattle.keep_layouts.specs.States.{state, body-of, unfold-at, Open, closed, Shape, Settled}
 use Rattle.keep_layouts.specs.declared.Layout.{Layout}
 use Rattle.keep_layouts.specs.declared.Layout.the-variants.{Erased, Newtype, Struct, Abbreviation, Opaque}
@@ -34,9 +33,10 @@ use Rattle.keep_layouts.specs.declared.Verdict.{Verdict}
 use Rattle.keep_layouts.specs.Layouts.{newtype-told, layout-told, no-verdict, Laid}
 use Rattle.collapse_candidates.specs.Payloads.{Payload}
 use Rattle.collapse_candidates.specs.PayloadsLaws.{close-uninline}
-use Rattle.state_names.specs.KindLaws.{Fits, kind-is, layout-fits}
-use Rattle.state_names.specs.Cells.{named, Cells, Told, Known, Put, Filled}
-use Rattle.meaning.specs.Program as program
+use Rattle.collapse_passes.specs.Passes.{named}
+use Rattle.collapse_passes.specs.BodyLaws.{kind-is, abbreviation-is, stays-bare}
+use Rattle.state_names.specs.KindLaws.{Fits, layout-fits}
+use Rattle.state_names.specs.Cells.{Cells, Told, Known, Put, Filled}
 use Rattle.table_declared.specs.PassedLaws.{types-few}
 
 -- an element is the same, whatever stands for one past the last
@@ -75,34 +75,6 @@ filled-next ls vs n u u′ h f p =
 pub filled-none : (ls : List Line) (vs : List Verdict) (u : List ℕ) → length u ≡ 2 * decls-of ls → Filled ls vs 0 u
 filled-none ls vs u h = record { long = h; each = λ d l. absurd (omega arith) }
 
--- ---- the flags of a declaration
-module _ (ls : List Line) (d : ℕ) (h : d < decls-of ls) where
-  named-is : (has-flag (dtype-at (program ls) d) 2 || has-flag (dtype-at (program ls) d) 8) ≡ named ls d
-  unfolding has-flag close-fields dtype-of
-  named-is = rw (dtype-is ls d h)
-
-  -- the type that it abbreviates
-  abbreviated-is : body-kind ls d ≡ 1 → dtype-at (program ls) d .dt-body ≡ TAbbrev (close (params-of ls d) (type-of ls (body-last ls d)))
-  unfolding close-fields dtype-of program.body-of close-body
-  abbreviated-is e = ap (λ (x : Dtype). x .dt-body) (dtype-is ls d h) ∙ rw (e, params-lines ls d h)
-
-  -- and what becomes of its name then
-  abbreviation-is : body-kind ls d ≡ 1 → unfold-dtype (dtype-at (program ls) d) ≡ pick (named ls d) stays (abbreviation (params-of ls d) (close (params-of ls d) (type-of ls (body-last ls d))))
-  unfolding unfold-dtype unfold-body
-  abbreviation-is e = rw (abbreviated-is e, params-are ls d h) (ap (λ (c : Bool). pick c stays (abbreviation (params-of ls d) (close (params-of ls d) (type-of ls (body-last ls d))))) named-is)
-
--- what becomes of a declaration whose body is no abbreviation's
-stays-bare : (d : Dtype) → (body-number (d .dt-body) ≡ 1 → ⊥) → unfold-dtype d ≡ stays
-unfolding unfold-dtype unfold-body body-number
-stays-bare d n = go (has-flag d 2 || has-flag d 8) (d .dt-body) n
-  where
-    go : (c : Bool) (b : Body) → (body-number b ≡ 1 → ⊥) → pick c stays (unfold-body (d .dt-params) b) ≡ stays
-    go true b m = refl
-    go false TAbstract m = refl
-    go false (TAbbrev c) m = absurd (m refl)
-    go false (TRecord fs) m = refl
-    go false (TVariant cs) m = refl
-
 -- ---- a declaration
 module _ (ls : List Line) (p : Passed ls) (u : List ℕ) (d : ℕ) (h : d < decls-of ls) where
   payload-closed : (f : ℕ) → Payload ls f (body-of u d) → uninline (close (params-of ls d) (type-of ls (field-type ls f))) ≡ close (params-of ls d) (type-of ls (body-of u d))
@@ -135,8 +107,8 @@ module _ (ls : List Line) (p : Passed ls) (u : List ℕ) (d : ℕ) (h : d < decl
   unfolding layout-told newtype-told unfold-of unfold-dtype unfold-at closed
   unfold-told Erased k q = rw q
   unfold-told (Newtype ctor f) k q = rw (q .0) (ap₂ newtype (params-are ls d h) (payload-closed f (q .1)))
-  unfold-told Struct k q = rw q (stays-bare (dtype-at (program ls) d) (λ e. omega (arith, kind-is ls p d h, k .0)))
-  unfold-told Opaque k q = rw q (stays-bare (dtype-at (program ls) d) (λ e. omega (arith, kind-is ls p d h)))
+  unfold-told Struct k q = rw q (stays-bare (dtype-at (program ls) d) (λ e. omega (arith, kind-is ls d h p, k .0)))
+  unfold-told Opaque k q = rw q (stays-bare (dtype-at (program ls) d) (λ e. omega (arith, kind-is ls d h p)))
   unfold-told Abbreviation k q = abbreviation-is ls d h k ∙ go (named ls d) (q .0)
     where
       go : (c : Bool) → state u d ≡ pick c 3 2 → pick c stays (abbreviation (params-of ls d) (close (params-of ls d) (type-of ls (body-last ls d)))) ≡ closed (unfold-at ls u d)
@@ -196,15 +168,12 @@ module _ (ls : List Line) (p : Passed ls) (vs : List Verdict) (laid : Laid ls vs
   settled-at d e u f = settled u (rw e at f)
 
 -- ---- for the code
-module _ (ls : List Line) (d x : ℕ) (e : x ≡ number (head-line ls d) 1) where
-  pub named-realized : x / 2 % 2 ≡ 1 → _≡_ {A = ℕ} 3 (pick (named ls d) 3 2)
-  named-realized h = rw (← e, eq-eqb (x / 2 % 2) 1 h)
+-- the first cell of an abbreviation
+pub cell-named : (b c : Bool) → b ≡ c → b ≡ true → _≡_ {A = ℕ} 3 (pick c 3 2)
+cell-named b c q e = rw (← q, e)
 
-  pub named-kept : (x / 2 % 2 ≡ 1 → ⊥) → x / 8 % 2 ≡ 1 → _≡_ {A = ℕ} 3 (pick (named ls d) 3 2)
-  named-kept n h = rw (← e, ne-eqb (x / 2 % 2) 1 n, eq-eqb (x / 8 % 2) 1 h)
-
-  pub named-not : (x / 2 % 2 ≡ 1 → ⊥) → (x / 8 % 2 ≡ 1 → ⊥) → _≡_ {A = ℕ} 2 (pick (named ls d) 3 2)
-  named-not n m = rw (← e, ne-eqb (x / 2 % 2) 1 n, ne-eqb (x / 8 % 2) 1 m)
+pub cell-unfolded : (b c : Bool) → b ≡ c → b ≡ false → _≡_ {A = ℕ} 2 (pick c 3 2)
+cell-unfolded b c q e = rw (← q, e)
 
 module _ (ls : List Line) (d : ℕ) (l : Layout) where
   pub told-erased : (c : ℕ) → l ≡ Erased → Told ls d l 0 c

@@ -17,12 +17,12 @@ use Rattle.sheet.specs.FirstLaws.{none-first}
 use Rattle.sheet.specs.ListLaws.{false-true, both, one-of}
 use Rattle.model.specs.Decl.{NewtypeLayout, Body, TAbstract, TAbbrev, TRecord, TVariant, Dtype, CtorLayout, Layout, L-erased, L-newtype, L-struct, L-abbrev, L-opaque, Origin, here, imported, dtype-at, origin-at, close-fields}
 use Rattle.model.specs.Erasure.{marked, erasure-fixpoint}
-use Rattle.model.specs.Layout.{collapse, newtype-of, dropped, candidates-of, ctor-layouts, layout-of-body, layout-of}
+use Rattle.model.specs.Layout.{collapse, newtype-of, dropped, candidates-of, passes-of, ctor-layouts, layout-of-body, layout-of}
 use Rattle.model.specs.Run.{layouts-of, layout-of-decl}
 use Rattle.model_laws.specs.Layout.{getD-layouts}
 use Rattle.meaning.specs.Program.{import-line, verdict-line, is, is-head, select, before, Group, groups, trees, dtype-of, abbreviated, layout-by, info-of, verdict-of, program}
 use Rattle.meaning.specs.Rows.{line-at, heads-before, last-head, kept-after, one-ctor, good-verdict, row7}
-use Rattle.meaning_laws.specs.Program.{none-before, select-append, select-none, select-yes, flat, before-flat, length-program, body-number, body-of-number, close-number, Whole}
+use Rattle.meaning_laws.specs.Program.{none-before, select-append, select-none, select-yes, flat, before-flat, length-program, body-number, Whole}
 use Rattle.meaning_laws.specs.Rows.{last-head-append, last-head-none}
 use Rattle.row4_limits.specs.Limits.{start}
 use Rattle.row7_verdicts.specs.Verdicts.{good-line}
@@ -31,6 +31,7 @@ use Rattle.table_declared.specs.Passed.{Passed}
 use Rattle.table_access.specs.Tables.{group, head-line, decls-of}
 use Rattle.table_declared.specs.DeclLaws.{take-start, line-inside, line-of-head, group-is, dtype-is, origin-local, origin-import, whole-at}
 use Rattle.keep_layouts.specs.Kept.{body-kind}
+use Rattle.collapse_passes.specs.BodyLaws.{kind-is}
 
 -- what a layout says of the body kind
 abbrev pub Fits : ℕ → Layout → Type 0
@@ -168,28 +169,21 @@ module _ (ls : List Line) (p : Passed ls) (d : ℕ) (h : d < decls-of ls) where
       chosen x n y u m g = rw (u, m) at g
 
   -- ---- every declaration
-  pub kind-is : body-number (dtype-at (program ls) d .dt-body) ≡ body-kind ls d
-  unfolding close-fields dtype-of
-  kind-is =
-      ap (λ (x : Dtype). body-number (x .dt-body)) (dtype-is ls d h)
-      ∙ close-number (dtype-of (trees ls) (group ls d) .dt-params) (dtype-of (trees ls) (group ls d) .dt-body)
-      ∙ body-of-number (trees ls) (body-kind ls d) (number (head-line ls d) 4) (group ls d .rest) (w .kinds)
-
   imported-fits : Judged ls d → (t : Dtype) (e drop : Bool) (cand : Option NewtypeLayout) (cls : List CtorLayout)
       → Fits (body-kind ls d) (layout-of t (imported (info-of (close-fields (dtype-of (trees ls) (group ls d))) (group ls d .rest) (verdict-of (group ls d .rest)))) e drop cand cls)
   unfolding layout-of info-of
-  imported-fits j t e drop cand cls = verdict-fits (head-line ls d) (verdict-of (group ls d .rest)) (j .kept) _ _ (ap (λ (x : Dtype). body-number (x .dt-body)) (sym (dtype-is ls d h)) ∙ kind-is) (j .good)
+  imported-fits j t e drop cand cls = verdict-fits (head-line ls d) (verdict-of (group ls d .rest)) (j .kept) _ _ (ap (λ (x : Dtype). body-number (x .dt-body)) (sym (dtype-is ls d h)) ∙ kind-is ls d h p) (j .good)
 
   -- The layout of a declaration goes with its body kind.
   pub layout-fits : Fits (body-kind ls d) (layout-of-decl (program ls) d)
   unfolding layouts-of
   layout-fits =
       subst (Fits (body-kind ls d)) (sym (getD-layouts (program ls) (erasure-fixpoint (program ls) .marks) d L-opaque (rw (length-program ls) h)))
-      (go (is import-line (head-line ls d)) refl (getD (erasure-fixpoint (program ls) .marks) d false) (dropped (program ls) (candidates-of (program ls) (erasure-fixpoint (program ls) .marks)) d) (getD (candidates-of (program ls) (erasure-fixpoint (program ls) .marks)) d none) (ctor-layouts (marked (program ls) (erasure-fixpoint (program ls) .marks)) (dtype-at (program ls) d)))
+      (go (is import-line (head-line ls d)) refl (getD (erasure-fixpoint (program ls) .marks) d false) (dropped (program ls) (passes-of (program ls) (erasure-fixpoint (program ls) .marks)) d) (getD (candidates-of (program ls) (erasure-fixpoint (program ls) .marks)) d none) (ctor-layouts (marked (program ls) (erasure-fixpoint (program ls) .marks)) (dtype-at (program ls) d)))
     where
       go : (c : Bool) → is import-line (head-line ls d) ≡ c → (e drop : Bool) (cand : Option NewtypeLayout) (cls : List CtorLayout) → Fits (body-kind ls d) (layout-of (dtype-at (program ls) d) (origin-at (program ls) d) e drop cand cls)
       go true q e drop cand cls =
           subst (λ (o : Origin). Fits (body-kind ls d) (layout-of (dtype-at (program ls) d) o e drop cand cls)) (sym (origin-import ls d h q)) (imported-fits (judged q) (dtype-at (program ls) d) e drop cand cls)
       go false q e drop cand cls =
           subst (λ (o : Origin). Fits (body-kind ls d) (layout-of (dtype-at (program ls) d) o e drop cand cls)) (sym (origin-local ls d h q))
-          (subst (λ (k : ℕ). Fits k (layout-of (dtype-at (program ls) d) here e drop cand cls)) kind-is (local-fits (dtype-at (program ls) d) e drop cand cls))
+          (subst (λ (k : ℕ). Fits k (layout-of (dtype-at (program ls) d) here e drop cand cls)) (kind-is ls d h p) (local-fits (dtype-at (program ls) d) e drop cand cls))

@@ -9,6 +9,7 @@ ghost use Rattle.number_columns.specs.Column.{pick};
 ghost use Rattle.table_access.specs.Tables as tables;
 ghost use Rattle.keep_layouts.specs.Layouts as layouts;
 ghost use Rattle.keep_layouts.specs.States as states;
+ghost use Rattle.collapse_passes.specs.Passes as passes;
 ghost use Rattle.state_names.specs.Cells as cells;
 
 // How a name is replaced, and by which Y line.
@@ -17,17 +18,13 @@ struct Pair {
     body: u16,
 }
 
-// The first cell of an abbreviation: `Realized` and `NoUnfold` leave its name.
+// The first cell of an abbreviation: it is unfolded, or its name stays.
 fn abbreviation(t: &[u32], d: usize) -> u16
     requires { ⌜ tables.Tabled (now t) ⌝ }
     requires { ⌜ d < tables.decls-of (tables.lines-in (now t)) ⌝ }
-    ensures { λ r. ⌜ r ≡ pick (cells.named (tables.lines-in (now (t .entry))) d) 3 2 ⌝ }
+    ensures { λ r. ⌜ r ≡ pick (passes.named (tables.lines-in (now (t .entry))) d) 3 2 ⌝ }
 {
-    let flags = table_access::decl_number(t, d, 1);
-    if flags / 2 % 2 == 1 {
-        return 3;
-    }
-    if flags / 8 % 2 == 1 {
+    if collapse_passes::stays(t, d) {
         return 3;
     }
     2

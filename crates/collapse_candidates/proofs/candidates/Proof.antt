@@ -6,53 +6,42 @@ use lib.ListN.{length}
 use borrow.Author.Needs.{needs}
 use Rattle.table_access.specs.Tables.{decls-of, lines-in}
 use Rattle.collapse_candidates.specs.Candidates.{Partly}
-use Rattle.collapse_candidates.specs.CandidatesLaws.{body-by, partly-none, partly-next, partly-all}
+use Rattle.collapse_candidates.specs.CandidatesLaws.{partly-none, partly-next, partly-all}
 use Rattle.collapse_candidates.proofs.candidates.Statement.{statement}
 use Rattle.collapse_candidates.proofs.candidates.Tie as tie
 
 abbrev Inv-loop : tie.InvT-loop
-Inv-loop t decl keep fields₀ bodies₀ n d₀ fields bodies d =
-    (d ≤ n) × (n ≡ decls-of (lines-in t)) × Partly (lines-in t) fields bodies d × (length fields₀ ≡ n) × (length bodies₀ ≡ n)
+Inv-loop t decl keep fields₀ n d₀ fields d = (d ≤ n) × (n ≡ decls-of (lines-in t)) × Partly (lines-in t) fields d × (length fields₀ ≡ n)
 
 abbrev μ-loop : tie.MeasureT-loop
-μ-loop t decl keep fields₀ bodies₀ n d₀ fields bodies d = n - d
+μ-loop t decl keep fields₀ n d₀ fields d = n - d
 
 loop-holds : tie.Need-loop-holds Inv-loop μ-loop
 loop-holds c =
-    let a = c .before .before .before .before .before in
+    let a = c .before .before .before .before in
     let e = a .pre .1 .1 in
-    (omega arith, e .0, partly-none (lines-in (a .args .t .now)) (a .args .fields .now) (a .args .bodies .now) (e .0) (e .1), refl, e .1 ∙ sym (e .0))
+    (omega arith, e, partly-none (lines-in (a .args .t .now)) (a .args .fields .now) e, refl)
 
 candidate-requires : tie.Need-candidate-requires Inv-loop μ-loop
-candidate-requires c κs = let p = c .before .before .before .before .before .before .before .pre in (p .0, (omega (arith, c .before .loop .inv .1, c .loop-test .taken), p .1 .0))
+candidate-requires c κs = let p = c .before .before .before .before .before .before .pre in (p .0, (omega (arith, c .before .loop .inv .1, c .loop-test .taken), p .1 .0))
 
 slice-write-fields : tie.Need-slice-write-fields Inv-loop μ-loop
-slice-write-fields c = omega (arith, c .before .before .loop .inv .1, c .before .loop-test .taken, c .before .before .loop .inv .2 .fields-long)
-
-body-requires : tie.Need-body-requires Inv-loop μ-loop
-body-requires c κs = (c .before .before .before .before .before .before .before .before .pre .0, c .candidate .ensures .named)
-
-slice-write-bodies : tie.Need-slice-write-bodies Inv-loop μ-loop
-slice-write-bodies c = omega (arith, c .before .before .before .loop .inv .1, c .before .before .loop-test .taken, c .before .before .before .loop .inv .2 .bodies-long)
+slice-write-fields c = omega (arith, c .before .before .loop .inv .1, c .before .loop-test .taken, c .before .before .loop .inv .2 .long)
 
 loop-again : tie.Need-loop-again Inv-loop μ-loop
 loop-again c =
-    let a = c .before .before .before .before .before .before .before .before .before in
-    let l = c .before .before .before .loop in
-    let f = c .before .candidate in
-    (omega arith, l .inv .1, partly-next (lines-in (a .args .t .now)) (l .fields) (l .bodies) (l .d) (f .result) (c .body .result) (omega (arith, l .inv .1, c .before .before .loop-test .taken)) (f .ensures) (body-by (lines-in (a .args .t .now)) (a .pre .0 .passed) (l .d) (f .result) (f .ensures) (c .body .result) (c .body .ensures)) (l .inv .2), l .inv .3, l .inv .4)
+    let a = c .before .before .before .before .before .before .before in
+    let l = c .before .before .loop in
+    (omega arith, l .inv .1, partly-next (lines-in (a .args .t .now)) (l .fields) (l .d) (c .candidate .result) (omega (arith, l .inv .1, c .before .loop-test .taken)) (c .candidate .ensures) (l .inv .2), l .inv .3)
 
 same-length : tie.Need-same-length Inv-loop μ-loop
-same-length c = let i = c .before .loop .inv in i .2 .fields-long ∙ (sym (i .1) ∙ sym (i .3))
-
-same-length-2 : tie.Need-same-length-2 Inv-loop μ-loop
-same-length-2 c = let i = c .before .loop .inv in i .2 .bodies-long ∙ (sym (i .1) ∙ sym (i .4))
+same-length c = let i = c .before .loop .inv in i .2 .long ∙ (sym (i .1) ∙ sym (i .3))
 
 returns : tie.Need-returns Inv-loop μ-loop
 returns c =
-    let a = c .before .before .before .before .before .before .before in
+    let a = c .before .before .before .before .before .before in
     let l = c .before .loop in
-    partly-all (lines-in (a .args .t .now)) (l .fields) (l .bodies) (l .d) (omega (arith, l .inv .0, l .inv .1, c .loop-test .left)) (l .inv .2)
+    partly-all (lines-in (a .args .t .now)) (l .fields) (l .d) (omega (arith, l .inv .0, l .inv .1, c .loop-test .left)) (l .inv .2)
 
 pub candidates-spec : {M : Type 1} → statement M
 candidates-spec =
@@ -64,12 +53,8 @@ candidates-spec =
     candidate-requires
     (λ c. search needs)
     slice-write-fields
-    body-requires
-    (λ c. search needs)
-    slice-write-bodies
     (λ c. search needs)
     (λ c. search needs)
     loop-again
     same-length
-    same-length-2
     returns)

@@ -6,8 +6,9 @@ use lib.ListN.{length}
 use Rattle.sheet.specs.Format.{base}
 use Rattle.table_declared.specs.PassedLaws.{decls-within}
 use Rattle.table_access.specs.Tables.{decls-of, lines-in}
+use Rattle.collapse_candidates.specs.CandidatesLaws.{mark-is}
 use Rattle.collapse_verdicts.specs.Laying.{Partly}
-use Rattle.collapse_verdicts.specs.LayingLaws.{mark-is, partly-none, partly-next, partly-all}
+use Rattle.collapse_verdicts.specs.LayingLaws.{partly-none, partly-next, partly-all}
 use Rattle.collapse_verdicts.proofs.laying.lay_out.Statement.{statement}
 use Rattle.collapse_verdicts.proofs.laying.lay_out.Tie as tie
 
@@ -48,7 +49,7 @@ loop-again c =
     let l = c .before .before .before .loop in
     let ls = lines-in (a .args .t .now) in
     let h : l .d < decls-of ls = omega (arith, c .before .before .loop-test .taken, l .inv .1, a .pre .1 .0 .marked .long) in
-    (omega (arith, c .before .before .loop-test .taken, l .inv .1), refl, partly-next ls (l .verdicts) (l .d) _ h (sym (mark-is ls (l .d) h (a .args .decl .now) (a .pre .1 .0 .marked .marks))) (c .before .layout-of .ensures) (l .inv .2))
+    (omega (arith, c .before .before .loop-test .taken, l .inv .1), refl, partly-next ls (l .verdicts) (l .d) _ h (sym (mark-is ls (l .d) (a .args .decl .now) (a .pre .1 .0 .marked .marks))) (c .before .layout-of .ensures) (l .inv .2))
 
 returns : tie.Need-returns Inv-loop μ-loop
 returns c =

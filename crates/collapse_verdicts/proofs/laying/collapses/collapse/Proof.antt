@@ -13,7 +13,7 @@ returns c = let a = c .before .before .before .before .before in candidate-dropp
 returns-2 : tie.Need-returns-2
 returns-2 c =
     let a = c .before .before .before .before .before .before .before in
-    candidate-none (lines-in (a .args .t .now)) (a .args .d) (a .args .fields .now) (a .args .found .now) (a .pre .1 .1) (a .pre .1 .0) (c .before .before .if1 .left) (omega (arith, fields-few (lines-in (a .args .t .now)) (a .pre .0 .passed))) (c .if2 .taken)
+    candidate-none (lines-in (a .args .t .now)) (a .args .d) (a .args .fields .now) (a .args .found .now) (a .pre .1 .1) (a .pre .1 .0) (omega (arith, fields-few (lines-in (a .args .t .now)) (a .pre .0 .passed))) (c .if2 .taken)
 
 newtype-requires : tie.Need-newtype-requires
 newtype-requires c κs = let p = c .before .before .before .before .before .before .before .pre in let k = p .1 .1 .candidates .each (c .before .before .before .before .before .before .before .args .d) (p .1 .0) in (p .0, (p .1 .0, k .one (k .named (c .if2 .left))))

@@ -1,0 +1,3 @@
+pub mod Passes
+pub mod BodyLaws
+pub mod PassesLaws
