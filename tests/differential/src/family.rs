@@ -6,15 +6,16 @@
 use crate::random::Random;
 use reference::line::Line;
 
+/// A sheet that is being made.
 #[derive(Default)]
-struct Draft {
+pub struct Draft {
     args: Vec<u32>,
     types: Vec<[u32; 5]>,
-    decls: Vec<Line>,
+    pub decls: Vec<Line>,
 }
 
 impl Draft {
-    fn ty(&mut self, numbers: [u32; 5]) -> u32 {
+    pub fn ty(&mut self, numbers: [u32; 5]) -> u32 {
         self.types.push(numbers);
         self.types.len() as u32 - 1
     }
@@ -25,18 +26,18 @@ impl Draft {
         (first, members.len() as u32)
     }
 
-    fn app(&mut self, name: u32, members: &[u32]) -> u32 {
+    pub fn app(&mut self, name: u32, members: &[u32]) -> u32 {
         let (first, count) = self.list(members);
         self.ty([8, name, first, count, 0])
     }
 
-    fn tuple(&mut self, members: &[u32]) -> u32 {
+    pub fn tuple(&mut self, members: &[u32]) -> u32 {
         let (first, count) = self.list(members);
         self.ty([9, first, count, 0, 0])
     }
 
     /// The sheet's lines, with names up to the last.
-    fn lines(self, last: u32) -> Vec<Line> {
+    pub fn lines(self, last: u32) -> Vec<Line> {
         let name = |i: u32| Line { letter: b'N', numbers: [i, 0, 0, 0, 0], text: format!("n{i}").into_bytes() };
         let mut all: Vec<Line> = (0..=last).map(name).collect();
         all.extend(self.args.iter().map(|&t| Line::row(b'A', [t, 0, 0, 0, 0])));

@@ -7,6 +7,7 @@ pub mod generate;
 pub mod patterns;
 pub mod planted;
 pub mod random;
+pub mod ring;
 pub mod run;
 pub mod shrink;
 
@@ -177,14 +178,22 @@ pub fn sheet(seed: u64, index: u64) -> Vec<u8> {
             let lines = family::sizes(&mut random);
             ending(&mut random, lines)
         }
-        122..=371 => {
-            let plan = generate::Plan::any(&mut random);
-            let lines = generate::generate(&mut random, plan);
+        share @ 122..=371 => {
+            let lines = if share > 331 {
+                ring::rings(&mut random)
+            } else {
+                let plan = generate::Plan::any(&mut random);
+                generate::generate(&mut random, plan)
+            };
             let mut sheet = ending(&mut random, lines);
             for _ in 0..random.between(1, 2) {
                 damage::damage(&mut random, &mut sheet);
             }
             sheet
+        }
+        372..=451 => {
+            let lines = ring::rings(&mut random);
+            ending(&mut random, lines)
         }
         _ => {
             let plan = generate::Plan::any(&mut random);

@@ -87,15 +87,25 @@ pub fn candidates(program: &Program, erasure: &Erasure, kept: &[Kept]) -> Vec<Op
     program.decls.iter().enumerate().map(candidate).collect()
 }
 
+/// What the guard goes on through: payloads of candidates, and bodies of unfolded abbreviations.
+pub fn passes(program: &Program, erasure: &Erasure, candidates: &[Option<Ty>]) -> Vec<Option<Ty>> {
+    let body = |(i, d): (usize, &Decl)| match d.body {
+        Body::Abbrev(t) if !erasure.decls[i] && !d.has(REALIZED) && !d.has(NO_UNFOLD) => Some(t),
+        _ => None,
+    };
+    program.decls.iter().enumerate().zip(candidates).map(|(d, payload)| payload.or(body(d))).collect()
+}
+
 /// `acyclic_candidates`: the candidates that are not dropped.
-pub fn acyclic_candidates(program: &Program, candidates: &[Option<Ty>]) -> Vec<Option<Ty>> {
-    let stays = |i: usize| candidates[i].filter(|_| !reached(program, candidates, i).contains(&i));
+pub fn acyclic_candidates(program: &Program, candidates: &[Option<Ty>], passes: &[Option<Ty>]) -> Vec<Option<Ty>> {
+    let stays = |i: usize| candidates[i].filter(|_| !reached(program, passes, i).contains(&i));
     (0..candidates.len()).map(stays).collect()
 }
 
 /// `compute_layouts`.
 pub fn compute_layouts(program: &Program, erasure: &Erasure, kept: &[Kept]) -> Vec<Layout> {
-    let newtypes = acyclic_candidates(program, &candidates(program, erasure, kept));
+    let candidates = candidates(program, erasure, kept);
+    let newtypes = acyclic_candidates(program, &candidates, &passes(program, erasure, &candidates));
     let layout = |(i, d): (usize, &Decl)| match d.import {
         Some(verdict) => imported_layout(program, d, &kept[i], verdict.layout),
         None if erasure.decls[i] => Layout::Erased,
