@@ -615,7 +615,7 @@ layout-cases =
     -- but through a candidate that is itself dropped
     ∷ layouts (wrap p (tuple (name p ∷ name t ∷ [])) ∷ wrap t (name p) ∷ [])
     gives (struct (tuple (name p ∷ name t ∷ [])) ∷ struct (name p) ∷ [])
-    -- and through unfolded abbreviations, local and imported, whatever the arguments; an import by its layout, and not by its mark
+    -- and through unfolded abbreviations, local and imported, whatever the arguments, an import by its layout and not by its mark; on to one that is dropped too
     ∷ layouts (wrap t (name p) ∷ abbr p (name t) ∷ []) gives (struct (name p) ∷ L-abbrev (name t) ∷ [])
     ∷ layouts (wrap t (app p (int ∷ [])) ∷ abbr p (name q) ∷ abbr q (TBuf (name t)) ∷ [])
     gives (struct (app p (int ∷ [])) ∷ L-abbrev (name q) ∷ L-abbrev (TBuf (name t)) ∷ [])

@@ -14,7 +14,7 @@ use Rattle.sheet.specs.ListLaws.{contrary}
 use Rattle.sheet.specs.FirstLaws.{first-before, first-congr}
 use Rattle.model.specs.Decl.{bit}
 use Rattle.model.specs.Reach.{Reach, cyclic}
-use Rattle.model_laws.specs.Reach.{rank, rank-less, rank-bound, cyclic-complete}
+use Rattle.model_laws.specs.Reach.{rank-less, rank-bound, cyclic-complete}
 use Rattle.set_search.specs.declared.Found.{Found}
 use Rattle.set_search.specs.declared.Found.the-variants.{Start, Reached}
 use Rattle.set_search.specs.Search.{steps, Searched}
