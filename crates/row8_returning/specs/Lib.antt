@@ -1,7 +1,5 @@
-pub mod Closure
-pub mod ClosureLaws
-pub mod Ones
-pub mod OnesLaws
+pub mod Ranks
+pub mod RanksLaws
 pub mod Returning
 pub mod ReturningLaws
 pub mod RowLaws

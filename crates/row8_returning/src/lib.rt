@@ -1,5 +1,4 @@
 // Row 8: whether an unfolded name returns to itself, by what is reached through the bodies of unfolded declarations.
-mod closure;
 mod ranks;
 
 ghost use mathlib.Core.Path.{_≡_};

@@ -5,19 +5,7 @@ ghost use lib.ListN.{length};
 ghost use Rattle.set_search.specs.Search.{Steps};
 ghost use Rattle.set_search.specs.Search as search;
 ghost use Rattle.set_search.specs.Loops.{First};
-ghost use Rattle.row8_returning.specs.Ones.{ones-of, Ranks};
-
-// How many bits of the words at `at` are set.
-pub fn ones(rows: &[u64], at: usize, words: usize) -> usize
-    requires { ⌜ (at + words ≤ length (now rows)) × (words ≤ 1024) ⌝ }
-    ensures { λ r. ⌜ (r ≡ ones-of (now (rows .entry)) at words) × (r ≤ 64 * words) ⌝ }
-{
-    let mut sum: usize = 0;
-    for w in 0..words {
-        sum += u64::count_ones(rows[at + w]) as usize;
-    }
-    sum
-}
+ghost use Rattle.row8_returning.specs.Ranks.{Ranks};
 
 // The first of the n nodes that is in its own row, or n; and the ones of the rows before it.
 fn count(rows: &[u64], words: usize, n: usize, rank: &mut [u16]) -> usize
@@ -28,7 +16,7 @@ fn count(rows: &[u64], words: usize, n: usize, rank: &mut [u16]) -> usize
         if set_bits::has(rows, k * words, k) {
             return k;
         }
-        rank[k] = ones(rows, k * words, words) as u16;
+        rank[k] = set_closure::ones(rows, k * words, words) as u16;
     }
     n
 }
@@ -40,6 +28,6 @@ pub fn ranks(steps: &mut [u64], words: usize, n: usize, rank: &mut [u16]) -> usi
     requires { ⌜ (n ≤ length (now rank)) × (words < 1024) ⌝ }
     ensures { λ r. ⌜ First (search.steps n words (now (steps .entry))) n r (now (rank .entry)) (now (rank .exit)) ⌝ }
 {
-    crate::closure::close(steps, words, n);
+    set_closure::close(steps, words, n);
     count(steps, words, n, rank)
 }

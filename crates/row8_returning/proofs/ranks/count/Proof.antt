@@ -5,7 +5,7 @@ use native.Mathlib.Omega.{arith}
 use lib.ListN.{length}
 use borrow.Author.Needs.{needs}
 use Rattle.set_bits.specs.BitsLaws.{row-room}
-use Rattle.row8_returning.specs.OnesLaws.{Counted, counted-more, counted-found, counted-all}
+use Rattle.row8_returning.specs.RanksLaws.{Counted, counted-more, counted-found, counted-all}
 use Rattle.row8_returning.proofs.ranks.count.Statement.{statement}
 use Rattle.row8_returning.proofs.ranks.count.Tie as tie
 

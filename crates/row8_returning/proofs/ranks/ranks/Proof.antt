@@ -1,6 +1,6 @@
 -- `row8_returning::ranks::ranks` meets its contract: the ones of a row of what is reached are the nodes that are reached. Assumes nothing.
 use borrow.Author.Needs.{needs}
-use Rattle.row8_returning.specs.OnesLaws.{ranks-first}
+use Rattle.row8_returning.specs.RanksLaws.{ranks-first}
 use Rattle.row8_returning.proofs.ranks.ranks.Statement.{statement}
 use Rattle.row8_returning.proofs.ranks.ranks.Tie as tie
 

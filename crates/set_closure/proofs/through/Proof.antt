@@ -1,13 +1,13 @@
--- `closure::through` meets its contract: after i turns the first i rows are done. Assumes nothing.
+-- `set_closure::through` meets its contract: after i turns the first i rows are done. Assumes nothing.
 use mathlib.Core.Path.{_≡_, _∙_}
 use Prim.Native.Nat.{_-_, _≤_}
 use native.Mathlib.Omega.{arith}
 use lib.ListN.{length}
 use borrow.Author.Needs.{needs}
-use Rattle.row8_returning.specs.Closure.{Through}
-use Rattle.row8_returning.specs.ClosureLaws.{through-none, through-pass, rows-long}
-use Rattle.row8_returning.proofs.closure.through.Statement.{statement}
-use Rattle.row8_returning.proofs.closure.through.Tie as tie
+use Rattle.set_closure.specs.Closure.{Through}
+use Rattle.set_closure.specs.ClosureLaws.{through-none, through-pass, rows-long}
+use Rattle.set_closure.proofs.through.Statement.{statement}
+use Rattle.set_closure.proofs.through.Tie as tie
 
 abbrev Inv-loop : tie.InvT-loop
 Inv-loop rows₀ words n k i₀ rows i = (i ≤ n) × Through n words k i rows₀ rows

@@ -1,4 +1,4 @@
--- `row8_returning::ranks::ones` meets its contract: after w turns the ones of the first w words are counted. Assumes nothing.
+-- `set_closure::ones` meets its contract: after w turns the ones of the first w words are counted. Assumes nothing.
 use mathlib.Core.Path.{_≡_, refl, ap, _∙_}
 use Prim.Native.Nat.{ℕ, _+_, _-_, _*_, _^_, _≤_, _<_}
 use native.Mathlib.Numerals.{add-one}
@@ -6,9 +6,9 @@ use native.Mathlib.Omega.{arith}
 use lib.Count.{ones, ones-le}
 use lib.ListN.{getD}
 use borrow.Author.Needs.{needs}
-use Rattle.row8_returning.specs.Ones.{ones-of}
-use Rattle.row8_returning.proofs.ranks.ones.Statement.{statement}
-use Rattle.row8_returning.proofs.ranks.ones.Tie as tie
+use Rattle.set_closure.specs.Ones.{ones-of}
+use Rattle.set_closure.proofs.ones.Statement.{statement}
+use Rattle.set_closure.proofs.ones.Tie as tie
 
 abbrev Inv-loop : tie.InvT-loop
 Inv-loop rows at words sum₀ w₀ sum w = (w ≤ words) × (sum ≡ ones-of rows at w) × (sum ≤ 64 * w)

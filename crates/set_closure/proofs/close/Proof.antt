@@ -1,12 +1,12 @@
--- `closure::close` meets its contract: after k turns the rows have what is reached by way of nodes below k. Assumes nothing.
+-- `set_closure::close` meets its contract: after k turns the rows have what is reached by way of nodes below k. Assumes nothing.
 use mathlib.Core.Path.{_≡_, _∙_}
 use Prim.Native.Nat.{_-_, _≤_}
 use native.Mathlib.Omega.{arith}
 use borrow.Author.Needs.{needs}
-use Rattle.row8_returning.specs.Closure.{ClosedTo}
-use Rattle.row8_returning.specs.ClosureLaws.{closed-none, closed-more, closed-all, rows-long, steps-rows}
-use Rattle.row8_returning.proofs.closure.close.Statement.{statement}
-use Rattle.row8_returning.proofs.closure.close.Tie as tie
+use Rattle.set_closure.specs.Closure.{ClosedTo}
+use Rattle.set_closure.specs.ClosureLaws.{closed-none, closed-more, closed-all, rows-long, steps-rows}
+use Rattle.set_closure.proofs.close.Statement.{statement}
+use Rattle.set_closure.proofs.close.Tie as tie
 
 abbrev Inv-loop : tie.InvT-loop
 Inv-loop rows₀ words n k₀ rows k = (k ≤ n) × ClosedTo k n words rows₀ rows

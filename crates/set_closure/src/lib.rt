@@ -1,9 +1,12 @@
-// What every node reaches: the rows of a table of steps, made the rows of what is reached by way of one node after the other.
+// What every node reaches: the rows of a table of steps, made the rows of what is reached by way of one node after the other; and
+// how many these are, as the ones of the words of a row.
 ghost use mathlib.Core.Path.{_≡_};
-ghost use Prim.Native.Nat.{_+_, _≤_, _<_};
+ghost use Prim.Native.Nat.{_+_, _*_, _≤_, _<_};
+ghost use lib.ListN.{length};
 ghost use Rattle.set_search.specs.Search.{Steps};
-ghost use Rattle.row8_returning.specs.Closure.{Rows, Through};
-ghost use Rattle.row8_returning.specs.Closure as closure;
+ghost use Rattle.set_closure.specs.Closure.{Rows, Through};
+ghost use Rattle.set_closure.specs.Closure as closure;
+ghost use Rattle.set_closure.specs.Ones.{ones-of};
 
 // What row i reaches by way of node k.
 fn pass(rows: &mut [u64], words: usize, n: usize, k: usize, i: usize)
@@ -34,4 +37,16 @@ pub fn close(rows: &mut [u64], words: usize, n: usize)
     for k in 0..n {
         through(rows, words, n, k);
     }
+}
+
+// How many bits of the words at `at` are set.
+pub fn ones(rows: &[u64], at: usize, words: usize) -> usize
+    requires { ⌜ (at + words ≤ length (now rows)) × (words ≤ 1024) ⌝ }
+    ensures { λ r. ⌜ (r ≡ ones-of (now (rows .entry)) at words) × (r ≤ 64 * words) ⌝ }
+{
+    let mut sum: usize = 0;
+    for w in 0..words {
+        sum += u64::count_ones(rows[at + w]) as usize;
+    }
+    sum
 }

@@ -6,16 +6,13 @@ use mathlib.Core.Bool.{Bool, true, false}
 use Prim.Native.Nat.{ℕ, zero, suc, _+_, _*_, _/_, _%_, _^_, _≤_, _<_, _-_}
 use native.Mathlib.Nat.{div-one, pow-suc, div-lt-iff-lt-mul}
 use native.Mathlib.Numerals.{one-add}
-use native.Mathlib.Decide.{ℕ-discrete, decLt}
 use native.Mathlib.Omega.{arith}
 use lib.Arith.{lt-one}
 use lib.Count.{ones, ones-step}
 use lib.Dec.{eqb}
-use lib.ListN.{length, getD, set, length-set}
+use lib.ListN.{getD}
 use lib.Pow.{shr-shr}
-use lib.Seq.{ext-getD, getD-set-same, getD-set-other}
-use Rattle.sheet.specs.Sheet.{first}
-use Rattle.sheet.specs.FirstLaws.{first-none, first-found}
+use lib.Seq.{ext-getD}
 use Rattle.model.specs.Decl.{bit, table}
 use Rattle.model.specs.Reach.{Reach, one, more, cyclic}
 use Rattle.model_laws.specs.Lists.{true-of, trues, length-table, getD-table, table-cong}
@@ -24,9 +21,8 @@ use Rattle.set_bits.specs.Bits.{digit, has}
 use Rattle.set_bits.specs.BitsLaws.{digit-lt}
 use Rattle.set_search.specs.Search.{Steps, steps}
 use Rattle.set_search.specs.SearchLaws.{steps-within}
-use Rattle.set_search.specs.Loops.{First}
-use Rattle.row8_returning.specs.Closure.{Closed}
-use Rattle.row8_returning.specs.Ones.{ones-of, Ranks}
+use Rattle.set_closure.specs.Closure.{Closed}
+use Rattle.set_closure.specs.Ones.{ones-of}
 
 -- ---- the bits of a word
 -- a test over a row of numbers that goes on after n
@@ -104,14 +100,14 @@ module _ (n words : ℕ) (t t′ : List ℕ) (s : Steps n words t) (c : Closed n
       last (one q) = within _ _ q
       last (more q r) = last r
 
-  row-false : (k m : ℕ) → k < n → m < 64 * words → n ≤ m → has t′ (k * words) m ≡ false
+  pub row-false : (k m : ℕ) → k < n → m < 64 * words → n ≤ m → has t′ (k * words) m ≡ false
   row-false k m h l q = go (has t′ (k * words) m) refl
     where
       go : (b : Bool) → has t′ (k * words) m ≡ b → has t′ (k * words) m ≡ false
       go true e = absurd (omega (arith, row-below k m h l e))
       go false e = e
 
-  reached-row : (k : ℕ) → k < n → table (has t′ (k * words)) n ≡ reached next n k
+  pub reached-row : (k : ℕ) → k < n → table (has t′ (k * words)) n ≡ reached next n k
   reached-row k h =
       ext-getD false (table (has t′ (k * words)) n) (reached next n k) (length-table (has t′ (k * words)) n ∙ sym (length-reached next n k))
       (λ i l. let m : i < n = rw length-table at l in
@@ -136,45 +132,3 @@ module _ (n words : ℕ) (t t′ : List ℕ) (s : Steps n words t) (c : Closed n
       same-test (has t′ (k * words) k) (cyclic next n k)
       (λ e. cyclic-iff next n k within .1 (c .rows k k h (omega (arith, s .wide)) .0 e))
       (λ e. c .rows k k h (omega (arith, s .wide)) .1 (cyclic-iff next n k within .0 e))
-
-  pub ranks-first : (r : ℕ) (rank₀ rank′ : List ℕ) → Ranks words n t′ r rank₀ rank′ → First next n r rank₀ rank′
-  ranks-first r rank₀ rank′ h =
-      record {
-        is = go (decLt r n);
-        before = record { long = h .long; ranks = λ i l. h .counts i l ∙ ones-rank i (omega (arith, h .within)) };
-      }
-    where
-      none : (i : ℕ) → i < r → cyclic next n i ≡ false
-      none i l = sym (own-cyclic i (omega (arith, h .within))) ∙ h .none i l
-
-      go : Dec (r < n) → r ≡ first (cyclic next n) n
-      go (yes l) = sym (first-found (cyclic next n) n r l (first-none (cyclic next n) r none) (sym (own-cyclic r l) ∙ h .own l))
-      go (no l) = let e : r ≡ n = omega (arith, h .within) in e ∙ sym (first-none (cyclic next n) n (λ i q. none i (omega arith)))
-
--- ---- one row after the other
-module _ (words n : ℕ) (t : List ℕ) (s : List ℕ) where
-  abbrev pub Counted : ℕ → List ℕ → Type 0
-  Counted k s′ =
-      (k ≤ n) × (length s′ ≡ length s) × ((i : ℕ) → i < k → has t (i * words) i ≡ false) × ((i : ℕ) → i < k → getD s′ i 0 ≡ ones-of t (i * words) words)
-
-  pub counted-more : (k v : ℕ) (s′ : List ℕ) → Counted k s′ → k < n → n ≤ length s → has t (k * words) k ≡ false → v ≡ ones-of t (k * words) words → Counted (k + 1) (set s′ k v)
-  counted-more k v s′ h l q e w = (
-    omega arith,
-    length-set s′ k v ∙ h .1,
-    λ i j. below i j (ℕ-discrete i k),
-    λ i j. counts i j (ℕ-discrete i k),
-  )
-    where
-      below : (i : ℕ) → i < k + 1 → Dec (i ≡ k) → has t (i * words) i ≡ false
-      below i j (yes z) = rw z e
-      below i j (no z) = h .2 i (omega arith)
-
-      counts : (i : ℕ) → i < k + 1 → Dec (i ≡ k) → getD (set s′ k v) i 0 ≡ ones-of t (i * words) words
-      counts i j (yes z) = rw z (getD-set-same s′ k v 0 (omega (arith, h .1)) ∙ w)
-      counts i j (no z) = getD-set-other s′ k i v 0 z ∙ h .3 i (omega arith)
-
-  pub counted-found : (k : ℕ) (s′ : List ℕ) → Counted k s′ → k < n → has t (k * words) k ≡ true → Ranks words n t k s s′
-  counted-found k s′ h l e = record { within = h .0; none = h .2; own = λ q. e; long = h .1; counts = h .3 }
-
-  pub counted-all : (s′ : List ℕ) → Counted n s′ → Ranks words n t n s s′
-  counted-all s′ h = record { within = h .0; none = h .2; own = λ q. absurd (omega arith); long = h .1; counts = h .3 }

@@ -1,12 +1,12 @@
--- `closure::pass` meets its contract, by whether row i has node k. Assumes nothing.
+-- `set_closure::pass` meets its contract, by whether row i has node k. Assumes nothing.
 use mathlib.Core.Path.{_≡_, _∙_, sym}
 use native.Mathlib.Omega.{arith}
 use borrow.Author.Needs.{needs}
 use borrow.Author.Tests.{not-true, not-false}
-use Rattle.row8_returning.specs.Closure.{passed}
-use Rattle.row8_returning.specs.ClosureLaws.{row-inside, rows-apart}
-use Rattle.row8_returning.proofs.closure.pass.Statement.{statement}
-use Rattle.row8_returning.proofs.closure.pass.Tie as tie
+use Rattle.set_closure.specs.Closure.{passed}
+use Rattle.set_closure.specs.ClosureLaws.{row-inside, rows-apart}
+use Rattle.set_closure.proofs.pass.Statement.{statement}
+use Rattle.set_closure.proofs.pass.Tie as tie
 
 mul-has : tie.Need-mul-has
 mul-has c =

@@ -15,7 +15,7 @@ use Rattle.set_bits.specs.Bits.{has, united}
 use Rattle.set_bits.specs.BitsLaws.{row-room, row-before, has-words, length-united, united-far, united-has}
 use Rattle.set_search.specs.Search.{Steps, steps}
 use Rattle.set_search.specs.SearchLaws.{mem-steps, steps-mem}
-use Rattle.row8_returning.specs.Closure.{Rows, Via, one, more, passed, Through, ClosedTo, Closed}
+use Rattle.set_closure.specs.Closure.{Rows, Via, one, more, passed, Through, ClosedTo, Closed}
 
 -- ---- ways
 module _ (next : ℕ → List ℕ) where

@@ -1,0 +1,4 @@
+pub mod Closure
+pub mod ClosureLaws
+pub mod Ones
+pub mod OnesLaws
