@@ -7,7 +7,7 @@ use walk_cells::CELLS;
 ghost use mathlib.Core.Path.{_≡_};
 ghost use mathlib.Core.List.{_++_};
 ghost use mathlib.Core.Bool.{false, not};
-ghost use Prim.Native.Nat.{_+_, _≤_, _<_};
+ghost use Prim.Native.Nat.{_+_, _*_, _≤_, _<_};
 ghost use lib.ListN.{length};
 ghost use Rattle.number_columns.specs.Column.{pick};
 ghost use Rattle.sheet.specs.Format.{base};
@@ -79,8 +79,8 @@ fn names_of(a: &[u8]) -> usize
 
 // Row 5: the first line out of range, or the count of lines; the lines' cells stay.
 fn first_outside(z: &[u8], names: usize, q: &mut [u32]) -> usize
-    requires { ⌜ Patterned (now z) × (length (now q) ≡ 1536) ⌝ }
-    ensures { λ r. ⌜ Ranged names (now (z .entry)) (now (q .exit)) r × (length (now (q .exit)) ≡ 1536) ⌝ }
+    requires { ⌜ Patterned (now z) × (6 * count 6 (now z) ≤ length (now q)) ⌝ }
+    ensures { λ r. ⌜ Ranged names (now (z .entry)) (now (q .exit)) r × (length (now (q .exit)) ≡ length (now (q .entry))) ⌝ }
 {
     let end = z.len() / LINE * CELLS;
     walk_decode::decode_lines(z, COLUMNS, &mut q[0..end]);
@@ -90,7 +90,7 @@ fn first_outside(z: &[u8], names: usize, q: &mut [u32]) -> usize
 // The first of rows 3 to 7 that applies to the declarations a and the Q lines z, where front is that of the declarations alone.
 pub fn check(a: &[u8], z: &[u8], front: Refusal, q: &mut [u32]) -> Refusal
     requires { ⌜ Parted 6 (now a) (now z) × (row1 base (now a ++ now z) ≡ false) × NoBad (now a) ⌝ }
-    requires { ⌜ (front ≡ old.refusal (old.sheet-rows base (now a))) × (length (now q) ≡ 1536) ⌝ }
+    requires { ⌜ (front ≡ old.refusal (old.sheet-rows base (now a))) × (6 * count 6 (now z) ≤ length (now q)) ⌝ }
     ensures { λ r. ⌜ r ≡ old.refusal (whole.sheet-rows base (now (a .entry) ++ now (z .entry))) ⌝ }
     ensures { λ r. ⌜ Kept (now (a .entry)) (now (z .entry)) (now (q .entry)) (now (q .exit)) r ⌝ }
 {

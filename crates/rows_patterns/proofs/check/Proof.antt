@@ -118,7 +118,7 @@ returns-6 c =
     let e = y .0 .place ∙ ap (λ (n : ℕ). first (links.row5 n (lines 6 (p .args .z .now))) (count 6 (p .args .z .now))) (m .names-of .ensures) in (
       at-pattern (p .args .a .now) (p .args .z .now) (p .pre .0 .0) (p .pre .0 .1) (p .pre .0 .2) (p .args .front) (p .pre .1 .0) (not-three (d .before .before .before)) (letters (d .before)) (not-four d) (b .before .if4 .left)
           (not-five b) (o .first-outside .result) e (c .if6 .taken),
-      kept-refused (p .args .a .now) (p .args .z .now) (p .args .q .now) _ _ 4 (y .1 ∙ sym (p .pre .1 .1)) refl,
+      kept-refused (p .args .a .now) (p .args .z .now) (p .args .q .now) _ _ 4 (y .1) refl,
     )
 
 returns-7 : tie.Need-returns-7
@@ -130,7 +130,7 @@ returns-7 c =
     let d = b .before .before in
     let y = o .first-outside .ensures in
     at-rest (p .args .a .now) (p .args .z .now) (p .pre .0 .0) (p .pre .0 .1) (p .pre .0 .2) (p .args .front) (p .pre .1 .0) (not-three (d .before .before .before)) (letters (d .before)) (not-four d) (b .before .if4 .left)
-    (m .names-of .result) (o .first-outside .result) (p .args .q .now) _ (m .names-of .ensures) (y .0) (c .if6 .left) (y .1 ∙ sym (p .pre .1 .1))
+    (m .names-of .result) (o .first-outside .result) (p .args .q .now) _ (m .names-of .ensures) (y .0) (c .if6 .left) (y .1)
 
 pub check-spec : {M : Type 1} → statement M
 check-spec =

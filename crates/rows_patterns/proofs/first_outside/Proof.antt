@@ -16,7 +16,7 @@ returns c =
     let y = d .decode-lines .ensures in (
       ranged z (p .args .q .now) (d .decode-lines .last .1 .1 .0) (length z / 32 * 6) (p .pre .0) refl (omega (arith, p .pre .0 .few, p .pre .1))
           (y .holds (y .place ∙ row2-none z (p .pre .0 .no-bad))) (p .args .names) (c .row5 .result) (c .row5 .ensures),
-      c .before .before .before .before .q .given .1 ∙ p .pre .1,
+      c .before .before .before .before .q .given .1,
     )
 
 pub first-outside-spec : {M : Type 1} → statement M
