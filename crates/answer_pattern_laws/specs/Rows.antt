@@ -41,7 +41,7 @@ abbrev pub needed : Format → List ℕ → List ℕ → ℕ
 needed f a z = length (left-sheet f (lines (f .columns) a) (lines (f .columns) z))
 
 module _ (f : Format) (b a z : List ℕ) (at-front : front (f .columns) b ≡ a) (at-tail : tail (f .columns) b ≡ z) where
-  program-is : refusal (program-rows f b) ≡ or-later (row8-alone f a) (or-later (faults-alone f a) (row13-alone f a z))
+  pub program-is : refusal (program-rows f b) ≡ or-later (row8-alone f a) (or-later (faults-alone f a) (row13-alone f a z))
   program-is =
       ap refusal (program-rows-are f b a z at-front at-tail)
       ∙ (refusal-append (line-row 8 (count (f .columns) a) (row8 (program (lines (f .columns) a)) (lines (f .columns) a)) ∷ []) _

@@ -1,4 +1,2 @@
-pub mod DecidingLaws
 pub mod Build
-pub mod RefusedLaws
 pub mod BuildLaws

@@ -1,12 +1,7 @@
 // The layout build: a sheet and two outputs go in; code, place and rounds come out, and on acceptance both sheets stand in the outputs.
-mod deciding;
-
 use answer::Refusal;
 use answer_built::Built;
-use row4_limits::Counts;
 use sheet_parts::LINE;
-use table_access::HEADER;
-use table_access::Sizes;
 use walk_cells::CELLS;
 ghost use mathlib.Core.Path.{_≡_};
 ghost use mathlib.Core.Bool.{false};
@@ -15,10 +10,13 @@ ghost use Prim.Native.Nat.{_+_, _*_, _≤_};
 ghost use lib.ListN.{length};
 ghost use Rattle.sheet.specs.Format.{base};
 ghost use Rattle.sheet.specs.Sheet.{count, row1};
+ghost use Rattle.model.specs.Run.{run};
+ghost use Rattle.meaning.specs.Program.{field-line, program};
+ghost use Rattle.meaning.specs.Rows.{count-of};
+ghost use Rattle.table_access.specs.Tables.{decls-of, lines-in};
 ghost use Rattle.answer_built.specs.Built.{Gives};
-ghost use Rattle.build_patterns.specs.Deciding.{Read};
-ghost use Rattle.build_patterns.specs.Patterned.{Tailed};
-ghost use Rattle.build.specs.Build.{Checked, Lined, Refuses, Breaks};
+ghost use Rattle.input_table.specs.Table.{Read, Tailed, Parts};
+ghost use Rattle.build.specs.Build.{Taken};
 
 // Bytes of 58, 126, 254, 386 and 1,024 lines, whose tables fit 480, 1,024, 2,048, 3,104 and 8,208 cells: eight for each line, and 16 for
 // the header and the end. Cells that a sheet does not need are not cleared.
@@ -32,6 +30,57 @@ const LARGE: usize = 12352;
 
 const HALF: usize = 32768;
 
+// Rows 11 and 12 and the sheets, where no row of the input applies: a are the declarations, z the Q lines, if there are any, and q the
+// cells of these.
+fn written(
+    a: &[u8],
+    z: &[u8],
+    t: &[u32],
+    q: &[u32],
+    rounds: usize,
+    u: &[u16],
+    rank: &[u16],
+    keep: &[u8],
+    v: &mut [u8],
+    l: &mut [u8],
+) -> Built
+    requires { ⌜ Taken (now a) (now z) (now t) (now q) (now u) (now rank) (now keep) ⌝ }
+    requires { ⌜ rounds ≡ run 100 (program (lines-in (now t))) .rounds ⌝ }
+    ensures { λ r. ⌜ Gives (now (a .entry) ++ now (z .entry)) (now (v .entry)) (now (l .entry)) r (now (v .exit)) (now (l .exit)) ⌝ }
+{
+    if q.len() > 0 {
+        return build_patterns::patterned(a, z, t, q, rounds, u, rank, keep, v, l);
+    }
+    if v.len() < a.len() {
+        return answer_built::refused(11, a.len());
+    }
+    build_outputs::outputs(a, t, rounds, u, rank, keep, v, l)
+}
+
+// Rows 8 to 10 and 13, in memory that is lent for the keep table, for what becomes of each name, and for ranks.
+fn judged(
+    a: &[u8],
+    z: &[u8],
+    t: &[u32],
+    q: &[u32],
+    keep: &mut [u8],
+    u: &mut [u16],
+    rank: &mut [u16],
+    v: &mut [u8],
+    l: &mut [u8],
+) -> Built
+    requires { ⌜ Read (now a) (now t) × Tailed (now a) (now z) (now q) × (count-of field-line (lines-in (now t)) ≤ length (now keep)) ⌝ }
+    requires { ⌜ (length (now u) ≡ 2 * decls-of (lines-in (now t))) × (length (now rank) ≡ decls-of (lines-in (now t))) ⌝ }
+    ensures { λ r. ⌜ Gives (now (a .entry) ++ now (z .entry)) (now (v .entry)) (now (l .entry)) r (now (v .exit)) (now (l .exit)) ⌝ }
+{
+    let j = input_rows::judge(t, q, keep, u, rank);
+    let refusal = j.refusal;
+    match refusal {
+        Refusal::Accepted => written(a, z, t, q, j.rounds, u, rank, keep, v, l),
+        Refusal::Refused { code, place } => answer_built::refused(code, place),
+    }
+}
+
 // Memory for the passes, of as many declarations as a sheet may have.
 fn tabled(a: &[u8], z: &[u8], t: &[u32], q: &[u32], v: &mut [u8], l: &mut [u8]) -> Built
     requires { ⌜ Read (now a) (now t) × Tailed (now a) (now z) (now q) ⌝ }
@@ -41,7 +90,7 @@ fn tabled(a: &[u8], z: &[u8], t: &[u32], q: &[u32], v: &mut [u8], l: &mut [u8]) 
     let mut keep = [0u8; 512];
     let mut u = [0u16; 192];
     let mut rank = [0u16; 96];
-    deciding::decided(
+    judged(
         a,
         z,
         t,
@@ -54,77 +103,16 @@ fn tabled(a: &[u8], z: &[u8], t: &[u32], q: &[u32], v: &mut [u8], l: &mut [u8]) 
     )
 }
 
-// Lines whose cells stand in the table, and memory for its index.
-fn lined(
-    a: &[u8],
-    z: &[u8],
-    sizes: Sizes,
-    t: &mut [u32],
-    q: &[u32],
-    v: &mut [u8],
-    l: &mut [u8],
-) -> Built
-    requires { ⌜ Lined (now a) (now t) sizes × Tailed (now a) (now z) (now q) ⌝ }
-    ensures { λ r. ⌜ Gives (now (a .entry) ++ now (z .entry)) (now (v .entry)) (now (l .entry)) r (now (v .exit)) (now (l .exit)) ⌝ }
-{
-    table_index::fill(sizes, t);
-    tabled(a, z, t, q, v, l)
-}
-
-// Declarations that passed rows 1 to 7, whose lines are counted, and Q lines behind them, or none.
-fn passed(
-    a: &[u8],
-    z: &[u8],
-    t: &mut [u32],
-    q: &[u32],
-    c: Counts,
-    v: &mut [u8],
-    l: &mut [u8],
-) -> Built
-    requires { ⌜ Checked (now a) (now t) c × Tailed (now a) (now z) (now q) ⌝ }
-    ensures { λ r. ⌜ Gives (now (a .entry) ++ now (z .entry)) (now (v .entry)) (now (l .entry)) r (now (v .exit)) (now (l .exit)) ⌝ }
-{
-    let n = a.len() / LINE;
-    let sizes = table_sizes::sizes(t, n, c.names, c.args, c.types, c.decls, c.ctors, c.fields);
-    let m = table_sizes::cells(sizes);
-    lined(a, z, sizes, &mut t[0..m], q, v, l)
-}
-
-// A sheet whose Q lines begin at line m: the rows of its declarations and of its Q lines, and the build of a sheet that passes them.
-fn parted(s: &[u8], m: usize, t: &mut [u32], v: &mut [u8], l: &mut [u8]) -> Built
-    requires { ⌜ Breaks (now s) (length (now t)) m ⌝ }
+// The declarations and the Q lines of a sheet that passed rows 1 to 7, and their cells.
+fn parted(s: &[u8], lines: usize, cells: usize, t: &[u32], v: &mut [u8], l: &mut [u8]) -> Built
+    requires { ⌜ Parts (now s) (now t) lines cells ⌝ }
     ensures { λ r. ⌜ Gives (now (s .entry)) (now (v .entry)) (now (l .entry)) r (now (v .exit)) (now (l .exit)) ⌝ }
 {
-    let at = m * LINE;
-    let a = &s[0..at];
+    let at = lines * LINE;
     let z = &s[at..s.len()];
-    let end = HEADER + m * CELLS;
-    let checked = rows_refusals::check_rows(a, &mut t[HEADER..end]);
-    let refusal = checked.refusal;
-    let counts = checked.counts;
-    let mut q = [0u32; 1536];
-    let all = rows_patterns::check(a, z, refusal, &mut q);
-    match all {
-        Refusal::Accepted => passed(a, z, t, &q[0..z.len() / LINE * CELLS], counts, v, l),
-        Refusal::Refused { code, place } => answer_built::refused(code, place),
-    }
-}
-
-// A sheet that rows 2 to 7 refuse as if it had no Q lines: where the line that is out of order is a Q line, its Q lines begin there.
-fn refused(s: &[u8], t: &mut [u32], code: u32, place: usize, v: &mut [u8], l: &mut [u8]) -> Built
-    requires { ⌜ Refuses (now s) (length (now t)) code place ⌝ }
-    ensures { λ r. ⌜ Gives (now (s .entry)) (now (v .entry)) (now (l .entry)) r (now (v .exit)) (now (l .exit)) ⌝ }
-{
-    if code != 3 {
-        return answer_built::refused(code, place);
-    }
-    if place == s.len() / LINE {
-        return answer_built::refused(code, place);
-    }
-    if s[place * LINE] != b'Q' {
-        return answer_built::refused(code, place);
-    }
-    parted(s, place, t, v, l)
+    let room = 8 * lines + 16;
+    let last = room + z.len() / LINE * CELLS;
+    tabled(&s[0..at], z, &t[0..cells], &t[room..last], v, l)
 }
 
 // Rows 2 to 7, with memory for the table; and the build of a sheet that passes them.
@@ -132,15 +120,11 @@ fn checked(s: &[u8], t: &mut [u32], v: &mut [u8], l: &mut [u8]) -> Built
     requires { ⌜ (row1 base (now s) ≡ false) × (8 * count 6 (now s) + 16 ≤ length (now t)) ⌝ }
     ensures { λ r. ⌜ Gives (now (s .entry)) (now (v .entry)) (now (l .entry)) r (now (v .exit)) (now (l .exit)) ⌝ }
 {
-    let n = s.len() / LINE;
-    let end = HEADER + n * CELLS;
-    let checked = rows_refusals::check_rows(s, &mut t[HEADER..end]);
-    let refusal = checked.refusal;
-    let counts = checked.counts;
-    let q = [0u32; 1];
+    let f = input_table::tabled(s, t);
+    let refusal = f.refusal;
     match refusal {
-        Refusal::Accepted => passed(s, &s[0..0], t, &q[0..0], counts, v, l),
-        Refusal::Refused { code, place } => refused(s, t, code, place, v, l),
+        Refusal::Accepted => parted(s, f.lines, f.cells, t, v, l),
+        Refusal::Refused { code, place } => answer_built::refused(code, place),
     }
 }
 

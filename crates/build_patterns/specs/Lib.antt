@@ -1,4 +1,3 @@
-pub mod Deciding
-pub mod SameLaws
 pub mod Patterned
+pub mod LentLaws
 pub mod PatternedLaws

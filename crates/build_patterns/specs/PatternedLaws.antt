@@ -9,9 +9,8 @@ use lib.ListN.{length, getD, take, drop, length-append, length-map}
 use lib.Seq.{take-at}
 use Rattle.sheet.specs.Format.{base}
 use Rattle.sheet.specs.Line.{Line, row, bad, letter}
-use Rattle.sheet.specs.Sheet.{first, count, lines}
-use Rattle.sheet.specs.SheetLaws.{length-lines}
-use Rattle.sheet.specs.FirstLaws.{none-first, first-le}
+use Rattle.sheet.specs.Sheet.{lines}
+use Rattle.sheet.specs.FirstLaws.{none-first}
 use Rattle.sheet.specs.ListLaws.{Every, every-append, every-over}
 use Rattle.walk_cells.specs.Cells.{cells, lines-of, bare}
 use Rattle.walk_cells.specs.CellsLaws.{length-lines-of, length-cells, lines-cells}
@@ -20,7 +19,7 @@ use Rattle.model.specs.Run.{run}
 use Rattle.model_patterns.specs.Pat.{Pat, Pats, PWild, PVar, PConst, PCtor, PRecord, PTuple, POr, no-parts, part, Rewritten, nodes, rw-pat, rewritten}
 use Rattle.meaning.specs.Program.{name-line, program}
 use Rattle.meaning.specs.Rows.{count-of}
-use Rattle.meaning_patterns.specs.Patterns.{good-pattern, declared-fields, pattern, pat-lines, part-lines, row13, rewritten-lines, freed-lines, pattern-line}
+use Rattle.meaning_patterns.specs.Patterns.{good-pattern, pattern, pat-lines, part-lines, rewritten-lines, freed-lines, pattern-line}
 use Rattle.pattern_laws.specs.Made.{made-of}
 use Rattle.pattern_laws.specs.Marks.{owners-of}
 use Rattle.pattern_laws.specs.Linked.{AllGood}
@@ -31,24 +30,22 @@ use Rattle.pattern_put.specs.Puts.{Bytes, line-at}
 use Rattle.answer.specs.Answer.{refusal}
 use Rattle.answer.specs.declared.Refusal.the-variants.{Accepted}
 use Rattle.answer_patterns.specs.Whole.{front, tail, input-rows, following}
-use Rattle.answer_pattern_laws.specs.Parts.{front-of, tail-of}
-use Rattle.answer_pattern_laws.specs.Rows.{rows-thirteen, rows-eleven, input-accepted}
+use Rattle.answer_pattern_laws.specs.Rows.{rows-eleven, input-accepted}
 use Rattle.answer_built.specs.Built.{refused-as, Gives}
-use Rattle.answer_built.specs.BuiltLaws.{row8-alone, faults-alone, gives-refused}
+use Rattle.answer_built.specs.BuiltLaws.{gives-refused}
 use Rattle.table_access.specs.Tables.{lines-in}
-use Rattle.pattern_counts.specs.Counts.{Fielded}
 use Rattle.pattern_ctors.specs.Sites.{Sited}
-use Rattle.pattern_ctors.specs.Owners.{CountsTo}
 use Rattle.pattern_marks.specs.Tables.{Given, MarksTo}
 use Rattle.pattern_owners.specs.Places.{Placed}
 use Rattle.pattern_flags.specs.Flags.{FlagsTo}
 use Rattle.pattern_flags.specs.MarkedLaws.{tables-rewritten}
-use Rattle.table_declared.specs.PassedLaws.{names-within}
-use Rattle.table_access.specs.OfSheet.{OfSheet, program-same, count-same}
-use Rattle.answer_pattern_laws.specs.Parted.{Parted}
+use Rattle.table_access.specs.OfSheet.{OfSheet, program-same}
 use Rattle.build_following.specs.Following.{Follows}
-use Rattle.build_patterns.specs.SameLaws.{eight-same, faults-same, lent-of}
-use Rattle.build_patterns.specs.Patterned.{Good, Patterned, Counted, Uncounted, Unflagged, Flagged, Marked, owner-in, layout-in}
+use Rattle.input_table.specs.Table.{Good}
+use Rattle.input_rows.specs.SameLaws.{eight-same, faults-same}
+use Rattle.input_rows.specs.JudgingLaws as judging
+use Rattle.build_patterns.specs.LentLaws.{lent-of}
+use Rattle.build_patterns.specs.Patterned.{Patterned, Counted, Unflagged, Flagged, Marked, owner-in, layout-in}
 
 -- every Q line passes row 5
 pub all-good : (names : ℕ) (q : List ℕ) → Good names q → AllGood names (lines-of q)
@@ -58,77 +55,29 @@ all-good names q g i h = go (good-pattern names (lines-of q) i) (none-first _ (l
     go true e = refl
     go false e = let z : _≡_ {A = ℕ} 0 1 = cc in absurd (omega arith)
 
--- ---- row 13
-pub row13-told : (ls : List Line) (fields q : List ℕ) (r : ℕ) → CountsTo ls fields (length fields)
-    → ((ds : List Decl) → Fielded ds fields → r ≡ first (row13 ds (lines-of q)) (length (lines-of q)))
-    → r ≡ first (row13 (program ls) (lines-of q)) (length (lines-of q))
-row13-told ls fields q r c w = w (program ls) (record { marks = c .marks })
-
--- as many numbers of fields
-pub good-long : (q : List ℕ) (n k : ℕ) → k ≡ n → Good n q → Good k q
-good-long q n k e g = rw e g
-
-pub uncounted-long : (t q m : List ℕ) (n k : ℕ) → k ≡ n → Uncounted t q m n → Uncounted t q m k
-uncounted-long t q m n k e u = rw e u
-
 -- ---- flags, by owners and places
 pub flagged-of : (ls : List Line) (keep u m : List ℕ) (qs : List Line) (own place flags : List ℕ) → own ≡ owners-of qs → Placed qs place
     → FlagsTo ls keep u m qs own place flags (length qs) → Flagged ls keep u m qs flags
 flagged-of ls keep u m qs own place flags e p f = record { place = place; placed = p; told = rw e at f }
 
--- ---- the parts of the sheet
-module _ (a z : List ℕ) (p : Parted 6 a z) where
-  pub parted-front : front 6 (a ++ z) ≡ a
-  parted-front = front-of 6 a z (p .front-whole) (p .plain) (p .begins)
-
-  pub parted-tail : tail 6 (a ++ z) ≡ z
-  parted-tail = tail-of 6 a z (p .front-whole) (p .plain) (p .begins)
-
+-- ---- what no output decides
 module _ (a z t q u rank keep : List ℕ) (p : Patterned a z t q u rank keep) where
   abbrev of : OfSheet a t
-  of = p .clear .found .read .of
+  of = p .clear .read .of
 
   at-front : front 6 (a ++ z) ≡ a
-  at-front = parted-front a z (p .tailed .parted)
+  at-front = judging.at-front a z t q (p .clear .read) (p .tailed)
 
   at-tail : tail 6 (a ++ z) ≡ z
-  at-tail = parted-tail a z (p .tailed .parted)
+  at-tail = judging.at-tail a z t q (p .clear .read) (p .tailed)
 
-  eight : row8-alone a ≡ Accepted
-  eight = sym (eight-same a t of) ∙ p .clear .found .eight
+  pub input-of : refusal (input-rows base (a ++ z)) ≡ Accepted
+  input-of = input-accepted base (a ++ z) a z at-front at-tail (p .tailed .sheet) (sym (eight-same a t of) ∙ p .clear .found .eight) (sym (faults-same a t of) ∙ p .clear .found .faults) (p .counts)
 
-  faults : faults-alone a ≡ Accepted
-  faults = sym (faults-same a t of) ∙ p .clear .faults
-
-  -- as many lines as cells
-  pub lines-many : length (lines-of q) ≡ count 6 z
-  lines-many = ap length (p .tailed .cells) ∙ length-lines 6 z
-
-  -- row 13
-  pub gives-thirteen : (v l : List ℕ) (w : ℕ) → w ≡ first (row13 (program (lines-in t)) (lines-of q)) (length (lines-of q)) → w < length q / 6
-      → Gives (a ++ z) v l (refused-as 13 (length a / 32 + w)) v l
-  gives-thirteen v l w e h =
-      gives-refused (a ++ z) a z v l at-front at-tail 13 (length a / 32 + w)
-      (rows-thirteen base (a ++ z) a z at-front at-tail (length v) (length l) (p .tailed .sheet) eight faults w (told w e) (omega (arith, h, length-lines-of q, lines-many)))
-    where
-      told : (w : ℕ) → w ≡ first (row13 (program (lines-in t)) (lines-of q)) (length (lines-of q)) → first (row13 (program (lines 6 a)) (lines 6 z)) (count 6 z) ≡ w
-      told w e = sym (e ∙ (ap (λ (ds : List Decl). first (row13 ds (lines-of q)) (length (lines-of q))) (program-same a t of) ∙ ap₂ (λ (qs : List Line) (n : ℕ). first (row13 (program (lines 6 a)) qs) n) (p .tailed .cells) lines-many))
-
-  -- no line miscounts
-  pub counts-of : (w : ℕ) → w ≡ first (row13 (program (lines-in t)) (lines-of q)) (length (lines-of q)) → length q / 6 ≤ w → first (row13 (program (lines 6 a)) (lines 6 z)) (count 6 z) ≡ count 6 z
-  counts-of w e h =
-      let f = first-le (row13 (program (lines 6 a)) (lines 6 z)) (count 6 z) in
-      let x : w ≡ first (row13 (program (lines 6 a)) (lines 6 z)) (count 6 z) = e ∙ (ap (λ (ds : List Decl). first (row13 ds (lines-of q)) (length (lines-of q))) (program-same a t of) ∙ ap₂ (λ (qs : List Line) (n : ℕ). first (row13 (program (lines 6 a)) qs) n) (p .tailed .cells) lines-many) in
-      omega (arith, f, x, h, length-lines-of q, lines-many)
-
-  module _ (counts : first (row13 (program (lines 6 a)) (lines 6 z)) (count 6 z) ≡ count 6 z) where
-    pub input-of : refusal (input-rows base (a ++ z)) ≡ Accepted
-    input-of = input-accepted base (a ++ z) a z at-front at-tail (p .tailed .sheet) eight faults counts
-
-    pub gives-eleven : (v l : List ℕ) (n : ℕ) → n ≡ length a + length z → length v < n → Gives (a ++ z) v l (refused-as 11 n) v l
-    gives-eleven v l n e h =
-        let k : n ≡ length (a ++ z) = e ∙ sym (length-append a z) in
-        rw k (gives-refused (a ++ z) a z v l at-front at-tail 11 (length (a ++ z)) (rows-eleven base (a ++ z) a z at-front at-tail (length v) (length l) input-of (rw k at h)))
+  pub gives-eleven : (v l : List ℕ) (n : ℕ) → n ≡ length a + length z → length v < n → Gives (a ++ z) v l (refused-as 11 n) v l
+  gives-eleven v l n e h =
+      let k : n ≡ length (a ++ z) = e ∙ sym (length-append a z) in
+      rw k (gives-refused (a ++ z) a z v l at-front at-tail 11 (length (a ++ z)) (rows-eleven base (a ++ z) a z at-front at-tail (length v) (length l) input-of (rw k at h)))
 
 -- ---- lines of a letter and five numbers
 abbrev Rowed : Line → Type 0
@@ -216,7 +165,7 @@ module _ (a z t q u rank keep v marks flags : List ℕ) (c : Counted a z t q u r
   pub follows-of : (p out res : List ℕ) (n : ℕ) → Put (rewritten-lines new) out 0 n res → length out ≡ 1536 → p ≡ take (6 * n) res → Follows a z t p u rank keep v
   unfolding rewritten
   follows-of p out res n w e k =
-      let of = c .patterned .clear .found .read .of in
+      let of = c .patterned .clear .read .of in
       let xs : List Line = rewritten-lines new in
       let long : length (cells xs) ≡ 6 * n = length-cells xs ∙ ap (λ (j : ℕ). 6 * j) (omega (arith, w .next)) in
       let put : p ≡ cells xs = k ∙ (ap (take (6 * n)) (w .stands) ∙ take-at (cells xs) (drop (6 * n) out) (6 * n) long) in
@@ -226,7 +175,7 @@ module _ (a z t q u rank keep v marks flags : List ℕ) (c : Counted a z t q u r
       record {
         lent = lent-of a t u rank keep (c .patterned .clear) v (omega (arith, c .room));
         parted = c .patterned .tailed .parted;
-        input = input-of a z t q u rank keep (c .patterned) (c .counts);
+        input = input-of a z t q u rank keep (c .patterned);
         verdict-room = c .room;
         lines-are = lined ∙ (same ∙ sym (following-is (lines 6 a) (lines 6 z) (omega (arith, some-line, ap length (c .patterned .tailed .cells)))));
         bytes = λ i. rw lined (letters-small xs (rowed new) i);
@@ -236,21 +185,10 @@ module _ (a z t q u rank keep v marks flags : List ℕ) (c : Counted a z t q u r
 -- ---- the tables of constructors
 module _ (a z t q u rank keep m : List ℕ) (p : Patterned a z t q u rank keep) (s : Sited (lines-in t) m) where
   abbrev read-of : OfSheet a t
-  read-of = p .clear .found .read .of
+  read-of = p .clear .read .of
 
   good-in : Good (count-of name-line (lines-in t)) q
-  good-in = rw (count-same a t read-of name-line) (p .tailed .good)
-
-  pub uncounted-of : (n : ℕ) → n ≡ count-of name-line (lines-in t) → Uncounted t q m n
-  uncounted-of n e =
-      record {
-        tabled = read-of .tabled;
-        sited = s;
-        names-are = e;
-        names-few = omega (arith, e, names-within base (lines-in t) (read-of .bounded));
-        few = p .tailed .few;
-        good = rw e good-in;
-      }
+  good-in = judging.listed-of a z t q (p .clear .read) (p .tailed) .good
 
   pub given-of : Given t m (lines-of q)
   given-of = record { tabled = read-of .tabled; sited = s; good = all-good (count-of name-line (lines-in t)) q good-in }

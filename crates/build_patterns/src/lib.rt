@@ -1,21 +1,18 @@
-// Rows 13 and 11, and then row 12 and both sheets, of a sheet that ends in a pattern and to which no earlier row applies.
+// Row 11, and then row 12 and both sheets, of a sheet that ends in a pattern and to which no row of the input applies.
 use answer_built::Built;
-use sheet_parts::LINE;
 use walk_cells::CELLS;
 ghost use mathlib.Core.Path.{_≡_};
 ghost use mathlib.Core.List.{_++_};
 ghost use Prim.Native.Nat.{_*_};
 ghost use lib.ListN.{length};
-ghost use Rattle.sheet.specs.Sheet.{first};
 ghost use Rattle.walk_cells.specs.Cells.{lines-of};
 ghost use Rattle.model.specs.Run.{run};
 ghost use Rattle.meaning.specs.Program.{name-line, program};
 ghost use Rattle.meaning.specs.Rows.{count-of};
-ghost use Rattle.meaning_patterns.specs.Patterns.{row13};
 ghost use Rattle.table_access.specs.Tables.{lines-in};
 ghost use Rattle.pattern_ctors.specs.Sites.{Sited};
 ghost use Rattle.answer_built.specs.Built.{Gives};
-ghost use Rattle.build_patterns.specs.Patterned.{Patterned, Uncounted, Unflagged, Flagged, Counted, Marked};
+ghost use Rattle.build_patterns.specs.Patterned.{Patterned, Unflagged, Flagged, Counted, Marked};
 
 // What the marks and flags of the Q lines make of the pattern, and both sheets.
 fn emitted(
@@ -97,25 +94,7 @@ fn marked(
     emitted(a, z, t, q, &marks, &flags, rounds, u, rank, keep, v, l)
 }
 
-// The first Q line with another number of parts than its constructor has fields, by the numbers of fields in fields.
-fn miscounted_by(t: &[u32], q: &[u32], m: &[u16], fields: &mut [u16]) -> usize
-    requires { ⌜ Uncounted (now t) (now q) (now m) (length (now fields)) ⌝ }
-    ensures { λ r. ⌜ r ≡ first (row13 (program (lines-in (now (t .entry)))) (lines-of (now (q .entry)))) (length (lines-of (now (q .entry)))) ⌝ }
-{
-    pattern_ctors::counts(t, m, fields);
-    pattern_counts::row13(q, fields)
-}
-
-// That line, of at most 256 names.
-fn miscounted(t: &[u32], q: &[u32], m: &[u16], names: usize) -> usize
-    requires { ⌜ Uncounted (now t) (now q) (now m) names ⌝ }
-    ensures { λ r. ⌜ r ≡ first (row13 (program (lines-in (now (t .entry)))) (lines-of (now (q .entry)))) (length (lines-of (now (q .entry)))) ⌝ }
-{
-    let mut fields = [0u16; 256];
-    miscounted_by(t, q, m, &mut fields[0..names])
-}
-
-// Row 13, and then row 11.
+// Row 11.
 fn counted(
     a: &[u8],
     z: &[u8],
@@ -133,11 +112,6 @@ fn counted(
     requires { ⌜ rounds ≡ run 100 (program (lines-in (now t))) .rounds ⌝ }
     ensures { λ r. ⌜ Gives (now (a .entry) ++ now (z .entry)) (now (v .entry)) (now (l .entry)) r (now (v .exit)) (now (l .exit)) ⌝ }
 {
-    let n = q.len() / CELLS;
-    let wrong = miscounted(t, q, m, table_access::names(t));
-    if wrong < n {
-        return answer_built::refused(13, a.len() / LINE + wrong);
-    }
     let whole = a.len() + z.len();
     if v.len() < whole {
         return answer_built::refused(11, whole);
@@ -145,7 +119,7 @@ fn counted(
     marked(a, z, t, q, m, rounds, u, rank, keep, v, l)
 }
 
-// Where constructors are declared, put into m; then the rows and both sheets.
+// Where constructors are declared, put into m; then row 11 and both sheets.
 fn sited(
     a: &[u8],
     z: &[u8],
@@ -167,7 +141,7 @@ fn sited(
     counted(a, z, t, q, m, rounds, u, rank, keep, v, l)
 }
 
-// Rows 13 and 11, and then row 12 and both sheets: three cells for each name.
+// Rows 11 and 12, and both sheets: three cells for each name.
 pub fn patterned(
     a: &[u8],
     z: &[u8],

@@ -26,7 +26,7 @@ use Rattle.answer_pattern_laws.specs.Parts.{NoPattern, row1-whole}
 use Rattle.answer_pattern_laws.specs.Order.{passed-plain, first-broken}
 use Rattle.answer_pattern_laws.specs.Plain.{sheet-refusal-plain}
 use Rattle.answer_pattern_laws.specs.Refusals.{code-of, refusal-skip, row-first, broken-new}
-use Rattle.build.specs.Build.{Refuses, Breaks}
+use Rattle.input_table.specs.Table.{Refuses, Breaks}
 
 abbrev place-in : Refusal → ℕ
 place-in Accepted = 0

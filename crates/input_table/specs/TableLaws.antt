@@ -1,11 +1,11 @@
--- What the owner of the build's memory needs to know of a sheet that passed rows 1 to 7. Assumes nothing.
+-- From the rows of a sheet to the table of its declarations and the cells of its Q lines. Assumes nothing.
 use mathlib.Core.Path.{_≡_, refl, ap, sym, _∙_, subst}
 use mathlib.Core.List.{List, [], _∷_, _++_, append-nil}
 use Prim.Native.Nat.{ℕ, suc, _+_, _-_, _*_, _≤_, _<_}
 use native.Mathlib.Omega.{arith}
-use lib.ListN.{length, take, drop, replicate, length-replicate, length-drop, take-append-drop}
+use lib.ListN.{length, take, drop, length-drop, take-append-drop}
 use lib.Seq.{take-at, drop-at, take-take, take-add, length-take-le}
-use borrow.Rule.Slice.PartMut.{putMid}
+use borrow.Rule.Slice.PartMut.{putMid, take-put, mid-len}
 use Rattle.sheet.specs.Format.{base}
 use Rattle.sheet.specs.Line.{Line}
 use mathlib.Core.Bool.{true, false}
@@ -17,9 +17,9 @@ use Rattle.answer.specs.declared.Refusal.the-variants.{Accepted, Refused}
 use Rattle.answer.specs.Answer.{sheet-rows, refusal}
 use Rattle.answer.specs.Cut.{Whole}
 use Rattle.answer_laws.specs.Answer.{accepted-clear, clear-accepted}
+use Rattle.answer_laws.specs.Build.{whole-length, row1-small}
 use Rattle.rows_patterns.specs.Kept.{Held}
 use Rattle.sheet.specs.SheetLaws.{length-lines}
-use Rattle.answer_patterns.specs.Cut.{Call}
 use Rattle.row4_limits.specs.declared.Counts.{Counts}
 use Rattle.row4_limits.specs.Limits.{counts-of}
 use Rattle.table_declared.specs.Passed.{Passed}
@@ -30,8 +30,6 @@ use Rattle.table_access.specs.declared.Sizes.{Sizes}
 use Rattle.table_access.specs.Tables.{sizes-of, cell-count, lines-in, Tabled}
 use Rattle.table_sizes.specs.Sizing.{behind, lines-behind, Counted}
 use Rattle.table_sizes.specs.SizingLaws.{count-all, cells-few}
-use Rattle.answer_built.specs.declared.Built.{Built}
-use Rattle.answer_built.specs.Built.{refused-as, Gives, given}
 use Rattle.sheet.specs.Line.{isBad}
 use Rattle.sheet.specs.Sheet.{line, linesFrom, first, row2}
 use Rattle.sheet.specs.FirstLaws.{none-first}
@@ -45,11 +43,8 @@ use Rattle.answer_pattern_laws.specs.Order.{passed-plain}
 use Rattle.answer_pattern_laws.specs.Plain.{sheet-refusal-plain}
 use Rattle.answer_pattern_laws.specs.Refusals as refusals
 use Rattle.answer_pattern_laws.specs.Refusals.{front-row1}
-use Rattle.answer_pattern_laws.specs.Rows.{rows-sheet}
-use Rattle.build_patterns.specs.Patterned.{Tailed}
-use Rattle.answer_built.specs.BuiltLaws.{gives-refused}
-use Rattle.build_patterns.specs.Deciding.{Read}
-use Rattle.build.specs.Build.{Checked, Lined, Refuses, Breaks}
+use Rattle.input_table.specs.Table.{Checked, Lined, Read, Tailed, Filled, Parts, refused-front, Fronted, Refuses, Breaks}
+use Rattle.input_table.specs.declared.Front.{Front}
 
 -- ---- the cells of lines in the table
 -- what was lent behind the header comes back
@@ -149,10 +144,6 @@ tailed-none b short e =
       good = refl;
     }
 
--- what a call gives of it
-pub gives-all : (b v l : List ℕ) (r : Built) (v′ l′ : List ℕ) → Gives (b ++ []) v l r v′ l′ → Gives b v l r v′ l′
-gives-all b v l r v′ l′ g = subst (λ (x : List ℕ). Gives x v l r v′ l′) (append-nil b) g
-
 -- ---- a refusal of rows 1 to 7
 refused-of : (b : List ℕ) (q : Refusal) (k : Counts) (code place : ℕ) → refusal (sheet-rows base b) ≡ q → with-counts q k .refusal ≡ Refused code place → refusal (sheet-rows base b) ≡ Refused code place
 refused-of b Accepted k code place e h = let z : _≡_ {A = ℕ} 0 1 = cc in absurd (omega arith)
@@ -162,19 +153,6 @@ refused-of b (Refused c p) k code place e h = e ∙ h
 pub refuses-of : (b : List ℕ) (room code place : ℕ) → row1 base b ≡ false → checked-of b .refusal ≡ Refused code place → 8 * count 6 b + 16 ≤ room → Refuses b room code place
 unfolding checked-of
 refuses-of b room code place short e h = record { short = short; refused = refused-of b (refusal (sheet-rows base b)) (counts-of (lines 6 b)) code place refl e; roomy = h }
-
--- by the rows of both parts
-pub gives-sheet : (b v l : List ℕ) (code place : ℕ) → refusal (whole.sheet-rows base b) ≡ Refused code place → Gives b v l (refused-as code place) v l
-gives-sheet b v l code place e =
-    gives-refused b (front 6 b) (tail 6 b) v l refl refl code place (rows-sheet base b (front 6 b) (tail 6 b) refl refl (length v) (length l) code place e)
-
--- row 1 refuses
-one-refused : (b : List ℕ) → row1 base b ≡ true → refusal (whole.sheet-rows base b) ≡ Refused 1 0
-unfolding whole.sheet-rows refusal first
-one-refused b e = rw e refl
-
-pub gives-one : (b v l : List ℕ) → row1 base b ≡ true → Gives b v l (refused-as 1 0) v l
-gives-one b v l e = gives-sheet b v l 1 0 (one-refused b e)
 
 -- ---- a sheet whose Q lines begin at line m
 module _ (b : List ℕ) (room m at : ℕ) (r : Breaks b room m) (e : at ≡ m * 32) where
@@ -262,17 +240,27 @@ module _ (b : List ℕ) (room m : ℕ) (r : Breaks b room m) where
   pub cut-lines : count 6 before ≡ m
   cut-lines = ap (count 6) (cut-first b (m * 32)) ∙ front-lines b room m (m * 32) r refl
 
+  -- as many lines as the sheet has besides
+  pub cut-rest-lines : m + count 6 behind-it ≡ count 6 b
+  cut-rest-lines =
+      let w : length b ≡ 32 * count 6 b = whole-length 6 b (row1-whole base b (r .short)) in
+      let n : length behind-it ≡ length b - m * 32 = ap length (cut-rest b (m * 32)) ∙ length-drop (m * 32) b in
+      omega (arith, w, n, r .inside)
+
+  -- the refusal of both parts is the sheet's
+  pub cut-refusal : (q : Refusal) → refusal (whole.sheet-rows base (before ++ behind-it)) ≡ q → refusal (whole.sheet-rows base b) ≡ q
+  cut-refusal q e = ap (λ (x : List ℕ). refusal (whole.sheet-rows base x)) (sym cut-joined) ∙ e
+
   -- what the test of both parts tells, where no row applies
   module _ (e : refusal (whole.sheet-rows base (before ++ behind-it)) ≡ Accepted) where
     pub cut-passes : refusal (sheet-rows base before) ≡ Accepted
     cut-passes =
-        let k : refusal (whole.sheet-rows base b) ≡ Accepted = ap (λ (x : List ℕ). refusal (whole.sheet-rows base x)) (sym cut-joined) ∙ e in
-        ap (λ (x : List ℕ). refusal (sheet-rows base x)) (cut-first b (m * 32)) ∙ front-passes b room m (m * 32) r refl k
+        ap (λ (x : List ℕ). refusal (sheet-rows base x)) (cut-first b (m * 32)) ∙ front-passes b room m (m * 32) r refl (cut-refusal Accepted e)
 
-    pub tailed-of : (q p : List ℕ) → Held before behind-it q → 1536 ≤ length q → p ≡ take (6 * count 6 behind-it) q → Tailed before behind-it p
+    pub tailed-of : (q p : List ℕ) → Held before behind-it q → 6 * count 6 behind-it ≤ length q → p ≡ take (6 * count 6 behind-it) q → Tailed before behind-it p
     tailed-of q p h l k =
         let c : lines-of p ≡ lines 6 behind-it = ap lines-of k ∙ h .lines-are in
-        let n : length p ≡ 6 * count 6 behind-it = ap length k ∙ length-take-le (6 * count 6 behind-it) q (omega (arith, l, h .few)) in
+        let n : length p ≡ 6 * count 6 behind-it = ap length k ∙ length-take-le (6 * count 6 behind-it) q l in
         record {
           parted = cut-parted;
           sheet = e;
@@ -281,12 +269,6 @@ module _ (b : List ℕ) (room m : ℕ) (r : Breaks b room m) where
           few = omega (arith, n, h .few);
           good = rw (c, length-lines 6 behind-it) (h .in-range);
         }
-
-    pub tailed-part : (q : List ℕ) (k : ℕ) → Held before behind-it q → 1536 ≤ length q → k ≡ 6 * count 6 behind-it → Tailed before behind-it (take k q)
-    tailed-part q k h l x = tailed-of q (take k q) h l (ap (λ (n : ℕ). take n q) x)
-
-  pub gives-cut : (v l : List ℕ) (g : Built) (v′ l′ : List ℕ) → Gives (before ++ behind-it) v l g v′ l′ → Gives b v l g v′ l′
-  gives-cut v l g v′ l′ w = subst (λ (x : List ℕ). Gives x v l g v′ l′) cut-joined w
 
 -- the refusal of the declarations alone
 pub refusal-is : (b : List ℕ) (r : rows.Checked) → r ≡ checked-of b → r .refusal ≡ refusal (sheet-rows base b)
@@ -297,12 +279,135 @@ refusal-is b r e = ap (λ (k : rows.Checked). k .refusal) e ∙ go (refusal (she
     go Accepted k = refl
     go (Refused c p) k = refl
 
--- ---- parts of arrays
--- the first n cells
-pub part-length : (m n : ℕ) → n ≤ m → length {A = ℕ} (take (n - 0) (replicate m 0)) ≡ n
-part-length m n h = let e : n - 0 ≡ n = omega arith in rw e (length-take-le n (replicate m 0) (rw length-replicate h))
+-- ---- the table's part of the cells
+-- the first m cells, which were lent
+first-put : (t x : List ℕ) (m : ℕ) → length x ≡ m → take m (putMid 0 (m - 0) t x) ≡ x
+first-put t x m e = take-at x (drop (m - 0) (drop 0 t)) m e
 
--- ---- calls
--- A call of the build is a call that the claims speak of (`cut-calls`).
-pub call-of : (b v l : List ℕ) (r : Built) (v′ l′ : List ℕ) → Gives b v l r v′ l′ → Call base
-call-of b v l r v′ l′ g = record { sheet = b; verdict = v; left = l; gave = given r v′ l′; is-called = g .is-called }
+pub filled-of : (b t : List ℕ) (k : Counts) (c : Checked b t k) (z : Sizes) → z ≡ sizes-of (behind (count 6 b) t) → (m : ℕ) → m ≡ cell-count z → (x : List ℕ) → length x ≡ length (take (m - 0) t)
+    → length (putMid 0 (m - 0) t x) ≡ length t → Tabled x → lines-in x ≡ lines-behind z (take (m - 0) t) → Filled b t (putMid 0 (m - 0) t x) m
+filled-of b t k c z s m w x n same y e =
+    let l : m ≤ length t = part-room b t k c z s m w in
+    let v : m - 0 ≡ m = omega arith in
+    let q : length x ≡ m = n ∙ (length-take-le (m - 0) t (omega (arith, l)) ∙ v) in
+    record {
+      long = same;
+      room = omega (arith, w, ap cell-count s, cells-room (behind (count 6 b) t) (c .passed), many b t k c);
+      read = rw (first-put t x m q) (read-of b (take (m - 0) t) z x (lined-of b t k c z s m w) y e);
+    }
+
+-- ---- a sheet that is refused
+pub fronted-refused : (b t : List ℕ) (code place : ℕ) → refusal (whole.sheet-rows base b) ≡ Refused code place → Fronted b t (refused-front code place)
+fronted-refused b t code place e = record { answer = sym e; accepts = λ h. let z : _≡_ {A = ℕ} 0 1 = cc in absurd (omega arith) }
+
+-- ---- the parts of a sheet without Q lines
+lines-all : (b : List ℕ) → row1 base b ≡ false → length b ≡ 32 * count 6 b
+lines-all b short = whole-length 6 b (row1-whole base b short)
+
+module _ (b t t′ : List ℕ) (short : row1 base b ≡ false) (sheet : refusal (sheet-rows base b) ≡ Accepted) (room : 8 * count 6 b + 16 ≤ length t) (k : ℕ) (f : Filled b t t′ k) where
+  take-all : take (count 6 b * 32) b ≡ b
+  take-all = ap (take (count 6 b * 32)) (sym (append-nil b)) ∙ take-at b [] (count 6 b * 32) (omega (arith, lines-all b short))
+
+  drop-all : drop (count 6 b * 32) b ≡ []
+  drop-all = ap (drop (count 6 b * 32)) (sym (append-nil b)) ∙ drop-at b [] (count 6 b * 32) (omega (arith, lines-all b short))
+
+  pub parts-all : Parts b t′ (count 6 b) k
+  parts-all =
+      record {
+        inside = omega arith;
+        whole = lines-all b short;
+        table-room = f .room;
+        tail-room = omega (arith, room, f .long);
+        few = row1-small base b short;
+        read = rw take-all (f .read);
+        tailed = rw (take-all, drop-all) (tailed-none b short sheet);
+      }
+
+  pub fronted-all : (n : ℕ) → n ≡ count 6 b → Fronted b t′ (record { refusal = Accepted; lines = n; cells = k })
+  fronted-all n e =
+      rw e
+      (record {
+        answer = sym (sheet-refusal-plain base b (row1-whole base b short) (passed-plain 6 b (none-first (row3 (raws 6 b)) (suc (count 6 b)) (accepted-rows b sheet .in-order))) ∙ sheet);
+        accepts = λ _. parts-all;
+      })
+
+-- ---- those of a sheet with Q lines
+-- cells behind the header, where the first e cells are the same
+behind-same : (t t′ : List ℕ) (n e : ℕ) → 11 + 6 * n ≤ e → e ≤ length t → e ≤ length t′ → take e t ≡ take e t′ → behind n t ≡ behind n t′
+behind-same t t′ n e h l l′ q =
+    let v : e - 0 ≡ e = omega arith in
+    let x : take (e - 0) t ≡ take (e - 0) t′ = rw v q in
+    sym (behind-part t n e h l) ∙ (ap (λ (y : List ℕ). behind n y) x ∙ behind-part t′ n e h l′)
+
+-- what was checked stays so in the first e cells, where something is put behind them
+pub checked-first : (b t : List ℕ) (k : Counts) (e n : ℕ) (y : List ℕ) → 8 * count 6 b + 16 ≤ e → e ≤ length t → e ≤ length (putMid e n t y) → Checked b t k → Checked b (take (e - 0) (putMid e n t y)) k
+checked-first b t k e n y h l l′ c =
+    let t′ : List ℕ = putMid e n t y in
+    let v : e - 0 ≡ e = omega arith in
+    let x : length (take (e - 0) t′) ≡ e = length-take-le (e - 0) t′ (omega (arith, l′)) ∙ v in
+    let w : behind (count 6 b) (take (e - 0) t′) ≡ behind (count 6 b) t = behind-part t′ (count 6 b) e (omega (arith, h)) l′ ∙ sym (behind-same t t′ (count 6 b) e (omega (arith, h)) l l′ (sym (take-put e n t y l))) in
+    record {
+      accepts = c .accepts;
+      lines-are = w ∙ c .lines-are;
+      passed = rw w (c .passed);
+      bounded = rw w (c .bounded);
+      counts = c .counts ∙ ap counts-of (sym w);
+      room = omega (arith, x, h);
+    }
+
+-- a part of n cells
+pub part-sized : (t : List ℕ) (a e n : ℕ) → e ≡ a + n → e ≤ length t → length (take (e - a) (drop a t)) ≡ n
+part-sized t a e n h l = mid-len a e t l ∙ omega arith
+
+module _ (b : List ℕ) (space m : ℕ) (r : Breaks b space m) (e : refusal (whole.sheet-rows base (before b space m r ++ behind-it b space m r)) ≡ Accepted)
+    (t y w : List ℕ) (room last k : ℕ) (at-room : room ≡ 8 * m + 16) (at-last : last ≡ room + 6 * count 6 (behind-it b space m r)) (fits : last ≤ length t)
+    (held : Held (before b space m r) (behind-it b space m r) y) (y-long : length y ≡ 6 * count 6 (behind-it b space m r)) (w-long : length w ≡ room) where
+  -- the Q lines' cells, and the table's room before them
+  abbrev with-tail : List ℕ
+  with-tail = putMid room (last - room) t y
+
+  abbrev with-table : List ℕ
+  with-table = putMid 0 (room - 0) with-tail w
+
+  rest-of : drop room with-table ≡ drop room with-tail
+  rest-of = let v : room - 0 ≡ room = omega arith in drop-at w (drop (room - 0) with-tail) room w-long ∙ ap (λ (n : ℕ). drop n with-tail) v
+
+  tail-cells : take (6 * count 6 (behind-it b space m r)) (drop room with-table) ≡ take (6 * count 6 (behind-it b space m r)) y
+  tail-cells =
+      let n : ℕ = 6 * count 6 (behind-it b space m r) in
+      let x : List ℕ = drop (last - room) (drop room t) in
+      ap (take n) (rest-of ∙ drop-at (take room t) (y ++ x) room (length-take-le room t (omega (arith, at-last, fits))))
+      ∙ (take-at y x n y-long ∙ sym (ap (take n) (sym (append-nil y)) ∙ take-at y [] n y-long))
+
+  pub parts-cut : Filled (before b space m r) (take (room - 0) with-tail) w k → 8 * count 6 b + 16 ≤ length with-table → Parts b with-table m k
+  parts-cut f long =
+      let c : before b space m r ≡ take (m * 32) b = cut-first b (m * 32) in
+      let d : behind-it b space m r ≡ drop (m * 32) b = cut-rest b (m * 32) in
+      let h : k ≤ room = omega (arith, f .room, cut-lines b space m r, at-room) in
+      let p : take k with-table ≡ take k w = sym (take-take k room with-table h) ∙ ap (take k) (first-put with-tail w room w-long) in
+      record {
+        inside = omega (arith, r .inside);
+        whole = lines-all b (r .short);
+        table-room = omega (arith, h, at-room);
+        tail-room = long;
+        few = row1-small base b (r .short);
+        read = rw (p, ← c) (f .read);
+        tailed = rw (← at-room, ← c, ← d) (tailed-of b space m r e y _ held (omega (arith, y-long)) tail-cells);
+      }
+
+  pub fronted-cut : Filled (before b space m r) (take (room - 0) with-tail) w k → 8 * count 6 b + 16 ≤ length with-table → Fronted b with-table (record { refusal = Accepted; lines = m; cells = k })
+  fronted-cut f long = record { answer = sym (cut-refusal b space m r Accepted e); accepts = λ _. parts-cut f long }
+
+-- ---- the parts as they are lent
+module _ (b t : List ℕ) (m k : ℕ) (p : Parts b t m k) where
+  pub read-lent : (at : ℕ) → at ≡ m * 32 → Read (take (at - 0) b) (take (k - 0) t)
+  read-lent at e = let v : k - 0 ≡ k = omega arith in rw (cut-first b at, e, v) (p .read)
+
+  pub tailed-lent : (at first last : ℕ) → at ≡ m * 32 → first ≡ 8 * m + 16 → last ≡ first + 6 * count 6 (take (length b - at) (drop at b))
+      → Tailed (take (at - 0) b) (take (length b - at) (drop at b)) (take (last - first) (drop first t))
+  tailed-lent at first last e f g =
+      let v : last - first ≡ 6 * count 6 (take (length b - at) (drop at b)) = omega arith in
+      rw (v, cut-first b at, cut-rest b at, e, f) (p .tailed)
+
+  pub joined-lent : (at : ℕ) → take (at - 0) b ++ take (length b - at) (drop at b) ≡ b
+  joined-lent at = rw (cut-first b at, cut-rest b at) (take-append-drop at b)

@@ -6,14 +6,15 @@ use borrow.Author.Needs.{needs}
 use Rattle.sheet.specs.Format.{base}
 use Rattle.sheet.specs.Sheet.{row1}
 use Rattle.row4_limits.specs.LimitsLaws.{short-bytes}
-use Rattle.build.specs.BuildLaws.{gives-one}
+use Rattle.input_rows.specs.JudgingLaws.{input-one}
+use Rattle.build.specs.BuildLaws.{gives-input}
 use Rattle.build.proofs.build.Statement.{statement}
 use Rattle.build.proofs.build.Tie as tie
 
 returns : tie.Need-returns
 returns c =
     let a = c .before .before .before .before .before .before .args in
-    rw (c .refused .ensures) (gives-one (a .s .now) (a .v .now) (a .l .now) (sym (c .before .before .row1 .ensures) ∙ c .before .if1 .taken))
+    rw (c .refused .ensures) (gives-input (a .s .now) (a .v .now) (a .l .now) 1 0 (input-one (a .s .now) (sym (c .before .before .row1 .ensures) ∙ c .before .if1 .taken)))
 
 checked-requires : tie.Need-checked-requires
 checked-requires c κs =

@@ -10,8 +10,8 @@ use Rattle.build.specs.BuildLaws.{part-length}
 use Rattle.build.proofs.tabled.Statement.{statement}
 use Rattle.build.proofs.tabled.Tie as tie
 
-mul-decided : tie.Need-mul-decided
-mul-decided c =
+mul-judged : tie.Need-mul-judged
+mul-judged c =
     let a = c .before .before .before .before .before .before .before .before in
     let h : c .before .decls .result ≤ 96 = rw (c .before .decls .ensures) (decls-within base (lines-in (a .args .t .now)) (a .pre .0 .of .bounded)) in
     search needs
@@ -29,8 +29,8 @@ part-rank-end c =
     let h : c .before .before .decls .result ≤ 96 = rw (c .before .before .decls .ensures) (decls-within base (lines-in (a .args .t .now)) (a .pre .0 .of .bounded)) in
     search needs
 
-decided-requires : tie.Need-decided-requires
-decided-requires c κs =
+judged-requires : tie.Need-judged-requires
+judged-requires c κs =
     let a = c .before .before .before .before .before .before .before .before .before .before .before .before in
     let p = a .pre .0 .of .bounded in
     let e = c .before .before .before .before .before .decls .ensures in
@@ -43,14 +43,14 @@ tabled-spec =
     (tie.spec
     (λ c κs. search needs)
     (λ c. search needs)
-    mul-decided
+    mul-judged
     (λ c. search needs)
     (λ c. search needs)
     part-u-end
     (λ c. search needs)
     (λ c. search needs)
     part-rank-end
-    decided-requires
+    judged-requires
     (λ c. search needs)
     (λ c. search needs)
     (λ c. search needs))

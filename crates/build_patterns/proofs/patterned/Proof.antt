@@ -12,18 +12,18 @@ use Rattle.build_patterns.proofs.patterned.Tie as tie
 mul-sited : tie.Need-mul-sited
 mul-sited c =
     let s = c .before .before .before .before .before .before .before .before .before .before in
-    record { fits = omega (arith, c .names .ensures, names-within base (lines-in (s .args .t .now)) (s .pre .0 .clear .found .read .of .bounded)) }
+    record { fits = omega (arith, c .names .ensures, names-within base (lines-in (s .args .t .now)) (s .pre .0 .clear .read .of .bounded)) }
 
 part-m-end : tie.Need-part-m-end
 part-m-end c =
     let s = c .before .before .before .before .before .before .before .before .before .before in
-    let h : 3 * c .names .result ≤ 768 = omega (arith, c .names .ensures, names-within base (lines-in (s .args .t .now)) (s .pre .0 .clear .found .read .of .bounded)) in
+    let h : 3 * c .names .result ≤ 768 = omega (arith, c .names .ensures, names-within base (lines-in (s .args .t .now)) (s .pre .0 .clear .read .of .bounded)) in
     h
 
 sited-requires : tie.Need-sited-requires
 sited-requires c κs =
     let s = c .before .before .before .before .before .before .before .before .before .before .before .before .before in
-    let h : 3 * c .before .before .before .names .result ≤ 768 = omega (arith, c .before .before .before .names .ensures, names-within base (lines-in (s .args .t .now)) (s .pre .0 .clear .found .read .of .bounded)) in
+    let h : 3 * c .before .before .before .names .result ≤ 768 = omega (arith, c .before .before .before .names .ensures, names-within base (lines-in (s .args .t .now)) (s .pre .0 .clear .read .of .bounded)) in
     let e = c .before .before .before .names .ensures in
     ((s .pre .0, search needs), s .pre .1)
 

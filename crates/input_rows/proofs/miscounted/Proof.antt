@@ -1,8 +1,8 @@
--- `build_patterns::miscounted` meets its contract: there are at most 256 names. Assumes nothing.
+-- `input_rows::miscounted` meets its contract: there are at most 256 names. Assumes nothing.
 use borrow.Author.Needs.{needs}
-use Rattle.build_patterns.specs.PatternedLaws.{uncounted-long}
-use Rattle.build_patterns.proofs.miscounted.Statement.{statement}
-use Rattle.build_patterns.proofs.miscounted.Tie as tie
+use Rattle.input_rows.specs.JudgingLaws.{uncounted-long}
+use Rattle.input_rows.proofs.miscounted.Statement.{statement}
+use Rattle.input_rows.proofs.miscounted.Tie as tie
 
 miscounted-by-requires : tie.Need-miscounted-by-requires
 miscounted-by-requires c κs =

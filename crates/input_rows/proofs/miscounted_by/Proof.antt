@@ -1,14 +1,14 @@
--- `build_patterns::miscounted_by` meets its contract. Assumes nothing.
+-- `input_rows::miscounted_by` meets its contract. Assumes nothing.
 use borrow.Author.Needs.{needs}
 use Rattle.table_access.specs.Tables.{lines-in}
-use Rattle.build_patterns.specs.PatternedLaws.{row13-told, good-long}
-use Rattle.build_patterns.proofs.miscounted_by.Statement.{statement}
-use Rattle.build_patterns.proofs.miscounted_by.Tie as tie
+use Rattle.input_rows.specs.JudgingLaws.{row13-told, good-long}
+use Rattle.input_rows.proofs.miscounted_by.Statement.{statement}
+use Rattle.input_rows.proofs.miscounted_by.Tie as tie
 
 row13-requires : tie.Need-row13-requires
 row13-requires c κs =
     let s = c .before .before .before .before .before .before .before .before .before in
-    (s .pre .few, good-long (s .args .q .now) _ _ (c .before .before .before .counts .kept .1 .1 .0) (s .pre .good))
+    (s .pre .listed .few, good-long (s .args .q .now) _ _ (c .before .before .before .counts .kept .1 .1 .0) (s .pre .listed .good))
 
 returns : tie.Need-returns
 returns c =

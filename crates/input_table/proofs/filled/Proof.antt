@@ -1,44 +1,52 @@
--- `build::passed` meets its contract: the table has room. Assumes nothing.
-use mathlib.Core.Path.{_≡_, refl, _∙_}
+-- `input_table::filled` meets its contract: the table has room. Assumes nothing.
+use mathlib.Core.Path.{_≡_, refl}
 use Prim.Native.Nat.{_≤_}
 use lib.ListN.{length}
 use borrow.Author.Needs.{needs}
-use Rattle.build.specs.BuildLaws.{counted-of, cells-small, part-room, lined-of}
-use Rattle.build.proofs.passed.Statement.{statement}
-use Rattle.build.proofs.passed.Tie as tie
+use Rattle.input_table.specs.TableLaws.{counted-of, cells-small, part-room, lined-of, filled-of}
+use Rattle.input_table.proofs.filled.Statement.{statement}
+use Rattle.input_table.proofs.filled.Tie as tie
 
 sizes-requires : tie.Need-sizes-requires
 sizes-requires c κs =
-    let a = c .before .before .before .before .before .before .before in
-    counted-of (a .args .a .now) (a .args .t .now) (a .args .c) (a .pre .0) _ refl
+    let s = c .before .before .before in
+    counted-of (s .args .a .now) (s .args .t .now) (s .args .c) (s .pre) _ refl
 
 cells-requires : tie.Need-cells-requires
 cells-requires c κs =
-    let a = c .before .before .before .before .before .before .before .before in
-    cells-small (a .args .a .now) (a .args .t .now) (a .args .c) (a .pre .0) (c .sizes .result) (c .sizes .ensures)
+    let s = c .before .before .before .before in
+    cells-small (s .args .a .now) (s .args .t .now) (s .args .c) (s .pre) (c .sizes .result) (c .sizes .ensures)
 
-part-lined-end : tie.Need-part-lined-end
-part-lined-end c =
-    let a = c .before .before .before .before .before .before .before .before .before in
-    let h : c .cells .result ≤ length (a .args .t .now) = part-room (a .args .a .now) (a .args .t .now) (a .args .c) (a .pre .0) (c .before .sizes .result) (c .before .sizes .ensures) (c .cells .result) (c .cells .ensures) in
+part-fill-end : tie.Need-part-fill-end
+part-fill-end c =
+    let s = c .before .before .before .before .before in
+    let h : c .cells .result ≤ length (s .args .t .now) = part-room (s .args .a .now) (s .args .t .now) (s .args .c) (s .pre) (c .before .sizes .result) (c .before .sizes .ensures) (c .cells .result) (c .cells .ensures) in
     search needs
 
-lined-requires : tie.Need-lined-requires
-lined-requires c κs =
-    let a = c .before .before .before .before .before .before .before .before .before .before .before .before in
-    (lined-of (a .args .a .now) (a .args .t .now) (a .args .c) (a .pre .0) (c .before .before .before .before .sizes .result) (c .before .before .before .before .sizes .ensures) (c .before .before .before .cells .result) (c .before .before .before .cells .ensures), a .pre .1)
+fill-requires : tie.Need-fill-requires
+fill-requires c κs =
+    let s = c .before .before .before .before .before .before in
+    let z = c .before .before .sizes in
+    let m = c .before .cells in
+    lined-of (s .args .a .now) (s .args .t .now) (s .args .c) (s .pre) (z .result) (z .ensures) (m .result) (m .ensures) .ready
 
-pub passed-spec : {M : Type 1} → statement M
-passed-spec =
+returns : tie.Need-returns
+returns c =
+    let s = c .before .before .before .before .before .before .before .before .before in
+    let z = c .before .before .before .before .before .sizes in
+    let m = c .before .before .before .before .cells in
+    let f = c .before .before .fill in
+    filled-of (s .args .a .now) (s .args .t .now) (s .args .c) (s .pre) (z .result) (z .ensures) (m .result) (m .ensures) (f .last .1 .0) (f .kept .1 .0) (c .before .t .given .1) (f .ensures .0) (f .ensures .1)
+
+pub filled-spec : {M : Type 1} → statement M
+filled-spec =
     tie.close
     (tie.spec
     sizes-requires
     cells-requires
     (λ c. search needs)
     (λ c. search needs)
-    part-lined-end
-    lined-requires
+    part-fill-end
+    fill-requires
     (λ c. search needs)
-    (λ c. search needs)
-    (λ c. search needs)
-    (λ c. search needs))
+    returns)

@@ -1,9 +1,8 @@
--- The rows of the table's lines are those of the bytes, and what the outputs' functions are lent. Assumes nothing.
+-- The rows of the table's lines are those of the bytes. Assumes nothing.
 use mathlib.Core.Bool.{Bool, true, false}
 use mathlib.Core.Path.{_≡_, refl, _∙_, ap, ap₂}
 use mathlib.Core.List.{List, [], _∷_, map}
-use Prim.Native.Nat.{ℕ, _≤_}
-use native.Mathlib.Omega.{arith}
+use Prim.Native.Nat.{ℕ}
 use lib.Dec.{ltb}
 use lib.ListN.{length, length-map}
 use Rattle.sheet.specs.Format.{base}
@@ -18,13 +17,10 @@ use Rattle.meaning.specs.Program.{program}
 use Rattle.answer.specs.declared.Refusal.{Refusal}
 use Rattle.answer.specs.declared.Refusal.the-variants.{Accepted, Refused}
 use Rattle.table_declared.specs.BareLaws.{place8-bare, fault-bare, place9-10-bare}
-use Rattle.table_declared.specs.PassedLaws.{decls-within}
 use Rattle.table_access.specs.Tables.{lines-in}
 use Rattle.table_access.specs.OfSheet.{OfSheet, program-same}
-use Rattle.rows_heads.specs.HeadRows.{returns-row, faults-row, resolvable}
-use Rattle.answer_built.specs.BuiltLaws.{row8-alone, faults-alone}
-use Rattle.build_sheets.specs.Sheets.{Lent}
-use Rattle.build_patterns.specs.Deciding.{Clear}
+use Rattle.rows_heads.specs.HeadRows.{returns-row, faults-row}
+use Rattle.answer_pattern_laws.specs.Rows.{row8-alone, faults-alone}
 
 -- ---- the rows of the table's lines are those of the bytes
 -- what a row alone tells, where i is the first number below its bound m at which its test holds
@@ -32,7 +28,7 @@ abbrev told : Row → ℕ → ℕ → Refusal
 told r i m = elim (ltb i m) [ true ↦ Refused (r .code i) (r .place i) | false ↦ Accepted ]
 
 -- rows with one bound and one such number, and one code and place
-same-refusal : (r q : Row) → r .bound ≡ q .bound → first (r .test) (r .bound) ≡ first (q .test) (q .bound) → ((i : ℕ) → r .code i ≡ q .code i) → ((i : ℕ) → r .place i ≡ q .place i) → refusal (r ∷ []) ≡ refusal (q ∷ [])
+pub same-refusal : (r q : Row) → r .bound ≡ q .bound → first (r .test) (r .bound) ≡ first (q .test) (q .bound) → ((i : ℕ) → r .code i ≡ q .code i) → ((i : ℕ) → r .place i ≡ q .place i) → refusal (r ∷ []) ≡ refusal (q ∷ [])
 unfolding refusal
 same-refusal r q n e c p = go (first (r .test) (r .bound)) (first (q .test) (q .bound)) (r .bound) (q .bound) e n
   where
@@ -50,7 +46,7 @@ module _ (b t : List ℕ) (of : OfSheet b t) where
   lines-many : length (lines 6 b) ≡ count 6 b
   lines-many = length-lines 6 b
 
-  pub eight-same : refusal (returns-row in-t ∷ []) ≡ row8-alone b
+  pub eight-same : refusal (returns-row in-t ∷ []) ≡ row8-alone base b
   eight-same =
       let p : program in-t ≡ program (lines 6 b) = program-same b t of in
       ap (λ (ls : List Line). refusal (returns-row ls ∷ [])) (of .lines-are)
@@ -58,7 +54,7 @@ module _ (b t : List ℕ) (of : OfSheet b t) where
       (ap (λ (ds : List Decl). first (row8 ds (map bare (lines 6 b))) (length (map bare (lines 6 b)))) (program-bare (lines 6 b)) ∙ place8-bare (lines 6 b) (program (lines 6 b)) ∙ ap (first (row8 (program (lines 6 b)) (lines 6 b))) lines-many)
       (λ i. refl) (λ i. refl)
 
-  pub faults-same : refusal (faults-row base in-t ∷ []) ≡ faults-alone b
+  pub faults-same : refusal (faults-row base in-t ∷ []) ≡ faults-alone base b
   faults-same =
       ap (λ (ls : List Line). refusal (faults-row base ls ∷ [])) (of .lines-are)
       ∙ same-refusal (faults-row base (map bare (lines 6 b)))
@@ -66,21 +62,3 @@ module _ (b t : List ℕ) (of : OfSheet b t) where
       (length-map (lines 6 b) bare ∙ lines-many)
       (ap (λ (ds : List Decl). first (row9-10 base ds (map bare (lines 6 b))) (length (map bare (lines 6 b)))) (program-bare (lines 6 b)) ∙ place9-10-bare (lines 6 b) (program (lines 6 b)) base ∙ ap (first (row9-10 base (program (lines 6 b)) (lines 6 b))) lines-many)
       (λ i. ap (λ (ds : List Decl). fault-at base ds (map bare (lines 6 b)) i) (program-bare (lines 6 b)) ∙ fault-bare (lines 6 b) (program (lines 6 b)) base i) (λ i. refl)
-
--- ---- what the outputs' functions are lent
-module _ (b t u rank keep : List ℕ) (c : Clear b t u rank keep) where
-  pub lent-of : (v : List ℕ) → length b ≤ length v → Lent b t u rank keep v 98496 1024 1024
-  lent-of v h =
-      record {
-        of = c .found .read .of;
-        accepted = c .accepted;
-        ranked = c .found .ranked;
-        settled = c .found .settled;
-        slotted = c .found .slotted;
-        resolvable = resolvable base (lines-in t) (c .found .eight) (c .faults);
-        keeps = c .found .keeps;
-        verdict-room = h;
-        cells = omega (arith, decls-within base (lines-in t) (c .found .read .of .bounded));
-        small = omega arith;
-        stacked = omega arith;
-      }
