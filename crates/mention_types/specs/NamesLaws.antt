@@ -42,7 +42,7 @@ member-iff m (a ∷ l) = go (eqb a m) refl (member-iff m l)
     go true e h = (λ _. List·Memᴰ·head (sym (eqb-true a m e)), λ _. refl)
     go false e h = (λ x. List·Memᴰ·tail (h .0 x), λ x. ⊎-elim (λ u. absurd (eqb-false a m e (sym u))) (h .1) (List·Memᴰ·cases-cons x))
 
-positions-append : (ds : List Decl) (ms ns : List ℕ) → positions ds (ms ++ ns) ≡ positions ds ms ++ positions ds ns
+pub positions-append : (ds : List Decl) (ms ns : List ℕ) → positions ds (ms ++ ns) ≡ positions ds ms ++ positions ds ns
 unfolding positions
 positions-append ds [] ns = refl
 positions-append ds (a ∷ ms) ns = go (ltb (position ds a) (length ds)) (positions-append ds ms ns)

@@ -13,6 +13,7 @@ use lib.Dec.{eqb}
 use lib.ListN.{getD}
 use lib.Pow.{shr-shr}
 use lib.Seq.{ext-getD}
+use Rattle.sheet.specs.ListLaws.{same-test}
 use Rattle.model.specs.Decl.{bit, table}
 use Rattle.model.specs.Reach.{Reach, one, more, cyclic}
 use Rattle.model_laws.specs.Lists.{true-of, trues, length-table, getD-table, table-cong}
@@ -26,7 +27,7 @@ use Rattle.set_closure.specs.Ones.{ones-of}
 
 -- ---- the bits of a word
 -- a test over a row of numbers that goes on after n
-trues-table : (f : ℕ → Bool) (m n : ℕ) → trues (table f (m + n)) ≡ trues (table f m) + trues (table (λ i. f (m + i)) n)
+pub trues-table : (f : ℕ → Bool) (m n : ℕ) → trues (table f (m + n)) ≡ trues (table f m) + trues (table (λ i. f (m + i)) n)
 unfolding trues table
 trues-table f zero n =
     let e : 0 + n ≡ n = omega arith in
@@ -76,15 +77,10 @@ members-ones t at (suc w) h =
         rw (q, r)
 
 -- ---- what is reached
-no-bits : (f : ℕ → Bool) (n : ℕ) → ((i : ℕ) → i < n → f i ≡ false) → trues (table f n) ≡ 0
+pub no-bits : (f : ℕ → Bool) (n : ℕ) → ((i : ℕ) → i < n → f i ≡ false) → trues (table f n) ≡ 0
 unfolding trues table
 no-bits f zero h = refl
 no-bits f (suc n) h = rw (h 0 (omega arith)) (omega (arith, no-bits (λ i. f (suc i)) n (λ i l. h (suc i) (omega arith))))
-
-same-test : (x y : Bool) → (x ≡ true → y ≡ true) → (y ≡ true → x ≡ true) → x ≡ y
-same-test true y f g = sym (f refl)
-same-test false true f g = g refl
-same-test false false f g = refl
 
 module _ (n words : ℕ) (t t′ : List ℕ) (s : Steps n words t) (c : Closed n words t t′) (fit : (i : ℕ) → getD t′ i 0 < 2 ^ 64) where
   abbrev next : ℕ → List ℕ

@@ -1,0 +1,1 @@
+// Laws of the reach index: everything is in specs/.
