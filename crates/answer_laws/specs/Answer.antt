@@ -60,6 +60,10 @@ abbrev pub or-later : Refusal → Refusal → Refusal
 or-later Accepted q = q
 or-later (Refused code place) q = Refused code place
 
+pub or-accepted : (x y : Refusal) → or-later x y ≡ Accepted → x ≡ Accepted
+or-accepted Accepted y e = refl
+or-accepted (Refused code place) y e = e
+
 pub refusal-append : (rs ss : List Row) → refusal (rs ++ ss) ≡ or-later (refusal rs) (refusal ss)
 unfolding refusal
 refusal-append [] ss = refl

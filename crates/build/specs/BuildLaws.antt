@@ -1,12 +1,15 @@
 -- From the rows to what a call of the build gives. Assumes nothing.
 use mathlib.Core.Path.{_≡_, refl, ap, _∙_, subst}
 use mathlib.Core.List.{List, [], _++_, append-nil}
-use Prim.Native.Nat.{ℕ, _-_, _≤_, _<_}
+use Prim.Native.Nat.{ℕ, _+_, _*_, _-_, _≤_, _<_}
 use native.Mathlib.Omega.{arith}
-use lib.ListN.{length, take, drop, replicate, length-replicate}
-use lib.Seq.{length-take-le}
+use lib.ListN.{length, take, drop}
 use Rattle.sheet.specs.Format.{base}
 use Rattle.sheet.specs.ListLaws.{length-nil}
+use Rattle.sheet.specs.Sheet.{count}
+use Rattle.model.specs.Run.{run}
+use Rattle.meaning.specs.Program.{program}
+use Rattle.table_access.specs.Tables.{lines-in}
 use Rattle.answer.specs.declared.Refusal.the-variants.{Refused}
 use Rattle.answer.specs.Answer.{refusal}
 use Rattle.answer_laws.specs.Build.{whole-length, row1-small}
@@ -16,19 +19,39 @@ use Rattle.answer_pattern_laws.specs.Rows.{rows-input}
 use Rattle.answer_built.specs.declared.Built.{Built}
 use Rattle.answer_built.specs.Built.{refused-as, given, Gives, GivesFront}
 use Rattle.answer_built.specs.BuiltLaws.{front-eleven, front-refused, gives-refused, gives-plain}
-use Rattle.input_rows.specs.Judging.{Clear}
-use Rattle.input_table.specs.Table.{Tailed, Parts}
-use Rattle.input_table.specs.TableLaws.{joined-lent}
+use Rattle.input_table.specs.Table.{Tailed}
+use Rattle.input_table.specs.TableLaws.{cut-first, cut-rest, read-lent, tailed-lent, joined-lent}
+use Rattle.input_rows.specs.declared.Decided.{Decided}
+use Rattle.input_rows.specs.Judging.{Clear, Accepts}
+use Rattle.input_rows.specs.JudgingLaws.{clear-of, decls-room}
+use Rattle.build.specs.Build.{Taken}
 
 -- ---- a refusal
 pub gives-input : (b v l : List ℕ) (code place : ℕ) → refusal (input-rows base b) ≡ Refused code place → Gives b v l (refused-as code place) v l
 gives-input b v l code place e =
     gives-refused b (front 6 b) (tail 6 b) v l refl refl code place (rows-input base b (front 6 b) (tail 6 b) refl refl (length v) (length l) code place e)
 
--- ---- the parts of a sheet as they are lent
-pub gives-lent : (b t : List ℕ) (m k : ℕ) → Parts b t m k → (at : ℕ) (v l : List ℕ) (r : Built) (v′ l′ : List ℕ)
-    → Gives (take (at - 0) b ++ take (length b - at) (drop at b)) v l r v′ l′ → Gives b v l r v′ l′
-gives-lent b t m k p at v l r v′ l′ g = subst (λ (x : List ℕ). Gives x v l r v′ l′) (joined-lent b t m k p at) g
+-- ---- the parts of an accepted sheet as they are lent
+module _ (b t keep u rank : List ℕ) (r : Decided) (a : Accepts b t keep u rank r) where
+  pub taken-lent : (room last : ℕ) → room ≡ 8 * r .lines + 16 → last ≡ room + 6 * count 6 (take (length b - r .lines * 32) (drop (r .lines * 32) b))
+      → Taken (take (r .lines * 32 - 0) b) (take (length b - r .lines * 32) (drop (r .lines * 32) b)) (take (r .cells - 0) t) (take (last - room) (drop room t)) (take (2 * r .decls - 0) u) (take (r .decls - 0) rank) keep
+  taken-lent room last e f =
+      let at : ℕ = r .lines * 32 in
+      let read = read-lent b t (r .lines) (r .cells) (a .parts) at refl in
+      let tailed = tailed-lent b t (r .lines) (r .cells) (a .parts) at room last refl e f in
+      let c : r .cells - 0 ≡ r .cells = omega arith in
+      let n : r .decls - 0 ≡ r .decls = omega arith in
+      let m : 2 * r .decls - 0 ≡ 2 * r .decls = omega arith in
+      record { clear = clear-of _ _ _ _ read tailed _ _ _ (rw (c, n, m) (a .found)); tailed = tailed; counts = rw (cut-first b at, cut-rest b at) (a .counts) }
+
+  pub counted-lent : r .rounds ≡ run 100 (program (lines-in (take (r .cells - 0) t))) .rounds
+  counted-lent = let c : r .cells - 0 ≡ r .cells = omega arith in rw c (a .counted)
+
+  pub decls-lent : r .decls ≤ 96
+  decls-lent = decls-room _ _ (a .parts .read .of) (r .decls) (a .decls-are)
+
+  pub gives-lent : (v l : List ℕ) (g : Built) (v′ l′ : List ℕ) → Gives (take (r .lines * 32 - 0) b ++ take (length b - r .lines * 32) (drop (r .lines * 32) b)) v l g v′ l′ → Gives b v l g v′ l′
+  gives-lent v l g v′ l′ w = subst (λ (x : List ℕ). Gives x v l g v′ l′) (joined-lent b t (r .lines) (r .cells) (a .parts) (r .lines * 32)) w
 
 -- ---- a sheet without Q lines
 module _ (b z t q u rank keep : List ℕ) (c : Clear b t u rank keep) (tailed : Tailed b z q) (empty : length q ≡ 0) where
@@ -48,11 +71,6 @@ module _ (b z t q u rank keep : List ℕ) (c : Clear b t u rank keep) (tailed : 
     where
       small : length b ≤ 65536
       small = row1-small base b (c .read .of .short)
-
--- ---- parts of arrays
--- the first n cells
-pub part-length : (m n : ℕ) → n ≤ m → length {A = ℕ} (take (n - 0) (replicate m 0)) ≡ n
-part-length m n h = let e : n - 0 ≡ n = omega arith in rw e (length-take-le n (replicate m 0) (rw length-replicate h))
 
 -- ---- calls
 -- A call of the build is a call that the claims speak of (`cut-calls`).

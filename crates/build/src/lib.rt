@@ -1,6 +1,7 @@
 // The layout build: a sheet and two outputs go in; code, place and rounds come out, and on acceptance both sheets stand in the outputs.
 use answer::Refusal;
 use answer_built::Built;
+use input_rows::Decided;
 use sheet_parts::LINE;
 use walk_cells::CELLS;
 ghost use mathlib.Core.Path.{_≡_};
@@ -11,11 +12,10 @@ ghost use lib.ListN.{length};
 ghost use Rattle.sheet.specs.Format.{base};
 ghost use Rattle.sheet.specs.Sheet.{count, row1};
 ghost use Rattle.model.specs.Run.{run};
-ghost use Rattle.meaning.specs.Program.{field-line, program};
-ghost use Rattle.meaning.specs.Rows.{count-of};
-ghost use Rattle.table_access.specs.Tables.{decls-of, lines-in};
+ghost use Rattle.meaning.specs.Program.{program};
+ghost use Rattle.table_access.specs.Tables.{lines-in};
 ghost use Rattle.answer_built.specs.Built.{Gives};
-ghost use Rattle.input_table.specs.Table.{Read, Tailed, Parts};
+ghost use Rattle.input_rows.specs.Judging.{Room, Accepts};
 ghost use Rattle.build.specs.Build.{Taken};
 
 // Bytes of 58, 126, 254, 386 and 1,024 lines, whose tables fit 480, 1,024, 2,048, 3,104 and 8,208 cells: eight for each line, and 16 for
@@ -57,73 +57,52 @@ fn written(
     build_outputs::outputs(a, t, rounds, u, rank, keep, v, l)
 }
 
-// Rows 8 to 10 and 13, in memory that is lent for the keep table, for what becomes of each name, and for ranks.
-fn judged(
-    a: &[u8],
-    z: &[u8],
+// The declarations and the Q lines of a sheet to which no row of the input applies, and as much of the memory as they need.
+fn accepted(
+    s: &[u8],
+    d: Decided,
     t: &[u32],
-    q: &[u32],
-    keep: &mut [u8],
-    u: &mut [u16],
-    rank: &mut [u16],
+    u: &[u16],
+    rank: &[u16],
+    keep: &[u8],
     v: &mut [u8],
     l: &mut [u8],
 ) -> Built
-    requires { ⌜ Read (now a) (now t) × Tailed (now a) (now z) (now q) × (count-of field-line (lines-in (now t)) ≤ length (now keep)) ⌝ }
-    requires { ⌜ (length (now u) ≡ 2 * decls-of (lines-in (now t))) × (length (now rank) ≡ decls-of (lines-in (now t))) ⌝ }
-    ensures { λ r. ⌜ Gives (now (a .entry) ++ now (z .entry)) (now (v .entry)) (now (l .entry)) r (now (v .exit)) (now (l .exit)) ⌝ }
+    requires { ⌜ Accepts (now s) (now t) (now keep) (now u) (now rank) d × Room (now keep) (now u) (now rank) ⌝ }
+    ensures { λ r. ⌜ Gives (now (s .entry)) (now (v .entry)) (now (l .entry)) r (now (v .exit)) (now (l .exit)) ⌝ }
 {
-    let j = input_rows::judge(t, q, keep, u, rank);
-    let refusal = j.refusal;
-    match refusal {
-        Refusal::Accepted => written(a, z, t, q, j.rounds, u, rank, keep, v, l),
-        Refusal::Refused { code, place } => answer_built::refused(code, place),
-    }
-}
-
-// Memory for the passes, of as many declarations as a sheet may have.
-fn tabled(a: &[u8], z: &[u8], t: &[u32], q: &[u32], v: &mut [u8], l: &mut [u8]) -> Built
-    requires { ⌜ Read (now a) (now t) × Tailed (now a) (now z) (now q) ⌝ }
-    ensures { λ r. ⌜ Gives (now (a .entry) ++ now (z .entry)) (now (v .entry)) (now (l .entry)) r (now (v .exit)) (now (l .exit)) ⌝ }
-{
-    let n = table_access::decls(t);
-    let mut keep = [0u8; 512];
-    let mut u = [0u16; 192];
-    let mut rank = [0u16; 96];
-    judged(
-        a,
+    let n = d.decls;
+    let cells = d.cells;
+    let at = d.lines * LINE;
+    let room = 8 * d.lines + 16;
+    let z = &s[at..s.len()];
+    let last = room + z.len() / LINE * CELLS;
+    written(
+        &s[0..at],
         z,
-        t,
-        q,
-        &mut keep,
-        &mut u[0..2 * n],
-        &mut rank[0..n],
+        &t[0..cells],
+        &t[room..last],
+        d.rounds,
+        &u[0..2 * n],
+        &rank[0..n],
+        keep,
         v,
         l,
     )
 }
 
-// The declarations and the Q lines of a sheet that passed rows 1 to 7, and their cells.
-fn parted(s: &[u8], lines: usize, cells: usize, t: &[u32], v: &mut [u8], l: &mut [u8]) -> Built
-    requires { ⌜ Parts (now s) (now t) lines cells ⌝ }
-    ensures { λ r. ⌜ Gives (now (s .entry)) (now (v .entry)) (now (l .entry)) r (now (v .exit)) (now (l .exit)) ⌝ }
-{
-    let at = lines * LINE;
-    let z = &s[at..s.len()];
-    let room = 8 * lines + 16;
-    let last = room + z.len() / LINE * CELLS;
-    tabled(&s[0..at], z, &t[0..cells], &t[room..last], v, l)
-}
-
-// Rows 2 to 7, with memory for the table; and the build of a sheet that passes them.
+// The rows of the input, with memory for the table; and the build of a sheet that passes them.
 fn checked(s: &[u8], t: &mut [u32], v: &mut [u8], l: &mut [u8]) -> Built
     requires { ⌜ (row1 base (now s) ≡ false) × (8 * count 6 (now s) + 16 ≤ length (now t)) ⌝ }
     ensures { λ r. ⌜ Gives (now (s .entry)) (now (v .entry)) (now (l .entry)) r (now (v .exit)) (now (l .exit)) ⌝ }
 {
-    let f = input_table::tabled(s, t);
-    let refusal = f.refusal;
+    let mut keep = [0u8; 512];
+    let mut u = [0u16; 192];
+    let mut rank = [0u16; 96];
+    let d = input_rows::decide(s, t, &mut keep, &mut u, &mut rank);
+    let refusal = d.refusal;
     match refusal {
-        Refusal::Accepted => parted(s, f.lines, f.cells, t, v, l),
+        Refusal::Accepted => accepted(s, d, t, &u, &rank, &keep, v, l),
         Refusal::Refused { code, place } => answer_built::refused(code, place),
     }
 }

@@ -2,9 +2,10 @@
 use mathlib.Core.Path.{_≡_, refl, sym, _∙_, ap, ap₂, subst}
 use mathlib.Core.List.{List, [], _∷_, _++_}
 use mathlib.Core.Bool.{true}
-use Prim.Native.Nat.{ℕ, _+_, _≤_, _<_}
+use Prim.Native.Nat.{ℕ, _+_, _*_, _-_, _≤_, _<_}
 use native.Mathlib.Omega.{arith}
-use lib.ListN.{length}
+use lib.ListN.{length, take, drop, take-append-drop}
+use borrow.Rule.Slice.PartMut.{putMid}
 use borrow.Author.Tests.{lt-ltb, le-ltb}
 use Rattle.sheet.specs.Format.{base}
 use Rattle.sheet.specs.Line.{Line}
@@ -16,14 +17,14 @@ use Rattle.meaning_bares.specs.PlaceLaws.{count-bare}
 use Rattle.model.specs.Decl.{Decl}
 use Rattle.model.specs.Reach.{cyclic}
 use Rattle.model.specs.Run.{run, layouts-of, unfold-next}
-use Rattle.meaning.specs.Program.{name-line, program}
+use Rattle.meaning.specs.Program.{name-line, field-line, program}
 use Rattle.meaning.specs.Rows.{count-of}
 use Rattle.meaning_laws.specs.Program.{length-program}
 use Rattle.meaning_patterns.specs.Patterns.{row13}
 use Rattle.answer.specs.declared.Refusal.{Refusal}
 use Rattle.answer.specs.declared.Refusal.the-variants.{Accepted, Refused}
 use Rattle.answer.specs.Answer.{refusal}
-use Rattle.answer_laws.specs.Answer.{accepted-clear, or-later, refusal-append}
+use Rattle.answer_laws.specs.Answer.{accepted-clear, or-later, or-accepted, refusal-append}
 use Rattle.answer_patterns.specs.Whole.{front, tail, sheet-rows, program-rows, input-rows}
 use Rattle.answer_pattern_laws.specs.Parts.{front-of, tail-of}
 use Rattle.answer_pattern_laws.specs.Refusals.{row-passed, row-refused}
@@ -31,7 +32,7 @@ use Rattle.answer_pattern_laws.specs.Rows.{row8-alone, faults-alone, row13-alon
 use Rattle.answer_built.specs.BuiltLaws.{front-input}
 use Rattle.row4_limits.specs.Limits.{start}
 use Rattle.table_declared.specs.Passed.{Passed}
-use Rattle.table_declared.specs.PassedLaws.{names-within}
+use Rattle.table_declared.specs.PassedLaws.{names-within, decls-within, fields-within}
 use Rattle.table_access.specs.Tables.{decls-of, lines-in, TabledIn}
 use Rattle.table_access.specs.OfSheet.{OfSheet, program-same, count-same}
 use Rattle.pattern_counts.specs.Counts.{Fielded}
@@ -44,16 +45,13 @@ use Rattle.row8_returning.specs.RowLaws as rows
 use Rattle.row9_faults.specs.Attempts.{Asked}
 use Rattle.build_passes.specs.declared.Run.{Run}
 use Rattle.build_passes.specs.Passes.{Ran}
-use Rattle.input_table.specs.Table.{Read, Good, Tailed}
+use Rattle.input_table.specs.Table.{Read, Good, Tailed, Parts}
+use Rattle.input_table.specs.TableLaws.{first-put, cut-first, cut-rest, read-lent, tailed-lent, joined-lent}
 use Rattle.input_rows.specs.declared.Judged.{Judged}
-use Rattle.input_rows.specs.Judging.{miscounts-row, table-rows, Listed, Uncounted, Found, Judges, Clear}
+use Rattle.input_rows.specs.Judging.{miscounts-row, table-rows, Listed, Uncounted, Found, Judges, Room, refused-decided, Decides, Clear}
 use Rattle.input_rows.specs.SameLaws.{eight-same, faults-same}
 
 -- ---- one row after the other
-or-accepted : (x y : Refusal) → or-later x y ≡ Accepted → x ≡ Accepted
-or-accepted Accepted y e = refl
-or-accepted (Refused code place) y e = e
-
 module _ (ls qs : List Line) where
   eight-first : refusal (table-rows ls qs) ≡ or-later (refusal (returns-row ls ∷ [])) (refusal (faults-row base ls ∷ miscounts-row ls qs ∷ []))
   eight-first = refusal-append (returns-row ls ∷ []) (faults-row base ls ∷ miscounts-row ls qs ∷ [])
@@ -214,3 +212,46 @@ one-refused b e = rw e refl
 
 pub input-one : (b : List ℕ) → row1 base b ≡ true → refusal (input-rows base b) ≡ Refused 1 0
 input-one b e = input-sheet b 1 0 (one-refused b e)
+
+-- ---- the parts of a sheet
+module _ (b t : List ℕ) (m k : ℕ) (p : Parts b t m k) where
+  -- the table's program is the sheet's
+  pub program-parts : program (lines-in (take k t)) ≡ program (lines 6 (front 6 b))
+  program-parts =
+      program-same (take (m * 32) b) (take k t) (p .read .of)
+      ∙ ap (λ (x : List ℕ). program (lines 6 x)) (sym (at-front (take (m * 32) b) (drop (m * 32) b) (take k t) _ (p .read) (p .tailed)) ∙ ap (front 6) (take-append-drop (m * 32) b))
+
+  module _ (n : ℕ) (decls : n ≡ decls-of (lines-in (take (k - 0) t))) (room last : ℕ) (at-room : room ≡ 8 * m + 16)
+      (at-last : last ≡ room + 6 * count 6 (take (length b - m * 32) (drop (m * 32) b)))
+      (keep u rank x y : List ℕ) (j : Judged) (w : Judges (take (k - 0) t) (take (last - room) (drop room t)) keep x y j) (x-long : length x ≡ 2 * n) (y-long : length y ≡ n) where
+    read : Read (take (m * 32 - 0) b) (take (k - 0) t)
+    read = read-lent b t m k p (m * 32) refl
+
+    tailed : Tailed (take (m * 32 - 0) b) (take (length b - m * 32) (drop (m * 32) b)) (take (last - room) (drop room t))
+    tailed = tailed-lent b t m k p (m * 32) room last refl at-room at-last
+
+    pub decides-parts : Decides b t keep (putMid 0 (2 * n - 0) u x) (putMid 0 (n - 0) rank y) (record { refusal = j .refusal; rounds = j .rounds; lines = m; cells = k; decls = n })
+    decides-parts =
+        let v : k - 0 ≡ k = omega arith in
+        record {
+          answer = sym (input-same _ _ _ _ read tailed (j .refusal) (w .answer)) ∙ ap (λ (c : List ℕ). refusal (input-rows base c)) (joined-lent b t m k p (m * 32));
+          accepts = λ a.
+              record {
+                parts = p;
+                decls-are = rw v at decls;
+                found = rw (first-put u x (2 * n) x-long, first-put rank y n y-long) (rw v at (w .found a));
+                counted = rw v at (w .counted a);
+                counts = rw (cut-first b (m * 32), cut-rest b (m * 32)) at (counts-of _ _ _ _ read tailed (sym (w .answer) ∙ a));
+              };
+        }
+
+-- memory that is lent
+pub fields-room : (b t : List ℕ) → OfSheet b t → (keep u rank : List ℕ) → Room keep u rank → count-of field-line (lines-in t) ≤ length keep
+fields-room b t of keep u rank r = omega (arith, fields-within base (lines-in t) (of .bounded), r .keeps)
+
+pub decls-room : (b t : List ℕ) → OfSheet b t → (n : ℕ) → n ≡ decls-of (lines-in t) → n ≤ 96
+decls-room b t of n e = omega (arith, e, decls-within base (lines-in t) (of .bounded))
+
+-- ---- a refusal
+pub decides-refused : (b t keep u rank : List ℕ) (code place : ℕ) → refusal (input-rows base b) ≡ Refused code place → Decides b t keep u rank (refused-decided code place)
+decides-refused b t keep u rank code place e = record { answer = sym e; accepts = λ h. let z : _≡_ {A = ℕ} 0 1 = cc in absurd (omega arith) }

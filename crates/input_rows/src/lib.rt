@@ -1,13 +1,15 @@
-// Rows 8 to 10, and row 13 of the Q lines, over the table of a sheet that passed rows 1 to 7, with what the passes find on the way:
-// every row that looks at no output is then decided.
+// Every row that looks at no output, with the table of an accepted sheet and what the passes find on the way: rows 2 to 7, and then, over
+// the table, rows 8 to 10 and row 13 of the Q lines.
 use answer::Refusal;
+use sheet_parts::LINE;
 use walk_cells::CELLS;
 ghost use mathlib.Core.Path.{_≡_};
 ghost use mathlib.Core.List.{[], _∷_};
-ghost use Prim.Native.Nat.{_*_, _≤_};
+ghost use mathlib.Core.Bool.{false};
+ghost use Prim.Native.Nat.{_+_, _*_, _≤_};
 ghost use lib.ListN.{length};
 ghost use Rattle.sheet.specs.Format.{base};
-ghost use Rattle.sheet.specs.Sheet.{first};
+ghost use Rattle.sheet.specs.Sheet.{first, count, row1};
 ghost use Rattle.walk_cells.specs.Cells.{lines-of};
 ghost use Rattle.meaning.specs.Program.{name-line, field-line, program};
 ghost use Rattle.meaning.specs.Rows.{count-of};
@@ -16,12 +18,22 @@ ghost use Rattle.answer.specs.Answer as answer;
 ghost use Rattle.table_access.specs.Tables.{TabledIn, decls-of, lines-in};
 ghost use Rattle.rows_heads.specs.HeadRows.{faults-row};
 ghost use Rattle.row9_faults.specs.Attempts.{Asked};
-ghost use Rattle.input_rows.specs.Judging.{Uncounted, Listed, miscounts-row, Judges};
+ghost use Rattle.input_table.specs.Table.{Parts};
+ghost use Rattle.input_rows.specs.Judging.{Uncounted, Listed, miscounts-row, Judges, Room, refused-decided, Decides};
 
 // The refusal, and the rounds of erasure where there is none.
 pub struct Judged {
     pub refusal: Refusal,
     pub rounds: usize,
+}
+
+// The refusal; and of an accepted sheet the rounds, the lines before its Q lines, the cells of their table, and the declarations.
+pub struct Decided {
+    pub refusal: Refusal,
+    pub rounds: usize,
+    pub lines: usize,
+    pub cells: usize,
+    pub decls: usize,
 }
 
 // The first Q line with another number of parts than its constructor has fields, by the numbers of fields in fields.
@@ -87,7 +99,7 @@ fn resolved(t: &[u32], q: &[u32], u: &[u16], keep: &[u8]) -> Refusal
 
 // The passes and these rows, in memory that is lent for the keep table, for what becomes of each name, and for ranks; q are the cells
 // of the Q lines, if there are any.
-pub fn judge(t: &[u32], q: &[u32], keep: &mut [u8], u: &mut [u16], rank: &mut [u16]) -> Judged
+fn judge(t: &[u32], q: &[u32], keep: &mut [u8], u: &mut [u16], rank: &mut [u16]) -> Judged
     requires { ⌜ TabledIn base (now t) × Listed (count-of name-line (lines-in (now t))) (now q) × (count-of field-line (lines-in (now t)) ≤ length (now keep)) ⌝ }
     requires { ⌜ (length (now u) ≡ 2 * decls-of (lines-in (now t))) × (length (now rank) ≡ decls-of (lines-in (now t))) ⌝ }
     ensures { λ r. ⌜ Judges (now (t .entry)) (now (q .entry)) (now (keep .exit)) (now (u .exit)) (now (rank .exit)) r ⌝ }
@@ -106,5 +118,67 @@ pub fn judge(t: &[u32], q: &[u32], keep: &mut [u8], u: &mut [u16], rank: &mut [u
     Judged {
         refusal: resolved(t, q, u, keep),
         rounds: p.rounds,
+    }
+}
+
+// A refusal has no table.
+fn refuse(code: u32, place: usize) -> Decided
+    ensures { λ r. ⌜ r ≡ refused-decided code place ⌝ }
+{
+    Decided {
+        refusal: Refusal::Refused { code, place },
+        rounds: 0,
+        lines: 0,
+        cells: 0,
+        decls: 0,
+    }
+}
+
+// The passes and these rows of the parts of a sheet, in as much of the memory as its declarations need.
+fn parted(
+    s: &[u8],
+    lines: usize,
+    cells: usize,
+    t: &[u32],
+    keep: &mut [u8],
+    u: &mut [u16],
+    rank: &mut [u16],
+) -> Decided
+    requires { ⌜ Parts (now s) (now t) lines cells × Room (now keep) (now u) (now rank) ⌝ }
+    ensures { λ r. ⌜ Decides (now (s .entry)) (now (t .entry)) (now (keep .exit)) (now (u .exit)) (now (rank .exit)) r ⌝ }
+{
+    let at = lines * LINE;
+    let z = &s[at..s.len()];
+    let room = 8 * lines + 16;
+    let last = room + z.len() / LINE * CELLS;
+    let n = table_access::decls(&t[0..cells]);
+    let j = judge(
+        &t[0..cells],
+        &t[room..last],
+        keep,
+        &mut u[0..2 * n],
+        &mut rank[0..n],
+    );
+    let refusal = j.refusal;
+    Decided {
+        refusal,
+        rounds: j.rounds,
+        lines,
+        cells,
+        decls: n,
+    }
+}
+
+// All rows of a sheet that passed row 1, in lent memory: eight cells for each line, and 16 for the header and the end; and as much for the
+// passes as any sheet needs.
+pub fn decide(s: &[u8], t: &mut [u32], keep: &mut [u8], u: &mut [u16], rank: &mut [u16]) -> Decided
+    requires { ⌜ (row1 base (now s) ≡ false) × (8 * count 6 (now s) + 16 ≤ length (now t)) × Room (now keep) (now u) (now rank) ⌝ }
+    ensures { λ r. ⌜ Decides (now (s .entry)) (now (t .exit)) (now (keep .exit)) (now (u .exit)) (now (rank .exit)) r ⌝ }
+{
+    let f = input_table::tabled(s, t);
+    let refusal = f.refusal;
+    match refusal {
+        Refusal::Accepted => parted(s, f.lines, f.cells, t, keep, u, rank),
+        Refusal::Refused { code, place } => refuse(code, place),
     }
 }

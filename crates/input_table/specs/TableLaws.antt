@@ -281,7 +281,7 @@ refusal-is b r e = ap (λ (k : rows.Checked). k .refusal) e ∙ go (refusal (she
 
 -- ---- the table's part of the cells
 -- the first m cells, which were lent
-first-put : (t x : List ℕ) (m : ℕ) → length x ≡ m → take m (putMid 0 (m - 0) t x) ≡ x
+pub first-put : (t x : List ℕ) (m : ℕ) → length x ≡ m → take m (putMid 0 (m - 0) t x) ≡ x
 first-put t x m e = take-at x (drop (m - 0) (drop 0 t)) m e
 
 pub filled-of : (b t : List ℕ) (k : Counts) (c : Checked b t k) (z : Sizes) → z ≡ sizes-of (behind (count 6 b) t) → (m : ℕ) → m ≡ cell-count z → (x : List ℕ) → length x ≡ length (take (m - 0) t)
