@@ -17,7 +17,7 @@ use Rattle.answer.specs.Cases.{given, bytes, joined, split}
 use Rattle.answer.specs.declared.Refusal.{Refusal}
 use Rattle.answer.specs.declared.Refusal.the-variants.{Accepted, Refused}
 use Rattle.answer_patterns.specs.Whole.{front-count, front, tail, sheet-rows, program-rows}
-use Rattle.answer_reach.specs.Index.{decl-next, reaches, reach-count, x-line, x-lines}
+use Rattle.answer_reach.specs.Index.{decl-next, reaches, reached-count, x-line, x-lines}
 use Rattle.answer_reach.specs.Given.{input-refusal, declared, listed}
 
 -- a sheet's bytes
@@ -37,7 +37,7 @@ sets-of ls = let ds : List Decl = declared base (sheet-of ls) in table (λ i. ta
 
 -- its lines X
 unfoldable pub told-of : List String → List (List ℕ)
-unfolding sheet-of given passes refused front-count front tail sheet-rows program-rows fields-names ctors-names body-names dtype-names visit reached trues decl-next reaches reach-count x-line x-lines declared listed
+unfolding sheet-of given passes refused front-count front tail sheet-rows program-rows fields-names ctors-names body-names dtype-names visit reached trues decl-next reaches reached-count x-line x-lines declared listed
 told-of ls = split (listed base (sheet-of ls) (input-refusal base (sheet-of ls)))
 
 unfoldable pub tells : List String → List (List ℕ)

@@ -21,8 +21,8 @@ unfoldable pub reaches : List Decl → ℕ → ℕ → Bool
 reaches ds i j = getD (reached (decl-next ds) (length ds) i) j false
 
 -- how many declarations it reaches
-unfoldable pub reach-count : List Decl → ℕ → ℕ
-reach-count ds i = trues (table (reaches ds i) (length ds))
+unfoldable pub reached-count : List Decl → ℕ → ℕ
+reached-count ds i = trues (table (reaches ds i) (length ds))
 
 -- ---- what is printed
 abbrev pub index-line : ℕ
@@ -30,7 +30,7 @@ index-line = 88
 
 -- line X of declaration i: its name, and how many it reaches
 unfoldable pub x-line : List Decl → ℕ → Line
-x-line ds i = row index-line (dtype-at ds i .dt-name ∷ reach-count ds i ∷ 0 ∷ 0 ∷ 0 ∷ [])
+x-line ds i = row index-line (dtype-at ds i .dt-name ∷ reached-count ds i ∷ 0 ∷ 0 ∷ 0 ∷ [])
 
 unfoldable pub x-lines : List Decl → List Line
 x-lines ds = table (x-line ds) (length ds)

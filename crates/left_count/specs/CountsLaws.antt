@@ -16,6 +16,7 @@ use Rattle.model.specs.Cty.{Cty, size}
 use Rattle.model.specs.Decl.{Dtype, bit, dtype-at, table, Layout, L-erased, L-newtype, L-struct, L-abbrev, L-opaque}
 use Rattle.model.specs.Resolve.{resolve}
 use Rattle.model.specs.Run.{with-body, rw-decl, somes, lay, layout-of-decl, left-at}
+use Rattle.model_laws.specs.Lists.{table-last}
 use Rattle.model_laws.specs.Run.{run-lefts}
 use Rattle.meaning.specs.Program.{param-line, ctor-line, field-line, program}
 use Rattle.meaning_laws.specs.Program.{length-program}
@@ -225,11 +226,6 @@ module _ (ls : List Line) (t u f keep : List ℕ) (ready : Ready ls t u f keep) 
           go false e q = record { args = rw (q, e) (omega arith); types = rw (q, e) (omega arith); lines-are = rw (q, e) refl }
 
 -- ---- declaration after declaration
-table-last : {A : Type 0} (g : ℕ → A) (n : ℕ) → table g (suc n) ≡ table g n ++ (g n ∷ [])
-unfolding table
-table-last g zero = refl
-table-last {A} g (suc n) = ap (λ (l : List A). g 0 ∷ l) (table-last (λ i. g (suc i)) n)
-
 somes-append : (xs ys : List (Option Dtype)) → somes (xs ++ ys) ≡ somes xs ++ somes ys
 unfolding somes
 somes-append [] ys = refl

@@ -1,6 +1,6 @@
 -- Laws of tests, marks and tables that several files use. Assumes nothing.
 use mathlib.Core.Path.{_≡_, refl, ap, ap₂, _∙_}
-use mathlib.Core.List.{List, [], _∷_, map}
+use mathlib.Core.List.{List, [], _∷_, _++_, map}
 use mathlib.Core.Bool.{Bool, true, false}
 use Prim.Native.Nat.{ℕ, zero, suc, _+_, _≤_, _<_}
 use native.Mathlib.Omega.{arith}
@@ -46,6 +46,12 @@ getD-table f (suc n) (suc i) d h = getD-table (λ j. f (suc j)) n i d (omega ari
 
 pub getD-table-past : {A : Type 0} (f : ℕ → A) (n i : ℕ) (d : A) → n ≤ i → getD (table f n) i d ≡ d
 getD-table-past f n i d h = List·getD-eq-default (table f n) d (rw length-table h)
+
+-- one entry more stands at the end
+pub table-last : {A : Type 0} (f : ℕ → A) (n : ℕ) → table f (suc n) ≡ table f n ++ (f n ∷ [])
+unfolding table
+table-last f zero = refl
+table-last {A} f (suc n) = ap (λ (l : List A). f 0 ∷ l) (table-last (λ i. f (suc i)) n)
 
 -- equal entries make equal tables
 pub table-cong : {A : Type 0} (f g : ℕ → A) (n : ℕ) → ((i : ℕ) → i < n → f i ≡ g i) → table f n ≡ table g n

@@ -24,7 +24,7 @@ use Rattle.set_search.specs.SearchLaws.{mem-steps, steps-mem, steps-within, rea
 use Rattle.set_closure.specs.Closure.{Closed}
 use Rattle.set_closure.specs.Ones.{ones-of}
 use Rattle.set_closure.specs.OnesLaws.{trues-table, no-bits, members-ones}
-use Rattle.answer_reach.specs.Index.{decl-next, reaches, reach-count}
+use Rattle.answer_reach.specs.Index.{decl-next, reaches, reached-count}
 use Rattle.answer_reach.specs.Given.{IndexOf}
 
 module _ (ds : List Decl) where
@@ -72,8 +72,8 @@ module _ (ds : List Decl) where
 
   -- ---- counts
   -- The ones of a set's words are how many it holds.
-  pub ones-count : (n words : ℕ) (s : List ℕ) → IndexOf n words ds s → length ds ≤ 64 * words → ((k : ℕ) → getD s k 0 < 2 ^ 64) → (i : ℕ) → i < n → ones-of s (i * words) words ≡ reach-count ds i
-  unfolding reach-count
+  pub ones-count : (n words : ℕ) (s : List ℕ) → IndexOf n words ds s → length ds ≤ 64 * words → ((k : ℕ) → getD s k 0 < 2 ^ 64) → (i : ℕ) → i < n → ones-of s (i * words) words ≡ reached-count ds i
+  unfolding reached-count
   ones-count n words s x wide fit i h =
       let m : ℕ = length ds in
       let e : 64 * words ≡ m + (64 * words - m) = omega arith in
