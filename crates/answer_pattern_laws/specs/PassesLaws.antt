@@ -27,12 +27,12 @@ use Rattle.answer.specs.declared.Refusal.the-variants.{Accepted, Refused}
 use Rattle.answer.specs.Answer.{Row, line-row, row8, row9-10, fault-at, refusal, Answer, Clear, Refuses}
 use Rattle.answer.specs.Answer as old
 use Rattle.answer.specs.Cut.{Sheets, sheets-of, Whole}
-use Rattle.answer_laws.specs.Answer.{AllClear, clear-accepted, accepted-clear, or-later, refusal-append, Coded, AllCoded, CodeOf, refusal-coded, head-test, Nothing}
+use Rattle.answer_laws.specs.Answer.{AllClear, clear-accepted, accepted-clear, or-later, or-accepted, refusal-append, Coded, AllCoded, CodeOf, refusal-coded, head-test, Nothing}
 use Rattle.answer_laws.specs.Pass.{clear-heads}
 use Rattle.answer_laws.specs.Left.{decls-limit}
 use Rattle.answer_laws.specs.Build.{row1-small, whole-append}
 use Rattle.answer_laws.specs.Refused.{RefusesAs, refusal-refuses, Within, Coding, InRange, refusal-in-range, fault-in-range}
-use Rattle.answer_patterns.specs.Whole.{front, tail, tail-row, verdict-sheet, left-sheet, sheet-rows, program-rows, output-rows, rows, answered, answer}
+use Rattle.answer_patterns.specs.Whole.{front, tail, tail-row, verdict-sheet, left-sheet, sheet-rows, program-rows, input-rows, output-rows, rows, answered, answer}
 use Rattle.answer_pattern_laws.specs.Parts.{NoPattern, Begins, row1-whole, count-parts, line-first, line-second, parts-are, front-whole, front-of, tail-of}
 use Rattle.answer_pattern_laws.specs.Order.{passed-plain}
 use Rattle.answer_pattern_laws.specs.Sheets.{left-length-tail}
@@ -102,6 +102,10 @@ module _ (f : Format) (b : List ℕ) (v l : ℕ) where
   pub passes-answer : Passes f b v l → answer f b v l ≡ answered f b Accepted
   unfolding answer
   passes-answer h = ap (answered f b) (clear-accepted (rows f b v l) (clear-rows h))
+
+  -- nor is the sheet refused whatever the outputs are
+  pub passes-input : Passes f b v l → refusal (input-rows f b) ≡ Accepted
+  passes-input h = or-accepted (refusal (input-rows f b)) (refusal (output-rows f b v l)) (sym (refusal-append (input-rows f b) (output-rows f b v l)) ∙ clear-accepted (rows f b v l) (clear-rows h))
 
   pub passes-accepted : Passes f b v l → answer f b v l .code ≡ 0
   unfolding answered

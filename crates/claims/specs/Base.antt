@@ -8,7 +8,7 @@ use mathlib.Core.Path.{_≡_}
 use mathlib.Core.List.{List, [], _∷_, _++_, map, List·Memᴰ}
 use mathlib.Core.Bool.{Bool, true, false}
 use mathlib.Core.Option.{none, some}
-use Prim.Native.Nat.{ℕ, suc, _+_, _-_, _≤_, _<_}
+use Prim.Native.Nat.{ℕ, suc, _+_, _*_, _^_, _-_, _≤_, _<_}
 use native.Mathlib.Omega.{arith}
 use lib.ListN.{length, getD}
 use Rattle.sheet.specs.Format.{base}
@@ -26,14 +26,19 @@ use Rattle.meaning.specs.Rows.{line-at, heads-before, head-of}
 use Rattle.meaning.specs.Output.{verdict-line-of}
 use Rattle.model_patterns.specs.Pat.{pat-vars, ctor-owner, type-layout, occurrences, Once, Fitting}
 use Rattle.meaning_patterns.specs.Patterns.{pattern-line, pattern, pat-lines}
+use Rattle.answer.specs.declared.Refusal.{Refusal}
+use Rattle.answer.specs.declared.Refusal.the-variants.{Accepted}
 use Rattle.answer.specs.Answer.{Refuses}
 use Rattle.answer.specs.Cut.{Sheets}
 use Rattle.answer_patterns.specs.Whole.{front, tail, following, rows, answer}
 use Rattle.answer_patterns.specs.Passes.{Passes}
 use Rattle.answer_patterns.specs.Cut.{build, builds, Cut, Call, Over, InTurn, last-call, AllAccept, Wrote}
+use Rattle.answer_reach.specs.Index.{x-line}
+use Rattle.answer_reach.specs.Given.{input-refusal, declared, Indexes}
+use Rattle.set_bits.specs.Bits.{has}
 use Rattle.sheet.specs.FormatLaws.{base-ample}
 use Rattle.answer_laws.specs.Pass.{own-imports}
-use Rattle.claims.specs.Claims.{Accepts, decl-lines, pattern-lines, decls, marks, erased, Least, Rounds, LocalVerdict, GuardMore, LoopsLeft, Unspent, OfSource, Unchanged, Holds, Same, FirstUnits, sheet-pattern, sheet-rewritten, PatternOfSource}
+use Rattle.claims.specs.Claims.{Accepts, decl-lines, pattern-lines, decls, marks, erased, Least, Rounds, LocalVerdict, GuardMore, LoopsLeft, Unspent, OfSource, Unchanged, Holds, Same, FirstUnits, ReachSet, ReachCount, sheet-pattern, sheet-rewritten, PatternOfSource}
 use Rattle.claims.specs.Claims as claims
 
 -- ---- demand 1: refusals
@@ -165,3 +170,19 @@ resolved b v l = claims.resolved base b v l base-ample
 -- what a type gets depends on what it reaches alone
 pub locality : (S : ℕ → Bool) (b b' : List ℕ) → Agree S (decls base b) (decls base b') → (n : ℕ) → S n ≡ true → Declared (decls base b) n → Same 1024 100 (decls base b) (decls base b') n
 locality S b b' agree = claims.locality 1024 100 S (decls base b) (decls base b') agree (own-imports (decl-lines base b)) (own-imports (decl-lines base b'))
+
+-- ---- request 3: the reach index, of a call that does what its contract says (`Indexes`), and accepts the sheet
+-- bit j of set i is 1 exactly if i reaches j
+pub reach-set : (b s : List ℕ) (r : Refusal) (s′ : List ℕ) → Indexes base 2 b s r s′ → r ≡ Accepted → (i j : ℕ) → i < 96 → j < 128 → ReachSet (decls base b) i j (has s′ (i * 2) j)
+unfolding declared
+reach-set b s r s′ x a = claims.reach-set 96 2 (decls base b) s′ (x .index a)
+
+-- what the program shows of declaration i is how many it reaches, the ones of its two words
+pub reach-count : (b s : List ℕ) (r : Refusal) (s′ : List ℕ) → Indexes base 2 b s r s′ → r ≡ Accepted → length (decls base b) ≤ 128 → ((k : ℕ) → getD s′ k 0 < 2 ^ 64) → (i : ℕ) → i < 96
+    → ReachCount 2 (decls base b) s′ i (number (x-line (decls base b) i) 1)
+unfolding declared
+reach-count b s r s′ x a = claims.reach-count 96 2 (decls base b) s′ (x .index a)
+
+-- and there is such a line wherever the build's line R shows 0
+pub reach-answered : (b : List ℕ) (v l : ℕ) → Accepts base b v l → input-refusal base b ≡ Accepted
+reach-answered = claims.reach-answered base

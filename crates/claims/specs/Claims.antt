@@ -1,6 +1,7 @@
 -- What is promised of the layout build's answer: the three demands and the operator's checklist (README,
 -- "Claims"), as theorems about the definitions of `model`, `meaning` and `answer`, and of `model_patterns`,
--- `meaning_patterns` and `answer_patterns` for the pattern that a sheet may end in. The lemmas stand there.
+-- `meaning_patterns` and `answer_patterns` for the pattern that a sheet may end in, and of `answer_reach` for the reach index beside
+-- a sheet. The lemmas stand there.
 --
 -- A sheet b is a list of bytes. v and l are the lengths of the outputs that are lent for the verdict sheet
 -- and the left sheet. f is the format; `base` is the one of FORMAT, and `Ample f` says that its limits do
@@ -11,7 +12,7 @@ use mathlib.Core.Path.{_≡_, refl, sym, _∙_, ap, subst}
 use mathlib.Core.List.{List, [], _∷_, _++_, map, append-nil, append-assoc, List·Memᴰ, List·Memᴰ·append-cases}
 use mathlib.Core.Bool.{Bool, true, false, not}
 use mathlib.Core.Option.{Option, none, some}
-use Prim.Native.Nat.{_+_, _*_, _-_, ℕ, suc, _≤_, _<_}
+use Prim.Native.Nat.{_+_, _*_, _^_, _-_, ℕ, suc, _≤_, _<_}
 use native.Mathlib.Omega.{arith}
 use lib.Dec.{T}
 use lib.ListN.{length, getD, drop, List·getD-append}
@@ -33,6 +34,7 @@ use Rattle.model.specs.Decl.{
   Decl,
   dtype-at,
   origin-at,
+  table,
   position,
   ctors-of-tydef,
 }
@@ -43,6 +45,7 @@ use Rattle.model.specs.Resolve.{stays, abbreviation-of, unfolds, resolve, ok, r
 use Rattle.model.specs.Run.{record-of, left-program, run, layouts-of, resolves, decl-fault, unfold-next, returns, Abbreviates, ImportedNewtype, lay, layout-of-decl, left-at, info-at}
 use Rattle.model.specs.Names.{Declared, Agree, OwnImports}
 use Rattle.model_laws.specs.Erasure.{erasure-solves, erasure-least, erasure-made, erasure-rounds}
+use Rattle.model_laws.specs.Lists.{trues, table-cong}
 use Rattle.model_laws.specs.Reach.{cyclic-iff}
 use Rattle.model_laws.specs.Layout as layouts
 use Rattle.model_laws.specs.Guard as guard
@@ -61,6 +64,7 @@ use Rattle.meaning_laws.specs.Verdict.{verdict-line-at}
 use Rattle.meaning_patterns.specs.Patterns.{pattern-line, pattern, good-pattern, pat-lines, rewritten-lines}
 use Rattle.pattern_laws.specs.Linked.{AllGood}
 use Rattle.pattern_laws.specs.ReadBack as back
+use Rattle.answer.specs.declared.Refusal.the-variants.{Accepted}
 use Rattle.answer.specs.Answer.{Refuses, Answer, after}
 use Rattle.answer.specs.Answer as alone
 use Rattle.answer.specs.Cut.{Sheets, join, Whole}
@@ -81,6 +85,11 @@ use Rattle.answer_pattern_laws.specs.CutLaws as cuts
 use Rattle.answer_pattern_laws.specs.Owners.{slots-counted, program-sound}
 use Rattle.answer_pattern_laws.specs.Counted.{pattern-counted}
 use Rattle.answer_pattern_laws.specs.Following.{following-letters, following-few}
+use Rattle.answer_reach.specs.Index.{decl-next, reaches, reached-count, x-line}
+use Rattle.answer_reach.specs.Given.{input-refusal, IndexOf}
+use Rattle.set_bits.specs.Bits.{has}
+use Rattle.set_closure.specs.Ones.{ones-of}
+use Rattle.reach_laws.specs.IndexLaws as reach
 use Rattle.claims.specs.Unerased.{unerased}
 use Rattle.claims.specs.ClaimsLaws.{true-of, answer-rounds, answer-verdict, answer-left, front-passes, map-ctors, left-length, verdicts, length-verdicts, told-lines, first-builds, first-verdict, first-lefts}
 
@@ -525,3 +534,39 @@ lines-bounded f b v l a =
 -- READ BACK. The lines of the new pattern denote it.
 pub read-back : (f : Format) (b : List ℕ) → pattern (map (row pattern-line) (pat-lines (sheet-rewritten f b .pat) 0 0 0)) ≡ sheet-rewritten f b .pat
 read-back f b = back.read-back (sheet-rewritten f b .pat)
+
+-- ---- the reach index
+-- REACH ANSWERED. Where a build accepts the sheet, whatever its outputs, so does a call that asks for the reach index.
+pub reach-answered : (f : Format) (b : List ℕ) (v l : ℕ) → Accepts f b v l → input-refusal f b ≡ Accepted
+reach-answered f b v l a = passes.passes-input f b v l (passes.accepted-passes f b v l a)
+
+-- REACH SET. In words that hold the reach index of a program, bit j of set i is 1 exactly if declaration j is reached from declaration i
+-- by one step or more, from a body to the declarations that it names: there is no search in `Reach`. Both are declarations then, so
+-- that every bit of one that is not there is 0.
+pub record ReachSet (ds : List Decl) (i j : ℕ) (bit : Bool) : Type 0 where
+  pub exactly : (bit ≡ true) ↔ Reach (decl-next ds) i j
+  pub past : (length ds ≤ i) ⊎ (length ds ≤ j) → bit ≡ false
+
+pub reach-set : (n words : ℕ) (ds : List Decl) (s : List ℕ) → IndexOf n words ds s → (i j : ℕ) → i < n → j < 64 * words → ReachSet ds i j (has s (i * words) j)
+reach-set n words ds s x i j h k =
+    rw (x .bits i j h k) (record { exactly = reach.reaches-iff ds i j; past = ⊎-elim (λ l. reach.reaches-from ds i j l) (λ l. reach.reaches-past ds i j l) })
+
+-- REACH COUNT. The number that line X shows of declaration i is how many declarations have their bit in its set, and the sum of the ones
+-- of the set's words.
+pub record ReachCount (words : ℕ) (ds : List Decl) (s : List ℕ) (i shown : ℕ) : Type 0 where
+  pub members : shown ≡ trues (table (has s (i * words)) (length ds))
+  pub ones : shown ≡ ones-of s (i * words) words
+
+pub reach-count : (n words : ℕ) (ds : List Decl) (s : List ℕ) → IndexOf n words ds s → length ds ≤ 64 * words → ((k : ℕ) → getD s k 0 < 2 ^ 64) → (i : ℕ) → i < n → ReachCount words ds s i (number (x-line ds i) 1)
+unfolding x-line reached-count
+reach-count n words ds s x wide fit i h =
+    record {
+      members = ap trues (table-cong (reaches ds i) (has s (i * words)) (length ds) (λ j l. sym (x .bits i j h (omega (arith, l, wide)))));
+      ones = sym (reach.ones-count ds n words s x wide fit i h);
+    }
+
+-- REACH TRANSITIVE. What a reached declaration reaches is reached.
+pub reach-transitive : (n words : ℕ) (ds : List Decl) (s : List ℕ) → IndexOf n words ds s → (i j k : ℕ) → i < n → j < n → j < 64 * words → k < 64 * words
+    → has s (i * words) j ≡ true → has s (j * words) k ≡ true → has s (i * words) k ≡ true
+reach-transitive n words ds s x i j k h l m o a b =
+    x .bits i k h o ∙ reach.reaches-trans ds i j k (sym (x .bits i j h m) ∙ a) (sym (x .bits j k l o) ∙ b)
