@@ -1,10 +1,10 @@
--- `layout::read_all` meets its contract: what is read lies within the buffer. Assumes nothing.
+-- `program_input::read_all` meets its contract: what is read lies within the buffer. Assumes nothing.
 use mathlib.Core.Path.{_≡_}
 use Prim.Native.Nat.{_-_, _≤_}
 use lib.ListN.{length}
 use borrow.Author.Needs.{needs}
-use Rattle.layout.proofs.read_all.Statement.{statement}
-use Rattle.layout.proofs.read_all.Tie as tie
+use Rattle.program_input.proofs.read_all.Statement.{statement}
+use Rattle.program_input.proofs.read_all.Tie as tie
 
 abbrev Inv-loop : tie.InvT-loop
 Inv-loop buffer₀ at₀ turns₀ buffer at turns = (at ≤ length buffer) × (length buffer ≡ length buffer₀)
