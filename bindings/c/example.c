@@ -1,10 +1,12 @@
-/* example SHEET VERDICT LEFT: builds the sheet in one file and writes the two sheets to two others.
- * Ends with 0 if the sheet is accepted, with 1 if it is refused, and with 2 if a file fails. */
+/* example SHEET VERDICT LEFT: builds the sheet in one file and writes the two sheets to two others; prints
+ * which types each type hangs on. Ends with 0 if the sheet is accepted, with 1 if it is refused, and with 2
+ * if a file fails. */
 #include "layout.h"
 
 #include <inttypes.h>
 #include <stdio.h>
 #include <stdlib.h>
+#include <string.h>
 
 /* One byte more than a sheet may have, so that a longer file is refused as one. */
 static uint8_t sheet[LAYOUT_SHEET_BYTES + 1];
@@ -34,6 +36,31 @@ static int put(const char *path, const uint8_t *bytes, size_t length)
         return -1;
     size_t written = fwrite(bytes, 1, length, file);
     return fclose(file) == 0 && written == length ? 0 : -1;
+}
+
+/* Prints for each declaration of an accepted sheet which ones it reaches. */
+static void put_reach(size_t length)
+{
+    const char *names[LAYOUT_DECLARATIONS];
+    int widths[LAYOUT_DECLARATIONS];
+    size_t count = 0;
+    for (size_t at = 0; at < length; at += LAYOUT_LINE_BYTES) {
+        if (sheet[at] != 'D' && sheet[at] != 'I')
+            continue;
+        /* its first number is that of an N line, and N lines come first */
+        names[count] = (const char *)sheet + LAYOUT_LINE_BYTES * atoi((const char *)sheet + at + 1) + 7;
+        widths[count] = (int)strcspn(names[count], " \n");
+        count++;
+    }
+    uint64_t sets[LAYOUT_DECLARATIONS * LAYOUT_SET_WORDS], answer[2];
+    layout_reach_index(sheet, length, sets, answer);
+    for (size_t i = 0; i < count; i++) {
+        printf("%.*s reaches:", widths[i], names[i]);
+        for (size_t j = 0; j < count; j++)
+            if (sets[LAYOUT_SET_WORDS * i + j / 64] >> j % 64 & 1)
+                printf(" %.*s", widths[j], names[j]);
+        printf("\n");
+    }
 }
 
 int main(int argc, char **argv)
@@ -83,6 +110,7 @@ int main(int argc, char **argv)
     }
     printf("accepted after %" PRIu64 " rounds: %" PRIu64 " bytes of verdicts, %" PRIu64 " bytes left\n",
            answer[2], answer[3], answer[4]);
+    put_reach(length);
     failed = put(argv[2], verdict, (size_t)answer[3]) | put(argv[3], left, (size_t)answer[4]);
     free(left);
     if (failed) {

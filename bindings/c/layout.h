@@ -2,12 +2,13 @@
  * (README.md in this folder). What a sheet is, what each code means and what is written is said in
  * docs/FORMAT.md; sections are cited here as [4].
  *
- * Both calls are the same build and differ only in what they say about it. They take any bytes and
- * any lengths, allocate nothing, keep nothing between calls and may be called from many threads.
+ * Two calls are the same build and differ only in what they say about it; the third tells which types
+ * each type hangs on. They take any bytes and any lengths, allocate nothing, keep nothing between calls
+ * and may be called from many threads.
  *
  * What a caller owes: `sheet` points to `sheet_len` bytes, `verdict` to `verdict_len` and `left` to
- * `left_len`, the last two writable; neither output overlaps the other, the sheet or `answer`. A
- * length may be 0; its pointer is then not read, but must not be null.
+ * `left_len`, the last two writable; no output, `sets` among them, overlaps another, the sheet or
+ * `answer`. A length may be 0; its pointer is then not read, but must not be null.
  */
 #ifndef LAYOUT_H
 #define LAYOUT_H
@@ -22,6 +23,10 @@ extern "C" {
 /* A sheet has at most this many bytes, in lines of this many [1, 2]. */
 #define LAYOUT_SHEET_BYTES 65536
 #define LAYOUT_LINE_BYTES 32
+
+/* It has at most this many declarations, and a set of them takes this many words [2, 13]. */
+#define LAYOUT_DECLARATIONS 96
+#define LAYOUT_SET_WORDS 2
 
 /* Codes [4, 5, 7]. "Line" is the place, counted from 0 over all lines of the sheet. They are tested in
  * this order, but 13 after 9 and 10 and before 11. */
@@ -59,6 +64,17 @@ void layout_build_sized(const uint8_t *sheet, size_t sheet_len,
                         uint8_t *verdict, size_t verdict_len,
                         uint8_t *left, size_t left_len,
                         uint64_t answer[5]);
+
+/* The reach index [13]: for each declaration, D or I, the set of those that its body names, or that are
+ * named in the body of one in the set. `answer` gets two numbers: code and place, those of a build whose
+ * outputs are long enough, so 11 and 12 are not among them.
+ *
+ * On code 0 every word is written. Declarations are counted from 0, in the order of the sheet; bit j % 64
+ * of word 2 * i + j / 64 is 1 if declaration j is in the set of declaration i, and 0 if not, or if one of
+ * them is not there. On any other code all words are as they were. */
+void layout_reach_index(const uint8_t *sheet, size_t sheet_len,
+                        uint64_t sets[LAYOUT_DECLARATIONS * LAYOUT_SET_WORDS],
+                        uint64_t answer[2]);
 
 #ifdef __cplusplus
 }

@@ -26,12 +26,37 @@
 //! assert_eq!(refusal.code(), 6);
 //! assert_eq!(refusal.to_string(), "line 1 repeats a name of an earlier line: N     1ms");
 //! ```
+//!
+//! What a declaration hangs on, `reach_index` tells:
+//!
+//! ```
+//! let lines = [
+//!     "N     0lap", "N     1ms", "N     2list",
+//!     "A     0     0     0     0     0",
+//!     "Y     8     1     0     0     0",
+//!     "Y     8     2     0     1     0",
+//!     "D     0     0     1     0     1",
+//!     "V     0     0     0     0     0",
+//!     "D     1     0     0     0     0",
+//!     "V     0     0     0     0     0",
+//! ];
+//! let sheet: String = lines.iter().map(|l| format!("{l:31}\n")).collect();
+//!
+//! // `lap = list ms`, where `list` is not declared
+//! let reach = layout::reach_index(sheet.as_bytes()).unwrap();
+//! assert!(reach.reaches(0, 1) && !reach.reaches(1, 0));
+//! assert_eq!(reach.count(0), 1);
+//! ```
 
 use std::fmt;
 
 /// The most bytes that a sheet may have, and the bytes of a line.
 pub const SHEET_BYTES: usize = 65_536;
 pub const LINE_BYTES: usize = 32;
+
+/// Words of one declaration's set in a reach index, and of the sets of 96 declarations.
+pub const SET_WORDS: usize = 2;
+pub const REACH_WORDS: usize = 96 * SET_WORDS;
 
 mod calls {
     extern "C" {
@@ -52,6 +77,12 @@ mod calls {
             left: *mut u8,
             left_len: usize,
             answer: *mut [u64; 5],
+        );
+        pub fn layout_reach_index(
+            sheet: *const u8,
+            sheet_len: usize,
+            sets: *mut [u64; super::REACH_WORDS],
+            answer: *mut [u64; 2],
         );
     }
 }
@@ -247,6 +278,48 @@ pub fn call_sized(sheet: &[u8], verdict: &mut [u8], left: &mut [u8]) -> [u64; 5]
     answer
 }
 
+/// Which declarations each declaration reaches: itself, if its body leads back to it. Declarations are told by their
+/// place among the D and I lines, from 0.
+#[derive(Clone, Debug, PartialEq, Eq)]
+pub struct Reach {
+    sets: [u64; REACH_WORDS],
+}
+
+impl Reach {
+    /// The words of a declaration's set; none where there can be no such declaration.
+    fn set(&self, i: usize) -> &[u64] {
+        self.sets.chunks_exact(SET_WORDS).nth(i).unwrap_or(&[])
+    }
+
+    /// Whether declaration `i` reaches declaration `j`. One that the sheet does not have reaches nothing and is not
+    /// reached.
+    pub fn reaches(&self, i: usize, j: usize) -> bool {
+        self.set(i).get(j / 64).is_some_and(|word| word >> (j % 64) & 1 == 1)
+    }
+
+    /// How many declarations declaration `i` reaches.
+    pub fn count(&self, i: usize) -> usize {
+        self.set(i).iter().map(|word| word.count_ones() as usize).sum()
+    }
+}
+
+/// The reach index of a sheet. A sheet that no build would accept, whatever its outputs, has none.
+pub fn reach_index(sheet: &[u8]) -> Result<Reach, Refusal> {
+    let mut sets = [0; REACH_WORDS];
+    match call_reach_index(sheet, &mut sets) {
+        [0, _] => Ok(Reach { sets }),
+        [code, place] => Err(Refusal::new(code, place, sheet)),
+    }
+}
+
+/// The same index by the library's `layout_reach_index`: code and place. On a refusal the words are as they were.
+pub fn call_reach_index(sheet: &[u8], sets: &mut [u64; REACH_WORDS]) -> [u64; 2] {
+    let mut answer = [0; 2];
+    // As in `call`.
+    unsafe { calls::layout_reach_index(sheet.as_ptr(), sheet.len(), sets, &mut answer) };
+    answer
+}
+
 #[cfg(test)]
 mod tests {
     use super::*;
@@ -283,6 +356,23 @@ mod tests {
         let refusal = build(short.as_bytes(), &mut verdict, &mut left).unwrap_err();
         let words = "line 42 is a constructor's pattern without a part for each of its fields: ";
         assert_eq!(refusal.to_string(), format!("{words}Q     3    10     4     0     0"));
+    }
+
+    #[test]
+    fn what_a_race_hangs_on() {
+        let sheet = include_bytes!("../../../tests/race.sheet");
+        let reach = reach_index(sheet).unwrap();
+        // split, ms, seal, series, lap: `lap` names all but `seal`, which it reaches by `split`
+        let reached = |i: usize| (0..7).filter(|&j| reach.reaches(i, j)).collect::<Vec<usize>>();
+        assert_eq!([0, 1, 2, 3, 4, 5].map(reached), [vec![1, 2], vec![], vec![], vec![], vec![0, 1, 2, 3], vec![]]);
+        assert_eq!([0, 1, 2, 3, 4, 5, 96, usize::MAX].map(|i| reach.count(i)), [2, 0, 0, 0, 4, 0, 0, 0]);
+        assert!(!reach.reaches(4, 128) && !reach.reaches(4, usize::MAX) && !reach.reaches(usize::MAX, 0));
+
+        let mut sets = [7; REACH_WORDS];
+        assert_eq!(call_reach_index(&sheet[1..], &mut sets), [1, 0]);
+        assert_eq!(sets, [7; REACH_WORDS]);
+        let refusal = reach_index(&sheet[LINE_BYTES..]).unwrap_err();
+        assert_eq!(refusal.to_string(), "line 0 has a number out of its range: N     1at");
     }
 
     #[test]
