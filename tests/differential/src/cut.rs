@@ -5,21 +5,9 @@ use crate::random::Random;
 use crate::{expected, After, Build, Call};
 use reference::cty::Name;
 use reference::line::LINE;
-use reference::program::{Body, Field, Program};
+use reference::program::Program;
 use reference::rows;
-use std::collections::{BTreeSet, HashMap};
-
-/// The names in a declaration's types.
-fn names_in(program: &Program, body: &Body) -> BTreeSet<Name> {
-    let fields = |fields: &[Field]| fields.iter().map(|f| f.ty).collect::<Vec<_>>();
-    let types = match body {
-        Body::Abstract => vec![],
-        Body::Abbrev(t) => vec![*t],
-        Body::Record(all) => fields(all),
-        Body::Variant(ctors) => ctors.iter().flat_map(|c| fields(&c.fields)).collect(),
-    };
-    types.into_iter().flat_map(|t| program.types.names_of_cty(t)).collect()
-}
+use std::collections::HashMap;
 
 /// The lines at which a sheet that passes rows 1, 2, 3 and 5 may be cut, from the first declaration to
 /// the pattern or the end. (Of others the rule speaks as well, but says little: they are refused, and so is a unit.)
@@ -40,7 +28,7 @@ pub fn cuts(sheet: &[u8]) -> Option<Vec<usize>> {
     let mut furthest = 0;
     let mut cuts = vec![start(0)];
     for (i, d) in program.decls.iter().enumerate() {
-        for name in names_in(&program, &d.body) {
+        for name in d.body.types().into_iter().flat_map(|t| program.types.names_of_cty(t)) {
             furthest = furthest.max(place.get(&name).copied().unwrap_or(0));
         }
         if furthest <= i {

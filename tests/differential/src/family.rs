@@ -36,6 +36,11 @@ impl Draft {
         self.ty([9, first, count, 0, 0])
     }
 
+    /// Whether there is room for a few more A and Y lines.
+    pub fn room(&self) -> bool {
+        self.args.len() < 500 && self.types.len() < 1_000
+    }
+
     /// The sheet's lines, with names up to the last.
     pub fn lines(self, last: u32) -> Vec<Line> {
         let name = |i: u32| Line { letter: b'N', numbers: [i, 0, 0, 0, 0], text: format!("n{i}").into_bytes() };

@@ -2,7 +2,8 @@
 //! surplus arguments, types near the limit, and now and then a wrong count or a loop.
 
 use crate::random::Random;
-use reference::line::{write_line, Line};
+use reference::line::Line;
+pub use reference::output::bytes;
 
 /// What kind of sheet is made.
 #[derive(Clone, Copy)]
@@ -90,10 +91,6 @@ pub fn generate(random: &mut Random, plan: Plan) -> Vec<Line> {
     lines.extend(draft.ys.iter().map(|&y| Line::row(b'Y', y)));
     lines.extend(decls);
     lines
-}
-
-pub fn bytes(lines: &[Line]) -> Vec<u8> {
-    lines.iter().flat_map(write_line).collect()
 }
 
 /// N lines with different texts.

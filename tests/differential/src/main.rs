@@ -2,9 +2,10 @@
 //!
 //! Builds N generated sheets (100,000 if not said) with the product, or, where this program is built
 //! without it, with the reference's second way of resolving types, and compares every answer and every
-//! byte with the reference. Every fifth sheet that can be cut is built in units too. Prints how many
-//! sheets met each code. At a difference it prints the smallest sheet that it finds by dropping lines,
-//! and ends with 1. With --planted the build has a fault that is to be found; --print writes sheet I.
+//! byte with the reference, and every word of the reach index. Every fifth sheet that can be cut is built in
+//! units too. Prints how many sheets met each code. At a difference it prints the smallest sheet that it
+//! finds by dropping lines, and ends with 1. With --planted the build has a fault that is to be found;
+//! --print writes sheet I.
 
 use differential::planted::{Planted, FAULTS};
 use differential::run::{compare, Counts, Found};
@@ -86,6 +87,7 @@ fn main() {
         println!("code {code:2}  {:8} sheets", count.load(Ordering::Relaxed));
     }
     println!("pattern  {:8} sheets", counts.patterns.load(Ordering::Relaxed));
+    println!("reach    {:8} sheets", counts.reaching.load(Ordering::Relaxed));
     println!(
         "cut      {:8} sheets, into {} units",
         counts.cut.load(Ordering::Relaxed),

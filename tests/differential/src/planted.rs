@@ -4,11 +4,12 @@
 
 use crate::{Answer, Build, Said};
 use reference::pass::Way;
+use reference::reach::{reach_in, SET_WORDS, WORDS};
 
 /// The faults, by name.
 pub const FAULTS: &[&str] = &[
     "record", "rounds", "keep", "place12", "code10", "spill", "import", "list", "code9", "refusal", "code13", "freed",
-    "twice", "field", "node",
+    "twice", "field", "node", "itself", "second", "absent", "words",
 ];
 
 pub struct Planted {
@@ -115,5 +116,24 @@ impl Build for Planted {
             _ => {}
         }
         Said { answer, written: None }
+    }
+
+    fn reach_index(&self, sheet: &[u8], sets: &mut [u64; WORDS]) -> [u64; 2] {
+        let old = *sets;
+        let answer = reach_in(Way::Steps(reference::STEPS), sheet, sets);
+        match self.fault.as_str() {
+            // no declaration is in its own set
+            "itself" if answer[0] == 0 => {
+                (0..WORDS / SET_WORDS).for_each(|i| sets[SET_WORDS * i + i / 64] &= !(1 << (i % 64)))
+            }
+            // a set's second word is left out
+            "second" if answer[0] == 0 => sets.iter_mut().skip(1).step_by(SET_WORDS).for_each(|word| *word = 0),
+            // words of declarations that are not there are not written
+            "absent" if answer[0] == 0 => sets[WORDS - 1] = old[WORDS - 1],
+            // words are touched before the sheet is refused
+            "words" if answer[0] == 9 => sets[0] = 0,
+            _ => {}
+        }
+        answer
     }
 }

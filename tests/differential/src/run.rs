@@ -4,11 +4,13 @@ use crate::random::Random;
 use crate::{call, cut, expected, sheet, shrink, Build, Call};
 use std::sync::atomic::{AtomicU64, Ordering};
 
-/// What was counted: sheets by code, sheets that end in a Q line, and sheets that were cut.
+/// What was counted: sheets by code, sheets that end in a Q line, sheets in which one declaration reaches another or
+/// itself, and sheets that were cut.
 #[derive(Default)]
 pub struct Counts {
     pub codes: [AtomicU64; 14],
     pub patterns: AtomicU64,
+    pub reaching: AtomicU64,
     pub cut: AtomicU64,
     pub units: AtomicU64,
 }
@@ -41,6 +43,8 @@ pub fn compare(build: &dyn Build, seed: u64, index: u64, counts: &Counts) -> Opt
     counts.codes[one.owed(&said).said.answer.code as usize].fetch_add(1, Ordering::Relaxed);
     let ends = one.sheet.len().checked_sub(32).is_some_and(|at| one.sheet[at] == b'Q');
     counts.patterns.fetch_add(u64::from(ends), Ordering::Relaxed);
+    let reaching = said.as_ref().is_ok_and(|given| given.index.iter().any(|&word| word != 0));
+    counts.reaching.fetch_add(u64::from(reaching), Ordering::Relaxed);
     if let Some(words) = one.difference(build, &said) {
         return Some(Found { index, words, small: smaller(build, seed, index, &one), bytes: one.sheet.len() });
     }

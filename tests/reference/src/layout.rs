@@ -1,8 +1,9 @@
 //! Kept fields, newtypes and layouts: FORMAT, sections 6.3 to 6.6, and row 8.
 
-use crate::cty::{Name, Ty};
+use crate::cty::Ty;
 use crate::erasure::Erasure;
 use crate::program::{Body, Decl, Field, Program, NO_NEWTYPE, NO_UNFOLD, REALIZED};
+use crate::reach::search;
 use std::collections::BTreeSet;
 
 #[derive(Clone, Copy, Debug, PartialEq, Eq)]
@@ -56,22 +57,10 @@ fn payload(program: &Program, d: &Decl, kept: &Kept) -> Option<Ty> {
     }
 }
 
-/// The declared names in a type, by declaration.
-fn declared_in(program: &Program, t: Ty) -> BTreeSet<usize> {
-    program.types.names_of_cty(t).into_iter().filter_map(|n: Name| program.find(n)).collect()
-}
-
 /// What is reached from `start` in one step or more; a step goes from a declaration that stands for
 /// a type to the declarations which that type names.
 pub fn reached(program: &Program, stands_for: &[Option<Ty>], start: usize) -> BTreeSet<usize> {
-    let mut seen = BTreeSet::new();
-    let mut work = vec![start];
-    while let Some(i) = work.pop() {
-        if let Some(t) = stands_for[i] {
-            work.extend(declared_in(program, t).into_iter().filter(|&j| seen.insert(j)));
-        }
-    }
-    seen
+    search(|i| stands_for[i].map_or(BTreeSet::new(), |t| program.declared_in(t)), start)
 }
 
 /// The candidates, with their payloads.

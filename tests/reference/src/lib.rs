@@ -12,11 +12,13 @@ pub mod output;
 pub mod pass;
 pub mod pattern;
 pub mod program;
+pub mod reach;
 pub mod resolve;
 pub mod rows;
 pub mod table;
 
-use pass::{Pass, Way};
+use line::{write_line, Line, LINE};
+use pass::{Pass, Resolved, Way};
 use program::Decl;
 
 /// What a call returns: FORMAT, section 4.
@@ -45,20 +47,30 @@ pub struct Sheets {
 /// Steps of resolution that are tried before types are resolved by outcomes.
 pub const STEPS: u64 = 200_000;
 
-/// The rows in their order, and the two sheets.
-pub fn sheets(sheet: &[u8], verdict_length: usize, left_length: usize, way: Way) -> Result<Sheets, Refusal> {
-    let refuse = |code: u64| move |place: usize| Err(Refusal { code, place: place as u64 });
+fn refuse<T>(code: u64, place: usize) -> Result<T, Refusal> {
+    Err(Refusal { code, place: place as u64 })
+}
+
+/// A sheet that no row refuses, but those which look at the outputs.
+pub struct Judged {
+    pub lines: Vec<Line>,
+    pub pass: Pass,
+    pub resolved: Resolved,
+}
+
+/// The rows in their order, 11 and 12 left out.
+pub fn judged(sheet: &[u8], way: Way) -> Result<Judged, Refusal> {
     if rows::row1(sheet) {
-        return refuse(1)(0);
+        return refuse(1, 0);
     }
     let lines = match rows::row2(sheet) {
         Ok(lines) => lines,
-        Err(place) => return refuse(2)(place),
+        Err(place) => return refuse(2, place),
     };
     let line_rows = [rows::row3, rows::row4, rows::row5, rows::row6, rows::row7];
     for (row, code) in line_rows.iter().zip(3..) {
         if let Some(place) = row(&lines) {
-            return refuse(code)(place);
+            return refuse(code, place);
         }
     }
     let pass = Pass::new(&lines);
@@ -67,24 +79,38 @@ pub fn sheets(sheet: &[u8], verdict_length: usize, left_length: usize, way: Way)
     }
     let resolved = pass.rows9and10(way)?;
     if let Some(place) = pattern::row13(&lines, &pass) {
-        return refuse(13)(place);
+        return refuse(13, place);
     }
-    let Pass { program, erasure, kept, layouts, .. } = &pass;
-    let left_of =
-        |i: usize| left::rw_decl(&resolved.types, &program.decls[i], layouts[i], &kept[i], &resolved.decls[i]);
-    let left: Vec<Option<Decl>> = (0..program.decls.len()).map(left_of).collect();
-    let records: Vec<bool> = left.iter().map(|d| left::record_verdict(d.as_ref())).collect();
-    if verdict_length < sheet.len() {
-        return refuse(11)(sheet.len());
+    Ok(Judged { lines, pass, resolved })
+}
+
+impl Judged {
+    /// Rows 11 and 12, and the two sheets.
+    pub fn sheets(&self, verdict_length: usize, left_length: usize) -> Result<Sheets, Refusal> {
+        let Judged { lines, pass, resolved } = self;
+        let Pass { program, erasure, kept, layouts, .. } = pass;
+        let left_of =
+            |i: usize| left::rw_decl(&resolved.types, &program.decls[i], layouts[i], &kept[i], &resolved.decls[i]);
+        let left: Vec<Option<Decl>> = (0..program.decls.len()).map(left_of).collect();
+        let records: Vec<bool> = left.iter().map(|d| left::record_verdict(d.as_ref())).collect();
+        let needed = lines.len() * LINE;
+        if verdict_length < needed {
+            return refuse(11, needed);
+        }
+        let left: Vec<Decl> = left.into_iter().flatten().collect();
+        let rewritten = pattern::pattern(lines).map(|p| pattern::rw_pat(pass, &p));
+        let left = output::left_sheet(lines, &resolved.types, &left, rewritten.as_ref());
+        if left_length < left.len() {
+            return refuse(12, left.len());
+        }
+        let verdict = output::verdict_sheet(lines, &program.decls, layouts, kept, &records);
+        Ok(Sheets { rounds: erasure.rounds, verdict, left })
     }
-    let left: Vec<Decl> = left.into_iter().flatten().collect();
-    let rewritten = pattern::pattern(&lines).map(|p| pattern::rw_pat(&pass, &p));
-    let left = output::left_sheet(&lines, &resolved.types, &left, rewritten.as_ref());
-    if left_length < left.len() {
-        return refuse(12)(left.len());
-    }
-    let verdict = output::verdict_sheet(&lines, &program.decls, layouts, kept, &records);
-    Ok(Sheets { rounds: erasure.rounds, verdict, left })
+}
+
+/// All rows in their order, and the two sheets.
+pub fn sheets(sheet: &[u8], verdict_length: usize, left_length: usize, way: Way) -> Result<Sheets, Refusal> {
+    judged(sheet, way)?.sheets(verdict_length, left_length)
 }
 
 /// A call: FORMAT, section 9.
@@ -104,18 +130,26 @@ pub fn build_in(way: Way, sheet: &[u8], verdict: &mut [u8], left: &mut [u8]) -> 
     }
 }
 
-/// What the program prints: FORMAT, section 9.
-pub fn program(sheet: &[u8]) -> Vec<u8> {
-    let built = sheets(sheet, rows::BYTES, rows::BYTES, Way::Steps(STEPS));
-    let (code, place, rounds) = match &built {
-        Ok(written) => (0, 0, written.rounds),
-        Err(refusal) => (refusal.code, refusal.place, 0),
+/// What a program prints: line R of a build with outputs of 65,536 bytes and, on code 0, what `behind` gives.
+fn printed(sheet: &[u8], behind: impl FnOnce(Judged, Sheets) -> Vec<u8>) -> Vec<u8> {
+    let built = judged(sheet, Way::Steps(STEPS)).and_then(|judged| {
+        let written = judged.sheets(rows::BYTES, rows::BYTES)?;
+        Ok((written.rounds, behind(judged, written)))
+    });
+    let (code, place, rounds, behind) = match built {
+        Ok((rounds, behind)) => (0, 0, rounds, behind),
+        Err(refusal) => (refusal.code, refusal.place, 0, vec![]),
     };
     let numbers = [code as u32, place.min(999_999) as u32, rounds as u32, 0, 0];
-    let mut out = line::write_line(&line::Line::row(b'R', numbers)).to_vec();
-    if let Ok(written) = built {
-        out.extend(written.verdict);
-        out.extend(written.left);
-    }
-    out
+    [&write_line(&Line::row(b'R', numbers))[..], &behind].concat()
+}
+
+/// What the program prints: FORMAT, section 9.
+pub fn program(sheet: &[u8]) -> Vec<u8> {
+    printed(sheet, |_, written| [written.verdict, written.left].concat())
+}
+
+/// What the program `reach` prints: FORMAT, section 13.
+pub fn reach_program(sheet: &[u8]) -> Vec<u8> {
+    printed(sheet, |judged, _| reach::x_lines(&judged.pass.program))
 }

@@ -6,7 +6,7 @@ use crate::line::{write_line, Line};
 use crate::pattern::{written, Pat};
 use crate::program::{Body, Decl, Field};
 
-fn bytes(lines: &[Line]) -> Vec<u8> {
+pub fn bytes(lines: &[Line]) -> Vec<u8> {
     lines.iter().map(write_line).collect::<Vec<_>>().concat()
 }
 

@@ -3,7 +3,7 @@
 
 use crate::cty::{Cty, Name, Ty, Types};
 use crate::line::Line;
-use std::collections::HashMap;
+use std::collections::{BTreeSet, HashMap};
 
 #[derive(Clone, Debug, PartialEq, Eq)]
 pub struct Field {
@@ -25,6 +25,19 @@ pub enum Body {
     Abbrev(Ty),
     Record(Vec<Field>),
     Variant(Vec<Ctor>),
+}
+
+impl Body {
+    /// Its types: the one that is abbreviated, or those of all fields, kept or not.
+    pub fn types(&self) -> Vec<Ty> {
+        let of = |fields: &[Field]| fields.iter().map(|f| f.ty).collect::<Vec<Ty>>();
+        match self {
+            Body::Abstract => vec![],
+            Body::Abbrev(t) => vec![*t],
+            Body::Record(fields) => of(fields),
+            Body::Variant(ctors) => ctors.iter().flat_map(|c| of(&c.fields)).collect(),
+        }
+    }
 }
 
 /// Flags, as their numbers in the sum.
@@ -80,6 +93,11 @@ impl Program {
     /// The place of a name's declaration among the declarations.
     pub fn find(&self, name: Name) -> Option<usize> {
         self.places.get(&name).copied()
+    }
+
+    /// The declared names in a type, by declaration.
+    pub fn declared_in(&self, t: Ty) -> BTreeSet<usize> {
+        self.types.names_of_cty(t).into_iter().filter_map(|n| self.find(n)).collect()
     }
 
     pub fn read(lines: &[Line]) -> Program {

@@ -40,3 +40,9 @@ fn the_pattern_of_the_page() {
     let file = std::fs::read(concat!(env!("CARGO_MANIFEST_DIR"), "/../pattern.sheet")).unwrap();
     assert!(*sheet == file, "tests/pattern.sheet is not the sheet of the page");
 }
+
+#[test]
+fn the_index_of_the_page() {
+    let [printed] = &blocks(13)[..] else { panic!("one block") };
+    assert_eq!(reference::reach_program(&blocks(11)[0]), *printed);
+}

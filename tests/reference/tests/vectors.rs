@@ -2,10 +2,12 @@
 //! folders that the variable VECTORS names (colons between them); of a sheet that stands in several the
 //! last output counts. Where a sheet has no X.out, the two ways of resolving types are compared. X.units
 //! has the units' counts of lines, the first with the N, A and Y lines, the last with the Q lines: built
-//! in turn they are to give what the whole gives.
+//! in turn they are to give what the whole gives. X.words has the words of the reach index, a line for
+//! each declaration; X.out is then what the program `reach` prints.
 
 use reference::line::LINE;
 use reference::pass::Way;
+use reference::reach::{reach_index, WORDS};
 use reference::Sheets;
 use std::collections::BTreeMap;
 use std::fs;
@@ -37,6 +39,13 @@ fn in_turn(sheet: &[u8], counts: &[usize]) -> Option<Sheets> {
     last
 }
 
+/// The words that a file's numbers are, and 0 for those that it has not.
+fn words(numbers: &str) -> [u64; WORDS] {
+    let mut words = [0; WORDS];
+    words.iter_mut().zip(numbers.split_whitespace()).for_each(|(word, n)| *word = n.parse().unwrap());
+    words
+}
+
 #[test]
 fn every_vector() {
     let mut vectors: BTreeMap<(Vec<u8>, String), PathBuf> = BTreeMap::new();
@@ -49,13 +58,24 @@ fn every_vector() {
             }
         }
     }
-    let (mut outputs, mut cut) = (0, 0);
+    let (mut outputs, mut cut, mut indexes) = (0, 0, 0);
     for ((sheet, _), path) in &vectors {
         let both = [Way::Steps(reference::STEPS), Way::Outcomes].map(|way| sheets(sheet, way));
         assert!(both[0] == both[1], "{path:?}: the two ways differ");
+        let index = fs::read_to_string(path.with_extension("words")).ok();
         if let Ok(expected) = fs::read(path.with_extension("out")) {
             outputs += 1;
-            assert!(reference::program(sheet) == expected, "{path:?}");
+            // of a refused sheet both programs print the same
+            if index.is_none() {
+                assert!(reference::program(sheet) == expected, "{path:?}");
+            }
+            if index.is_some() || both[0].is_err() {
+                assert!(reference::reach_program(sheet) == expected, "{path:?}: reach");
+            }
+        }
+        if let Some(numbers) = index {
+            indexes += 1;
+            assert!(reach_index(sheet, Way::Outcomes) == Ok(words(&numbers)), "{path:?}: words");
         }
         if let Ok(units) = fs::read_to_string(path.with_extension("units")) {
             cut += 1;
@@ -65,5 +85,5 @@ fn every_vector() {
             assert!(whole == last.as_ref().map(|s| (&s.verdict, &s.left)), "{path:?}: units");
         }
     }
-    println!("{} sheets, {outputs} with expected output, {cut} with units", vectors.len());
+    println!("{} sheets, {outputs} with expected output, {cut} with units, {indexes} with words", vectors.len());
 }
