@@ -2,10 +2,9 @@
 use mathlib.Core.Bool.{Bool, true, false, not}
 use mathlib.Core.Path.{_≡_, refl, sym, _∙_, ap, ap₂}
 use mathlib.Core.List.{List, [], _∷_, _++_, map}
-use mathlib.Core.Option.{Option, none, some}
-use Prim.Native.Nat.{ℕ, zero, suc, _+_, _*_, _/_, _≤_, _<_}
+use Prim.Native.Nat.{ℕ, zero, suc, _+_, _*_, _≤_, _<_}
 use native.Mathlib.Omega.{arith}
-use lib.ListN.{length, getD, take, drop, length-append, length-map}
+use lib.ListN.{length, getD, take, drop, length-append}
 use lib.Seq.{take-at}
 use Rattle.sheet.specs.Format.{base}
 use Rattle.sheet.specs.Line.{Line, row, bad, letter}
@@ -15,7 +14,6 @@ use Rattle.sheet.specs.ListLaws.{Every, every-append, every-over}
 use Rattle.walk_cells.specs.Cells.{cells, lines-of, bare}
 use Rattle.walk_cells.specs.CellsLaws.{length-lines-of, length-cells, lines-cells}
 use Rattle.model.specs.Decl.{Decl}
-use Rattle.model.specs.Run.{run}
 use Rattle.model_patterns.specs.Pat.{Pat, Pats, PWild, PVar, PConst, PCtor, PRecord, PTuple, POr, no-parts, part, Rewritten, nodes, rw-pat, rewritten}
 use Rattle.meaning.specs.Program.{name-line, program}
 use Rattle.meaning.specs.Rows.{count-of}
@@ -26,7 +24,6 @@ use Rattle.pattern_laws.specs.Linked.{AllGood}
 use Rattle.pattern_laws.specs.Few.{nodes-few-left, rewritten-length}
 use Rattle.pattern_emit.specs.Emit.{Asked, Put}
 use Rattle.pattern_emit.specs.LinkedLaws.{linked-good}
-use Rattle.pattern_put.specs.Puts.{Bytes, line-at}
 use Rattle.answer.specs.Answer.{refusal}
 use Rattle.answer.specs.declared.Refusal.the-variants.{Accepted}
 use Rattle.answer_patterns.specs.Whole.{front, tail, input-rows, following}

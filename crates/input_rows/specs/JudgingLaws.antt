@@ -28,10 +28,9 @@ use Rattle.answer_laws.specs.Answer.{accepted-clear, or-later, or-accepted, ref
 use Rattle.answer_patterns.specs.Whole.{front, tail, sheet-rows, program-rows, input-rows}
 use Rattle.answer_pattern_laws.specs.Parts.{front-of, tail-of}
 use Rattle.answer_pattern_laws.specs.Refusals.{row-passed, row-refused}
-use Rattle.answer_pattern_laws.specs.Rows.{row8-alone, faults-alone, row13-alone, program-is}
+use Rattle.answer_pattern_laws.specs.Rows.{row8-alone, row13-alone, program-is}
 use Rattle.answer_built.specs.BuiltLaws.{front-input}
 use Rattle.row4_limits.specs.Limits.{start}
-use Rattle.table_declared.specs.Passed.{Passed}
 use Rattle.table_declared.specs.PassedLaws.{names-within, decls-within, fields-within}
 use Rattle.table_access.specs.Tables.{decls-of, lines-in, TabledIn}
 use Rattle.table_access.specs.OfSheet.{OfSheet, program-same, count-same}

@@ -1,6 +1,6 @@
 -- From the rows of a sheet to the table of its declarations and the cells of its Q lines. Assumes nothing.
-use mathlib.Core.Path.{_≡_, refl, ap, sym, _∙_, subst}
-use mathlib.Core.List.{List, [], _∷_, _++_, append-nil}
+use mathlib.Core.Path.{_≡_, refl, ap, sym, _∙_}
+use mathlib.Core.List.{List, [], _++_, append-nil}
 use Prim.Native.Nat.{ℕ, suc, _+_, _-_, _*_, _≤_, _<_}
 use native.Mathlib.Omega.{arith}
 use lib.ListN.{length, take, drop, length-drop, take-append-drop}
@@ -8,7 +8,7 @@ use lib.Seq.{take-at, drop-at, take-take, take-add, length-take-le}
 use borrow.Rule.Slice.PartMut.{putMid, take-put, mid-len}
 use Rattle.sheet.specs.Format.{base}
 use Rattle.sheet.specs.Line.{Line}
-use mathlib.Core.Bool.{true, false}
+use mathlib.Core.Bool.{false}
 use Rattle.sheet.specs.Sheet.{count, lines, row1}
 use Rattle.walk_cells.specs.Cells.{lines-of}
 use Rattle.meaning_bares.specs.PlaceLaws.{count-bare}
@@ -44,7 +44,6 @@ use Rattle.answer_pattern_laws.specs.Plain.{sheet-refusal-plain}
 use Rattle.answer_pattern_laws.specs.Refusals as refusals
 use Rattle.answer_pattern_laws.specs.Refusals.{front-row1}
 use Rattle.input_table.specs.Table.{Checked, Lined, Read, Tailed, Filled, Parts, refused-front, Fronted, Refuses, Breaks}
-use Rattle.input_table.specs.declared.Front.{Front}
 
 -- ---- the cells of lines in the table
 -- what was lent behind the header comes back

@@ -1,16 +1,16 @@
 -- From the rows and the sets of a table to the reach index of a sheet, and to its lines. Assumes nothing.
-use mathlib.Core.Path.{_≡_, refl, sym, _∙_, ap, ap₂, subst}
-use mathlib.Core.List.{List, [], _∷_, _++_, append-nil, append-assoc}
-use Prim.Native.Nat.{ℕ, zero, suc, _+_, _*_, _^_, _-_, _≤_, _<_}
+use mathlib.Core.Path.{_≡_, refl, sym, _∙_, ap, subst}
+use mathlib.Core.List.{List, [], _∷_, _++_, append-nil}
+use Prim.Native.Nat.{ℕ, zero, suc, _+_, _*_, _-_, _≤_, _<_}
 use native.Mathlib.Numerals.{add-one}
 use native.Mathlib.Decide.{ℕ-discrete}
 use native.Mathlib.Omega.{arith}
-use lib.ListN.{length, getD, take, drop, set, length-append, length-set}
+use lib.ListN.{length, getD, take, drop, set, length-append}
 use lib.Seq.{getD-set-same, getD-set-other}
 use Rattle.sheet.specs.Format.{base}
 use Rattle.sheet.specs.Line.{Line, encode, number}
 use Rattle.sheet.specs.LineLaws.{row-length}
-use Rattle.sheet.specs.Sheet.{encodes, row1}
+use Rattle.sheet.specs.Sheet.{encodes}
 use Rattle.sheet.specs.SheetLaws.{encodes-append}
 use Rattle.sheet.specs.Output.{putAt}
 use Rattle.sheet.specs.OutputLaws.{put-more, length-put}
@@ -18,24 +18,20 @@ use Rattle.model.specs.Decl.{Decl, Dtype, dtype-at, table, close-fields}
 use Rattle.model_laws.specs.Lists.{table-last, table-cong}
 use Rattle.meaning.specs.Program.{dtype-of, program}
 use Rattle.meaning_laws.specs.Program.{length-program}
-use Rattle.answer.specs.declared.Refusal.{Refusal}
 use Rattle.answer.specs.declared.Refusal.the-variants.{Accepted, Refused}
-use Rattle.answer.specs.Answer.{refusal, after}
+use Rattle.answer.specs.Answer.{refusal}
 use Rattle.answer_patterns.specs.Whole.{input-rows}
-use Rattle.answer_reach.specs.declared.Listing.{Listing}
-use Rattle.answer_reach.specs.Index.{reached-count, x-line, x-lines}
-use Rattle.answer_reach.specs.Given.{declared, IndexOf, Indexes, listed, Lists}
+use Rattle.answer_reach.specs.Index.{x-line, x-lines}
+use Rattle.answer_reach.specs.Given.{declared, IndexOf, listed, Lists}
 use Rattle.reach_laws.specs.IndexLaws.{ones-count}
 use Rattle.set_closure.specs.Ones.{ones-of}
 use Rattle.table_declared.specs.DeclLaws.{dtype-is}
-use Rattle.table_declared.specs.PassedLaws.{decls-within}
 use Rattle.table_access.specs.Tables.{head-line, decls-of, lines-in, TabledIn}
-use Rattle.table_access.specs.OfSheet.{OfSheet}
 use Rattle.input_rows.specs.declared.Decided.{Decided}
-use Rattle.input_rows.specs.Judging.{Accepts, Decides}
-use Rattle.input_rows.specs.JudgingLaws.{input-one, program-parts, decls-room}
+use Rattle.input_rows.specs.Judging.{Accepts}
+use Rattle.input_rows.specs.JudgingLaws.{program-parts, decls-room}
 use Rattle.reach_index.specs.declared.Index.{Index}
-use Rattle.reach_index.specs.Indexing.{Named, Names, Taken, Finds, line-of, Counted, Put}
+use Rattle.reach_index.specs.Indexing.{Named, Taken, Finds, line-of, Put}
 
 -- ---- names
 name-at : (ls : List Line) (d : ℕ) → d < decls-of ls → dtype-at (program ls) d .dt-name ≡ number (head-line ls d) 0

@@ -7,7 +7,6 @@ use Prim.Native.Nat.{ℕ, _+_, _*_, _/_, _%_, _^_, _-_, _≤_, _<_}
 use native.Mathlib.Nat.{mul-le-mul-right}
 use native.Mathlib.Decide.{decLt}
 use native.Mathlib.Omega.{arith}
-use lib.Dec.{eqb}
 use lib.ListN.{length, getD, List·getD-eq-default}
 use Rattle.sheet.specs.ListLaws.{same-test}
 use Rattle.model.specs.Decl.{Decl, no-decl, dtype-at, table}
@@ -17,7 +16,7 @@ use Rattle.model.specs.Reach.{Reach, one, more}
 use Rattle.model_laws.specs.Lists.{true-of, trues, table-cong}
 use Rattle.model_laws.specs.Layout.{positions-placed}
 use Rattle.model_laws.specs.Reach.{reach-trans, reached, reached-iff}
-use Rattle.set_bits.specs.Bits.{digit, has, cleared}
+use Rattle.set_bits.specs.Bits.{has, cleared}
 use Rattle.set_bits.specs.BitsLaws.{row-before, has-words, length-cleared, cleared-far, cleared-none}
 use Rattle.set_search.specs.Search.{steps}
 use Rattle.set_search.specs.SearchLaws.{mem-steps, steps-mem, steps-within, reach-same, Holds}

@@ -1,6 +1,5 @@
 // How many nodes each node reaches, as the ones of the words of its row.
-ghost use mathlib.Core.Path.{_≡_};
-ghost use Prim.Native.Nat.{_+_, _*_, _≤_, _<_};
+ghost use Prim.Native.Nat.{_*_, _≤_, _<_};
 ghost use lib.ListN.{length};
 ghost use Rattle.set_search.specs.Search.{Steps};
 ghost use Rattle.set_search.specs.Search as search;

@@ -1,6 +1,5 @@
 -- `build::checked` meets its contract, by the refusal of the input's rows. Assumes nothing.
 use mathlib.Core.Path.{sym, _∙_}
-use native.Mathlib.Omega.{arith}
 use borrow.Author.Needs.{needs}
 use Rattle.build.specs.BuildLaws.{gives-input}
 use Rattle.build.proofs.checked.Statement.{statement}

@@ -1,9 +1,6 @@
 -- `input_rows::judge` meets its contract, by what the passes found. Assumes nothing.
-use mathlib.Core.Path.{_≡_, sym, _∙_}
-use Prim.Native.Nat.{_≤_, _<_}
 use native.Mathlib.Omega.{arith}
 use borrow.Author.Needs.{needs}
-use Rattle.table_access.specs.Tables.{decls-of, lines-in}
 use Rattle.input_rows.specs.JudgingLaws.{judges-eight, asked-of, judges-rest}
 use Rattle.input_rows.proofs.judge.Statement.{statement}
 use Rattle.input_rows.proofs.judge.Tie as tie

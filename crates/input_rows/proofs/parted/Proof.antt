@@ -1,5 +1,5 @@
 -- `input_rows::parted` meets its contract: the parts of the sheet and of the memory as they are lent. Assumes nothing.
-use mathlib.Core.Path.{_≡_, refl, ap, sym, _∙_}
+use mathlib.Core.Path.{refl, ap, _∙_}
 use Prim.Native.Nat.{ℕ, _+_, _-_, _*_, _/_, _≤_}
 use lib.ListN.{length, take, drop}
 use native.Mathlib.Omega.{arith}

@@ -1,5 +1,5 @@
 -- `reach_index::reach_lines` meets its contract, by the refusal. Assumes nothing.
-use mathlib.Core.Path.{_≡_, refl, sym, _∙_}
+use mathlib.Core.Path.{refl, sym, _∙_}
 use native.Mathlib.Omega.{arith}
 use borrow.Author.Needs.{needs}
 use Rattle.reach_index.specs.IndexingLaws.{lists-all, lists-refused}

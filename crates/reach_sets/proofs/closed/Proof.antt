@@ -1,5 +1,4 @@
 -- `reach_sets::closed` meets its contract: the rows of steps, closed. Assumes nothing.
-use mathlib.Core.Path.{_∙_}
 use native.Mathlib.Omega.{arith}
 use borrow.Author.Needs.{needs}
 use Rattle.sheet.specs.Format.{base}
