@@ -1,16 +1,18 @@
-//! differential [--sheets N] [--seed S] [--only I] [--print I] [--planted FAULT]
+//! differential [--sheets N] [--seed S] [--only I] [--print I] [--planted FAULT] [--program PATH]
 //!
 //! Builds N generated sheets (100,000 if not said) with the product, or, where this program is built
 //! without it, with the reference's second way of resolving types, and compares every answer and every
 //! byte with the reference, and every word of the reach index. Every fifth sheet that can be cut is built in
 //! units too. Prints how many sheets met each code. At a difference it prints the smallest sheet that it
 //! finds by dropping lines, and ends with 1. With --planted the build has a fault that is to be found;
-//! --print writes sheet I.
+//! --print writes sheet I. With --program the sheets are given to the program `layout` or `reach` at that path, and what
+//! it prints is compared instead.
 
 use differential::planted::{Planted, FAULTS};
-use differential::run::{compare, Counts, Found};
+use differential::run::{compare, compare_program, Counts, Found};
 use differential::{sheet, Build};
 use std::io::Write;
+use std::path::PathBuf;
 use std::sync::atomic::{AtomicBool, AtomicU64, Ordering};
 
 struct Words {
@@ -19,10 +21,11 @@ struct Words {
     only: Option<u64>,
     print: Option<u64>,
     planted: Option<String>,
+    program: Option<PathBuf>,
 }
 
 fn words() -> Result<Words, String> {
-    let mut words = Words { sheets: 100_000, seed: 2026, only: None, print: None, planted: None };
+    let mut words = Words { sheets: 100_000, seed: 2026, only: None, print: None, planted: None, program: None };
     let mut args = std::env::args().skip(1);
     while let Some(word) = args.next() {
         let mut value = || args.next().ok_or(format!("{word} wants a value"));
@@ -33,6 +36,7 @@ fn words() -> Result<Words, String> {
             "--only" => words.only = Some(number(value()?)?),
             "--print" => words.print = Some(number(value()?)?),
             "--planted" => words.planted = Some(value()?),
+            "--program" => words.program = Some(PathBuf::from(value()?)),
             _ => return Err(format!("{word} is not known; faults to plant: {}", FAULTS.join(" "))),
         }
     }
@@ -70,7 +74,11 @@ fn main() {
             if index >= last {
                 break;
             }
-            if let Some(f) = compare(build.as_ref(), words.seed, index, &counts) {
+            let other = match &words.program {
+                Some(program) => compare_program(program, words.seed, index),
+                None => compare(build.as_ref(), words.seed, index, &counts),
+            };
+            if let Some(f) = other {
                 stop.store(true, Ordering::Relaxed);
                 found.push(f);
             }
@@ -83,16 +91,9 @@ fn main() {
         threads.into_iter().flat_map(|t| t.join().unwrap()).collect()
     });
     found.sort_by_key(|f| f.index);
-    for (code, count) in counts.codes.iter().enumerate() {
-        println!("code {code:2}  {:8} sheets", count.load(Ordering::Relaxed));
+    if words.program.is_none() {
+        counts.print();
     }
-    println!("pattern  {:8} sheets", counts.patterns.load(Ordering::Relaxed));
-    println!("reach    {:8} sheets", counts.reaching.load(Ordering::Relaxed));
-    println!(
-        "cut      {:8} sheets, into {} units",
-        counts.cut.load(Ordering::Relaxed),
-        counts.units.load(Ordering::Relaxed)
-    );
     let Some(f) = found.first() else {
         println!("no difference");
         return;

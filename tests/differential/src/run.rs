@@ -2,6 +2,9 @@
 
 use crate::random::Random;
 use crate::{call, cut, expected, sheet, shrink, Build, Call};
+use std::io::{Read, Write};
+use std::path::Path;
+use std::process::{Command, Stdio};
 use std::sync::atomic::{AtomicU64, Ordering};
 
 /// What was counted: sheets by code, sheets that end in a Q line, sheets in which one declaration reaches another or
@@ -13,6 +16,19 @@ pub struct Counts {
     pub reaching: AtomicU64,
     pub cut: AtomicU64,
     pub units: AtomicU64,
+}
+
+impl Counts {
+    pub fn print(&self) {
+        let sheets = |what: &str, count: &AtomicU64| println!("{what:8} {:8} sheets", count.load(Ordering::Relaxed));
+        for (code, count) in self.codes.iter().enumerate() {
+            sheets(&format!("code {code:2}"), count);
+        }
+        sheets("pattern", &self.patterns);
+        sheets("reach", &self.reaching);
+        sheets("cut", &self.cut);
+        println!("units    {:8}", self.units.load(Ordering::Relaxed));
+    }
 }
 
 /// A difference found.
@@ -65,4 +81,26 @@ pub fn compare(build: &dyn Build, seed: u64, index: u64, counts: &Counts) -> Opt
     };
     let words = format!("cut at lines {chosen:?}: {}", difference.words);
     Some(Found { index, words, small, bytes: one.sheet.len() })
+}
+
+/// What a program prints of a sheet on its standard input. It reads no more than a sheet may have.
+fn printed(program: &Path, sheet: &[u8]) -> Vec<u8> {
+    let mut child = Command::new(program).stdin(Stdio::piped()).stdout(Stdio::piped()).spawn().expect("the program");
+    let _ = child.stdin.take().unwrap().write_all(sheet);
+    let mut out = Vec::new();
+    child.stdout.take().unwrap().read_to_end(&mut out).expect("what it prints");
+    child.wait().expect("its end");
+    out
+}
+
+/// Sheet number `index`, given to the program `layout` or `reach`, and what it prints compared.
+pub fn compare_program(program: &Path, seed: u64, index: u64) -> Option<Found> {
+    let owed = if program.ends_with("reach") { reference::reach_program } else { reference::program };
+    let fails = |sheet: &[u8]| printed(program, sheet) != owed(sheet);
+    let bytes = sheet(seed, index);
+    if !fails(&bytes) {
+        return None;
+    }
+    let words = format!("{} prints something else", program.display());
+    Some(Found { index, words, small: shrink::shrink(&bytes, &fails), bytes: bytes.len() })
 }
