@@ -66,7 +66,7 @@ pub record Tailed (a z q : List ℕ) : Type 0 where
   pub few : length q ≤ 1536
   pub good : Good (count-of name-line (lines 6 a)) q
 
--- The table in the first r cells; what stands behind its room stays.
+-- The table in the first r cells, which are no more than its room.
 pub record Filled (b t t′ : List ℕ) (r : ℕ) : Type 0 where
   pub long : length t′ ≡ length t
   pub room : r ≤ 8 * count 6 b + 16
