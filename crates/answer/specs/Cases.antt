@@ -22,8 +22,8 @@ use Rattle.model.specs.Layout.{slots, kept, ctor-layout, ctor-layouts, first-ke
 use Rattle.model.specs.Resolve.{unfolded, abbreviation-of, unfold-body, unfold-dtype, unfold-of, unfolds, unfold-name, attach, instance, applied, resolve, bind, sized, within, surplus, checked-applied, checked, resolve-checked}
 use Rattle.model.specs.Run.{all-in, collapsed-abbrev, resolved-field, resolved-ctor, struct-body, rw-decl, record-body, record-verdict, record-of, info, somes, layouts-of, run, unfold-next, returns, field-types, resolves, fault-code, decl-fault}
 use Rattle.meaning.specs.Program.{name-line, verdict-line, select, before, groups, list-of, tree, trees-after, trees, field-of, ctor-of, body-of, dtype-of, keeps, keeps-of, ctor-layouts-by, layout-by, info-of, decl-of, program}
-use Rattle.meaning.specs.Rows.{announced, due-header, due, due-after, raw, raws, row3, params-after, row4, zeros-from, is-width, is-list, good-type, good-head, good-numbers, row5, equal, repeats, row6, last-head, kept-after, good-verdict, good-verdicts, row7}
-use Rattle.meaning.specs.Output.{fill-keeps, fill-verdict, all-slots, fill, fill-all, verdict-lines, put, emit, field-lines, ctor-lines, decl-frame, decl-lines, program-lines, left-lines}
+use Rattle.meaning.specs.Rows.{announced, due-header, due, due-after, raw, raws, row3, params-after, row4, zeros-from, is-width, is-list, good-type, good-head, good-numbers, row5, equal, repeats, row6, last-head, kept-after, ctors-after, good-verdict, good-verdicts, row7}
+use Rattle.meaning.specs.Output.{fill-third, fill-verdict, all-slots, fill, fill-all, verdict-lines, put, emit, field-lines, ctor-lines, decl-frame, decl-lines, program-lines, left-lines}
 use Rattle.model.specs.Names.{body-names, dtype-names}
 use Rattle.model.specs.Cases as C
 use Rattle.model.specs.Cases.{_gives_, Passed}
@@ -84,7 +84,7 @@ seen summary a =
 
 -- what the definitions give for a case's sheet, with outputs of 65,536 bytes
 unfoldable pub given : Case → List (List ℕ)
-unfolding codes pad joined split lettered-by line-r seen encode decode decodeNamed decodeRow cell spelling spaces proper padded lettered writes first lineAt line linesFrom lines encodes row1 step scan read shown write lengths append firsts others walk gather names-of-cty cty-vars size uninline zip look subst-cty has-flag ctors-of layout-number table position member close close-field close-body close-fields cty-erased fields-erased body-erased dtype-erased marked rule-of rule update sweep same round settle start-of start erasure-fixpoint go cyclic slots kept ctor-layout ctor-layouts first-kept newtype-of-ctor newtype-of candidate candidates positions type-names steps passes passed abbreviation-of guard-next dropped collapse layout-of-body layout-of compute-layouts unfold-body unfold-dtype unfold-of unfolds unfold-name attach instance applied resolve bind sized within surplus checked-applied checked resolve-checked all-in collapsed-abbrev resolved-field resolved-ctor struct-body rw-decl record-body record-verdict record-of info somes layouts-of run unfolded unfold-next returns field-types resolves fault-code decl-fault select before groups list-of tree trees-after trees field-of ctor-of body-of dtype-of keeps keeps-of ctor-layouts-by layout-by info-of decl-of program announced due-header due due-after raw raws row3 params-after row4 zeros-from is-width is-list good-type good-head good-numbers row5 equal repeats row6 last-head kept-after good-verdict good-verdicts row7 fill-keeps fill-verdict all-slots fill fill-all verdict-lines put emit field-lines ctor-lines decl-frame decl-lines program-lines left-lines row8 fault-at row9-10 verdict-sheet left-sheet sheet-rows program-rows output-rows refusal answered answer
+unfolding codes pad joined split lettered-by line-r seen encode decode decodeNamed decodeRow cell spelling spaces proper padded lettered writes first lineAt line linesFrom lines encodes row1 step scan read shown write lengths append firsts others walk gather names-of-cty cty-vars size uninline zip look subst-cty has-flag ctors-of layout-number table position member close close-field close-body close-fields cty-erased fields-erased body-erased dtype-erased marked rule-of rule update sweep same round settle start-of start erasure-fixpoint go cyclic slots kept ctor-layout ctor-layouts first-kept newtype-of-ctor newtype-of candidate candidates positions type-names steps passes passed abbreviation-of guard-next dropped collapse layout-of-body layout-of compute-layouts unfold-body unfold-dtype unfold-of unfolds unfold-name attach instance applied resolve bind sized within surplus checked-applied checked resolve-checked all-in collapsed-abbrev resolved-field resolved-ctor struct-body rw-decl record-body record-verdict record-of info somes layouts-of run unfolded unfold-next returns field-types resolves fault-code decl-fault select before groups list-of tree trees-after trees field-of ctor-of body-of dtype-of keeps keeps-of ctor-layouts-by layout-by info-of decl-of program announced due-header due due-after raw raws row3 params-after row4 zeros-from is-width is-list good-type good-head good-numbers row5 equal repeats row6 last-head kept-after ctors-after good-verdict good-verdicts row7 fill-third fill-verdict all-slots fill fill-all verdict-lines put emit field-lines ctor-lines decl-frame decl-lines program-lines left-lines row8 fault-at row9-10 verdict-sheet left-sheet sheet-rows program-rows output-rows refusal answered answer
 given c = seen (c .view) (answer base (joined (map bytes (c .sheet))) 65536 65536)
 
 unfoldable pub expected : Case → List (List ℕ)

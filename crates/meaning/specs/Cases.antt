@@ -14,10 +14,10 @@ use Rattle.model.specs.Cty.{Cty, TUnit, TAny, TExn, TVar, TInt, TFloat, TConst,
 use Rattle.model.specs.Decl.{TAbstract, TAbbrev, TRecord, TVariant, Dtype, ctors-of, layout-number, L-erased, L-struct, L-abbrev, L-opaque, TypeInfo, Decl, table, member, close, close-field, close-body, close-fields}
 use Rattle.model.specs.Erasure.{cty-erased}
 use Rattle.model.specs.Layout.{kept, ctor-layout, first-kept, newtype-of-ctor, newtype-of, collapse}
-use Rattle.model.specs.Cases.{Case, _gives_, Passed, list, app, tuple, field, ctor, decl, import, laid, newt, verdict}
+use Rattle.model.specs.Cases.{Case, _gives_, Passed, list, app, tuple, field, ctor, decl, import, laid, tagged, newt, verdict}
 use Rattle.meaning.specs.Program.{select, before, groups, list-of, tree, trees-after, trees, field-of, ctor-of, body-of, dtype-of, keeps, keeps-of, ctor-layouts-by, layout-by, info-of, decl-of, program}
-use Rattle.meaning.specs.Rows.{raw, raws, announced, due-header, due, due-after, row3, params-after, row4, zeros-from, is-width, is-list, good-type, good-head, good-numbers, row5, equal, repeats, row6, last-head, kept-after, good-verdict, good-verdicts, row7}
-use Rattle.meaning.specs.Output.{fill-keeps, fill-verdict, all-slots, fill, fill-all, verdict-lines, verdict-line-of, put, emit, field-lines, ctor-lines, decl-frame, decl-lines, program-lines, left-lines}
+use Rattle.meaning.specs.Rows.{raw, raws, announced, due-header, due, due-after, row3, params-after, row4, zeros-from, is-width, is-list, good-type, good-head, good-numbers, row5, equal, repeats, row6, last-head, kept-after, ctors-after, good-verdict, good-verdicts, row7}
+use Rattle.meaning.specs.Output.{fill-third, fill-verdict, all-slots, fill, fill-all, verdict-lines, verdict-line-of, put, emit, field-lines, ctor-lines, decl-frame, decl-lines, program-lines, left-lines}
 
 -- ---- how a sheet is written
 -- Lines by their letters, with the numbers that the letter has; names are spelled a, b, c ..
@@ -39,8 +39,12 @@ I n flags kind params last = row 73 (n ∷ flags ∷ kind ∷ params ∷ last �
 abbrev pub P : ℕ → Line
 P n = row 80 (n ∷ 0 ∷ 0 ∷ 0 ∷ 0 ∷ [])
 
+abbrev pub Ct : ℕ → ℕ → ℕ → Line
+Ct n fields tag = row 67 (n ∷ fields ∷ tag ∷ 0 ∷ 0 ∷ [])
+
+-- the C line of a local declaration, or of a single constructor
 abbrev pub C : ℕ → ℕ → Line
-C n fields = row 67 (n ∷ fields ∷ 0 ∷ 0 ∷ 0 ∷ [])
+C n fields = Ct n fields 0
 
 abbrev pub F : ℕ → ℕ → ℕ → Line
 F n t keep = row 70 (n ∷ t ∷ keep ∷ 0 ∷ 0 ∷ [])
@@ -66,13 +70,18 @@ unfolding types program decl-of info-of layout-by ctor-layouts-by keeps-of keeps
 declared = program
 
 unfoldable pub verdicts : List Line → List TypeInfo → List Line
-unfolding verdict-lines before groups fill-all fill fill-keeps fill-verdict all-slots layout-number
+unfolding verdict-lines before groups fill-all fill fill-third fill-verdict all-slots layout-number
 verdicts = verdict-lines
 
--- the same of one line, in a declaration that begins with line h and is a struct with a record number; of names 7 alone is erased
-unfoldable pub told : Line → Line → Line
+-- the same of one line, in a declaration that begins with line h and is a struct with a record number, after k C lines; of names 7
+-- alone is erased
+unfoldable pub told-after : ℕ → Line → Line → Line
 unfolding verdict-line-of cty-erased layout-number
-told h l = verdict-line-of (λ n. eqb n 7) (TUnit ∷ int ∷ app 7 [] ∷ app 8 [] ∷ []) (verdict false (L-struct []) [] true) h l
+told-after k h l = verdict-line-of (λ n. eqb n 7) (TUnit ∷ int ∷ app 7 [] ∷ app 8 [] ∷ []) (verdict false (L-struct []) [] true) h k l
+
+-- of the first C line, or of another
+abbrev pub told : Line → Line → Line
+told = told-after 0
 
 unfoldable pub left : List Line → List Dtype → List Line
 unfolding left-lines program-lines decl-lines decl-frame ctor-lines field-lines emit put select
@@ -118,7 +127,7 @@ unfolding row6 repeats equal select first
 place6 ls = first (row6 ls) (length ls)
 
 unfoldable pub place7 : List Line → ℕ
-unfolding row7 good-verdicts good-verdict kept-after last-head first
+unfolding row7 good-verdicts good-verdict kept-after ctors-after last-head first
 place7 ls = first (row7 ls) (length ls)
 
 -- ---- the program
@@ -219,10 +228,11 @@ program-cases =
     ∷ import (decl 6 0 [] (TAbbrev int)) (verdict false (L-abbrev int) [] false)
     ∷ import (decl 5 0 [] TAbstract) (verdict false L-opaque [] false)
     ∷ [])
-    -- an import of two constructors; and layouts that row 7 refuses: a newtype of none, an abbreviation of an abstract type
-    ∷ declared (Y 4 0 32 0 ∷ I 8 0 3 0 2 ∷ C 20 1 ∷ F 30 0 1 ∷ C 21 1 ∷ F 30 0 0 ∷ Vn 0 2 0 ∷ I 7 0 3 0 0 ∷ Vn 0 1 0 ∷ I 6 0 0 0 0 ∷ Vn 0 3 0 ∷ [])
+    -- an import of two constructors, with the tags of its lines; and layouts that row 7 refuses: a newtype of none, an abbreviation of
+    -- an abstract type
+    ∷ declared (Y 4 0 32 0 ∷ I 8 0 3 0 2 ∷ Ct 20 1 5 ∷ F 30 0 1 ∷ C 21 1 ∷ F 30 0 0 ∷ Vn 0 2 0 ∷ I 7 0 3 0 0 ∷ Vn 0 1 0 ∷ I 6 0 0 0 0 ∷ Vn 0 3 0 ∷ [])
     gives (import (decl 8 0 [] (TVariant (ctor 20 (field 30 int ∷ []) ∷ ctor 21 (field 30 int ∷ []) ∷ [])))
-    (let cls = laid 20 (true ∷ []) (field 30 int ∷ []) ∷ laid 21 (false ∷ []) [] ∷ [] in verdict false (L-struct cls) cls false)
+    (let cls = tagged 4 20 (true ∷ []) (field 30 int ∷ []) ∷ laid 21 (false ∷ []) [] ∷ [] in verdict false (L-struct cls) cls false)
     ∷ import (decl 7 0 [] (TVariant [])) (verdict false (L-struct []) [] false)
     ∷ import (decl 6 0 [] TAbstract) (verdict false L-opaque [] false)
     ∷ [])
@@ -354,7 +364,7 @@ row5-cases =
     ∷ place5 (N 0 ∷ P 1 ∷ []) gives 1
     ∷ place5 (N 0 ∷ row 80 (0 ∷ 1 ∷ 0 ∷ 0 ∷ 0 ∷ []) ∷ []) gives 1
     ∷ place5 (N 0 ∷ C 1 0 ∷ []) gives 1
-    ∷ place5 (N 0 ∷ row 67 (0 ∷ 0 ∷ 1 ∷ 0 ∷ 0 ∷ []) ∷ []) gives 1
+    ∷ place5 (N 0 ∷ Ct 0 0 9 ∷ row 67 (0 ∷ 0 ∷ 0 ∷ 1 ∷ 0 ∷ []) ∷ []) gives 2
     ∷ place5 (N 0 ∷ Y 0 0 0 0 ∷ F 1 0 0 ∷ []) gives 2
     ∷ place5 (N 0 ∷ Y 0 0 0 0 ∷ F 0 1 0 ∷ []) gives 2
     ∷ place5 (N 0 ∷ Y 0 0 0 0 ∷ row 70 (0 ∷ 0 ∷ 0 ∷ 1 ∷ 0 ∷ []) ∷ []) gives 2
@@ -409,6 +419,17 @@ row7-cases =
     ∷ place7 (D 0 0 0 0 0 ∷ Vn 0 4 0 ∷ []) gives 1
     ∷ place7 (D 0 0 0 0 0 ∷ Vn 0 0 1 ∷ []) gives 1
     ∷ place7 (I 0 0 2 0 1 ∷ F 1 0 1 ∷ Vn 0 1 0 ∷ D 0 0 2 0 1 ∷ F 1 0 1 ∷ V0 ∷ []) gives 4
+    -- tags: none in a local declaration or of a single constructor, else places plus one, counted in each declaration
+    ∷ place7 (D 0 0 3 0 2 ∷ C 1 0 ∷ C 2 0 ∷ V0 ∷ []) gives 4
+    ∷ place7 (D 0 0 3 0 2 ∷ Ct 1 0 1 ∷ Ct 2 0 2 ∷ V0 ∷ []) gives 1
+    ∷ place7 (D 0 0 3 0 1 ∷ Ct 1 0 1 ∷ V0 ∷ []) gives 1
+    ∷ place7 (I 0 0 3 0 1 ∷ C 1 0 ∷ Vn 0 2 0 ∷ []) gives 3
+    ∷ place7 (I 0 0 3 0 1 ∷ Ct 1 0 1 ∷ Vn 0 2 0 ∷ []) gives 1
+    ∷ place7 (I 0 0 3 0 2 ∷ Ct 1 1 1 ∷ F 1 0 1 ∷ Ct 2 0 2 ∷ Vn 0 2 0 ∷ I 3 0 3 0 3 ∷ Ct 4 0 1 ∷ Ct 5 0 2 ∷ Ct 6 0 3 ∷ Vn 1 0 0 ∷ []) gives 10
+    ∷ place7 (I 0 0 3 0 2 ∷ C 1 0 ∷ C 2 0 ∷ Vn 0 2 0 ∷ []) gives 1
+    ∷ place7 (I 0 0 3 0 2 ∷ Ct 1 0 1 ∷ Ct 2 0 1 ∷ Vn 0 2 0 ∷ []) gives 2
+    ∷ place7 (I 0 0 3 0 2 ∷ Ct 1 0 1 ∷ Ct 2 0 3 ∷ Vn 0 2 0 ∷ []) gives 2
+    ∷ place7 (I 0 0 3 0 2 ∷ Ct 1 1 2 ∷ F 1 0 7 ∷ Ct 2 0 2 ∷ Vn 0 2 0 ∷ []) gives 1
     -- an import's keep, erased, record and layout
     ∷ place7 (import-of 3 1 1 (Vn 0 2 1)) gives 5
     ∷ place7 (import-of 3 1 2 (Vn 0 2 1)) gives 3
@@ -421,8 +442,8 @@ row7-cases =
     -- a newtype has one constructor, or is a record, and one kept field of its own
     ∷ place7 (import-of 3 1 0 (Vn 0 1 0)) gives 5
     ∷ place7 (import-of 3 1 1 (Vn 0 1 0)) gives 4
-    ∷ place7 (import-of 3 2 0 (Vn 0 1 0)) gives 4
-    ∷ place7 (import-of 2 2 0 (Vn 0 1 0)) gives 5
+    ∷ place7 (I 0 0 3 0 2 ∷ Ct 1 2 1 ∷ F 2 0 1 ∷ F 3 0 0 ∷ Vn 0 1 0 ∷ []) gives 4
+    ∷ place7 (I 0 0 2 0 2 ∷ F 2 0 1 ∷ F 3 0 0 ∷ Vn 0 1 0 ∷ []) gives 4
     ∷ place7 (import-of 1 1 0 (Vn 0 1 0)) gives 4
     ∷ place7 (I 0 0 2 0 1 ∷ F 1 0 1 ∷ Vn 0 1 0 ∷ I 1 0 2 0 1 ∷ F 1 0 1 ∷ Vn 0 1 0 ∷ []) gives 6
     ∷ place7 (I 0 0 2 0 1 ∷ F 1 0 0 ∷ Vn 0 1 0 ∷ []) gives 2
@@ -444,7 +465,7 @@ unfoldable pub verdict-cases : List (Case (List Line))
 unfolding verdicts
 verdict-cases =
     verdicts (N 0 ∷ Y 1 0 0 0 ∷ []) [] gives (N 0 ∷ Y 1 0 0 0 ∷ [])
-    -- a local declaration with D made I, its keeps and its V; an import as it was
+    -- a local declaration with D made I, its tags, its keeps and its V; an import as it was
     ∷ verdicts (N 0
     ∷ A 0
     ∷ Y 1 0 0 0
@@ -462,7 +483,7 @@ verdict-cases =
     ∷ D 7 0 0 0 0
     ∷ V0
     ∷ [])
-    (verdict false (L-struct []) (laid 20 (true ∷ false ∷ []) [] ∷ laid 21 (true ∷ []) [] ∷ []) true
+    (verdict false (L-struct []) (tagged 4 20 (true ∷ false ∷ []) [] ∷ laid 21 (true ∷ []) [] ∷ []) true
     ∷ verdict true L-erased (laid 8 (false ∷ []) [] ∷ []) false
     ∷ verdict true L-opaque [] false
     ∷ [])
@@ -471,7 +492,7 @@ verdict-cases =
     ∷ Y 1 0 0 0
     ∷ I 9 2 3 1 2
     ∷ P 5
-    ∷ C 20 2
+    ∷ Ct 20 2 5
     ∷ F 30 1 1
     ∷ F 31 2 0
     ∷ C 21 1
@@ -490,19 +511,22 @@ unfolding verdict-cases
 verdicts-filled = refl
 
 unfoldable pub told-cases : List (Case Line)
-unfolding told list
+unfolding told-after list
 told-cases =
     -- a line of the header, which no declaration has, and an import's lines: as they are
     told bad (N 0) gives N 0
     ∷ told (I 9 0 2 0 2) (I 9 0 2 0 2) gives I 9 0 2 0 2
     ∷ told (I 9 0 2 0 2) (F 30 0 1) gives F 30 0 1
     ∷ told (I 9 0 2 0 2) (F 31 1 0) gives F 31 1 0
+    ∷ told (I 9 0 3 0 2) (Ct 20 4 2) gives Ct 20 4 2
     ∷ told (I 9 0 2 0 2) (Vn 0 1 0) gives Vn 0 1 0
     -- a local declaration's D line
     ∷ told (D 9 2 3 1 2) (D 9 2 3 1 2) gives I 9 2 3 1 2
-    -- its P and C lines
+    -- its P lines, and its C lines: tags of two, and none of one
     ∷ told (D 9 2 3 1 2) (P 5) gives P 5
-    ∷ told (D 9 2 3 1 2) (C 20 4) gives C 20 4
+    ∷ told (D 9 2 3 1 2) (C 20 4) gives Ct 20 4 1
+    ∷ told-after 1 (D 9 2 3 1 2) (C 21 4) gives Ct 21 4 2
+    ∷ told (D 9 2 3 1 1) (C 20 4) gives C 20 4
     -- its F lines: of the types unit and 7, erased, and of int and 8, kept
     ∷ told (D 9 2 3 1 2) (F 30 0 0) gives F 30 0 0
     ∷ told (D 9 2 3 1 2) (F 31 1 0) gives F 31 1 1

@@ -8,8 +8,9 @@ use lib.ListN.{length}
 use Rattle.number_columns.specs.Column.{_⇒_∥_, pick}
 use Rattle.sheet.specs.Line.{Line, row, number}
 use Rattle.model.specs.Cty.{Cty, Ctys, TUnit, TAny, TExn, TVar, TInt, TFloat, TConst, TArrow, TApp, TTuple, TBuf, TRef, TInline, nil, cons}
-use Rattle.model.specs.Decl.{Field, Ctor, Body, TAbstract, TAbbrev, TRecord, TVariant, Dtype, CtorLayout, TypeInfo, bit, layout-number}
+use Rattle.model.specs.Decl.{Field, Ctor, Body, TAbstract, TAbbrev, TRecord, TVariant, Dtype, CtorLayout, TypeInfo, bit, tag-number, layout-number}
 use Rattle.model.specs.Erasure.{cty-erased}
+use Rattle.model.specs.Layout.{ctor-tag}
 use Rattle.meaning.specs.Program.{
   type-at,
   name-line,
@@ -30,15 +31,22 @@ use Rattle.meaning.specs.Program.{
 }
 
 -- ---- the verdict sheet
--- keep numbers put into the F lines
-unfoldable pub fill-keeps : List Bool → List Line → List Line
-fill-keeps bs [] = []
-fill-keeps [] (l ∷ ls) = l ∷ fill-keeps [] ls
-fill-keeps (b ∷ bs) (l ∷ ls) =
-    elim (is field-line l) [
-      | true ↦ row field-line (number l 0 ∷ number l 1 ∷ bit b ∷ 0 ∷ 0 ∷ []) ∷ fill-keeps bs ls
-      | false ↦ l ∷ fill-keeps (b ∷ bs) ls
+-- a number for each line of letter x, put in as its third
+unfoldable pub fill-third : ℕ → List ℕ → List Line → List Line
+fill-third x ns [] = []
+fill-third x [] (l ∷ ls) = l ∷ fill-third x [] ls
+fill-third x (n ∷ ns) (l ∷ ls) =
+    elim (is x l) [
+      | true ↦ row x (number l 0 ∷ number l 1 ∷ n ∷ 0 ∷ 0 ∷ []) ∷ fill-third x ns ls
+      | false ↦ l ∷ fill-third x (n ∷ ns) ls
     ]
+
+-- keep numbers put into the F lines, and tags into the C lines
+abbrev pub fill-keeps : List Bool → List Line → List Line
+fill-keeps bs = fill-third field-line (map bit bs)
+
+abbrev pub fill-tags : List CtorLayout → List Line → List Line
+fill-tags cls = fill-third ctor-line (map (λ cl. tag-number (cl .cl-tag)) cls)
 
 -- the verdict put into the V line
 unfoldable pub fill-verdict : TypeInfo → List Line → List Line
@@ -49,14 +57,14 @@ unfoldable pub all-slots : List CtorLayout → List Bool
 all-slots [] = []
 all-slots (cl ∷ cls) = cl .cl-slots ++ all-slots cls
 
--- A local declaration with D made I, its keeps and its V filled; an import's lines as they are.
+-- A local declaration with D made I, its keeps, its V and its tags filled; an import's lines as they are.
 unfoldable pub fill : Group → TypeInfo → List Line
 fill g ti =
     elim (is import-line (g .head)) [
       | true ↦ g .head ∷ g .rest
       | false ↦
           row import-line (map (number (g .head)) (0 ∷ 1 ∷ 2 ∷ 3 ∷ 4 ∷ []))
-          ∷ fill-verdict ti (fill-keeps (all-slots (ti .ti-ctors)) (g .rest))
+          ∷ fill-tags (ti .ti-ctors) (fill-verdict ti (fill-keeps (all-slots (ti .ti-ctors)) (g .rest)))
     ]
 
 unfoldable pub fill-all : List Group → List TypeInfo → List Line
@@ -68,12 +76,14 @@ unfoldable pub verdict-lines : List Line → List TypeInfo → List Line
 verdict-lines ls tis = before is-head ls ++ fill-all (groups is-head ls) tis
 
 -- The same line by line, which is what is claimed of it. Of a declaration that begins with line h and has
--- the verdict ti, line l: an import's stays, and so does a line of the header. D becomes I, an F line's keep
--- is 1 where its type is not erased (`er` says which names are), and V has the verdict's numbers.
-unfoldable pub verdict-line-of : (ℕ → Bool) → List Cty → TypeInfo → Line → Line → Line
-verdict-line-of er ts ti h l =
+-- the verdict ti, line l with k C lines before it: an import's stays, and so does a line of the header. D
+-- becomes I, a C line has the tag of constructor k, of as many as the declaration's last number says, an F
+-- line's keep is 1 where its type is not erased (`er` says which names are), and V has the verdict's numbers.
+unfoldable pub verdict-line-of : (ℕ → Bool) → List Cty → TypeInfo → Line → ℕ → Line → Line
+verdict-line-of er ts ti h k l =
     not (is local-line h) ⇒ l ∥
     is-head l ⇒ row import-line (map (number l) (0 ∷ 1 ∷ 2 ∷ 3 ∷ 4 ∷ [])) ∥
+    is ctor-line l ⇒ row ctor-line (number l 0 ∷ number l 1 ∷ tag-number (ctor-tag (number h 4) k) ∷ 0 ∷ 0 ∷ []) ∥
     is field-line l ⇒ row field-line (number l 0 ∷ number l 1 ∷ bit (not (cty-erased er (type-at ts (number l 1)))) ∷ 0 ∷ 0 ∷ []) ∥
     is verdict-line l ⇒ row verdict-line (bit (ti .ti-erased) ∷ layout-number (ti .ti-layout) ∷ bit (ti .ti-record) ∷ 0 ∷ 0 ∷ []) ∥
     l

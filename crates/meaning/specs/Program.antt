@@ -2,6 +2,7 @@
 -- list of lines, and meant for those that pass rows 2 to 7. Assumes nothing.
 use mathlib.Core.List.{List, [], _∷_, _++_, map}
 use mathlib.Core.Bool.{Bool, false, _||_, not}
+use mathlib.Core.Option.{Option, none, some}
 use Prim.Native.Nat.{ℕ, zero, suc, _+_}
 use lib.Dec.{eqb}
 use lib.ListN.{getD}
@@ -160,10 +161,19 @@ keeps-of (TAbbrev c) ls = []
 keeps-of (TRecord fs) ls = keeps ls ∷ []
 keeps-of (TVariant cs) ls = map (λ g. keeps (g .rest)) (groups (is ctor-line) ls)
 
-unfoldable pub ctor-layouts-by : List Ctor → List (List Bool) → List CtorLayout
-ctor-layouts-by [] bss = []
-ctor-layouts-by (c ∷ cs) [] = []
-ctor-layouts-by (c ∷ cs) (bs ∷ bss) = ctor-layout c bs ∷ ctor-layouts-by cs bss
+-- the tag that the third number of a C line stands for: 0 for none, else one more than the tag
+abbrev pub tag-of : ℕ → Option ℕ
+tag-of zero = none
+tag-of (suc i) = some i
+
+-- the tag of each constructor, by its place, from the C lines; a record has none
+abbrev pub tags : List Line → ℕ → Option ℕ
+tags ls i = tag-of (number (getD (select ctor-line ls) i bad) 2)
+
+unfoldable pub ctor-layouts-by : (ℕ → Option ℕ) → List Ctor → List (List Bool) → List CtorLayout
+ctor-layouts-by tag [] bss = []
+ctor-layouts-by tag (c ∷ cs) [] = []
+ctor-layouts-by tag (c ∷ cs) (bs ∷ bss) = ctor-layout (tag 0) c bs ∷ ctor-layouts-by (λ i. tag (suc i)) cs bss
 
 abbrev pub abbreviated : Body → Layout
 abbreviated TAbstract = L-opaque
@@ -182,7 +192,7 @@ layout-by n b cls =
 
 unfoldable pub info-of : Dtype → List Line → Line → TypeInfo
 info-of d ls v =
-    let cls : List CtorLayout = ctor-layouts-by (ctors-of-tydef d) (keeps-of (d .dt-body) ls) in
+    let cls : List CtorLayout = ctor-layouts-by (tags ls) (ctors-of-tydef d) (keeps-of (d .dt-body) ls) in
     record {
       ti-erased = eqb (number v 0) 1;
       ti-layout = layout-by (number v 1) (d .dt-body) cls;

@@ -9,7 +9,8 @@ use Rattle.number_columns.specs.Column.{pick, _⇒_∥_}
 use Rattle.sheet.specs.Format.{Format}
 use Rattle.sheet.specs.Line.{Line, row, bad, cell, value, number, text}
 use Rattle.sheet.specs.Sheet.{first, lineAt, count}
-use Rattle.model.specs.Decl.{table}
+use Rattle.model.specs.Decl.{tag-number, table}
+use Rattle.model.specs.Layout.{ctor-tag}
 use Rattle.meaning.specs.declared.Due.{Due}
 use Rattle.meaning.specs.declared.Due.the-variants.{Header, Within, Broken}
 use Rattle.meaning.specs.Program.{
@@ -170,7 +171,7 @@ good-numbers ls i =
     is type-line l ⇒ good-type names (map (λ a. number a 0) (select arg-line ls)) (count-before type-line ls i) l ∥
     is-head l ⇒ good-head names types l ∥
     is param-line l ⇒ ltb (number l 0) names && zeros-from 1 l ∥
-    is ctor-line l ⇒ ltb (number l 0) names && zeros-from 2 l ∥
+    is ctor-line l ⇒ ltb (number l 0) names && zeros-from 3 l ∥
     is field-line l ⇒ ltb (number l 0) names && ltb (number l 1) types && zeros-from 3 l ∥
     zeros-from 3 l
 
@@ -224,6 +225,16 @@ unfoldable pub kept-after : ℕ → List Line → ℕ
 kept-after n [] = n
 kept-after n (l ∷ ls) = kept-after (pick (is-head l) 0 (pick (is field-line l && not (eqb (number l 2) 0)) (suc n) n)) ls
 
+-- how many C lines of the declaration stand before line i
+unfoldable pub ctors-after : ℕ → List Line → ℕ
+ctors-after n [] = n
+ctors-after n (l ∷ ls) = ctors-after (pick (is-head l) 0 (pick (is ctor-line l) (suc n) n)) ls
+
+-- the third number of a C line with k before it, in the declaration that begins with line h: an import's is the tag's, of as
+-- many constructors as its last number says
+abbrev pub tag-in : Line → ℕ → ℕ
+tag-in h k = pick (is import-line h) (tag-number (ctor-tag (number h 4) k)) 0
+
 -- a record, or a variant of one constructor
 abbrev pub one-ctor : Line → Bool
 one-ctor h = eqb (number h 2) 2 || (eqb (number h 2) 3 && eqb (number h 4) 1)
@@ -244,6 +255,7 @@ unfoldable pub good-verdicts : List Line → ℕ → Bool
 good-verdicts ls i =
     let l : Line = line-at ls i in
     let h : Line = head-of ls i in
+    is ctor-line l ⇒ eqb (number l 2) (tag-in h (ctors-after 0 (take i ls))) ∥
     is field-line l ⇒ leb (number l 2) (pick (is import-line h) 1 0) ∥
     is verdict-line l && is import-line h ⇒ good-verdict h (kept-after 0 (take i ls)) l ∥
     is verdict-line l ⇒ eqb (number l 0) 0 && eqb (number l 1) 0 && eqb (number l 2) 0 ∥

@@ -184,7 +184,11 @@ wrap n c = decl n 0 [] (one A (field x c ∷ []))
 
 -- verdicts
 abbrev pub laid : ℕ → List Bool → List Field → CtorLayout
-laid n bs fs = record { cl-name = n; cl-slots = bs; cl-fields = fs }
+laid n bs fs = record { cl-name = n; cl-tag = none; cl-slots = bs; cl-fields = fs }
+
+-- one of several, with its tag
+abbrev pub tagged : ℕ → ℕ → List Bool → List Field → CtorLayout
+tagged i n bs fs = record { cl-name = n; cl-tag = some i; cl-slots = bs; cl-fields = fs }
 
 abbrev pub newt : ℕ → ℕ → ℕ → Cty → Layout
 newt n f i c = L-newtype (record { nt-ctor = n; nt-field = f; nt-index = i; nt-ty = c })
@@ -559,7 +563,11 @@ ctor-cases =
     ∷ laid-out (TRecord (field x TUnit ∷ field y int ∷ field z (name e) ∷ []))
     gives (laid t (false ∷ true ∷ false ∷ []) (field y int ∷ []) ∷ [])
     ∷ laid-out (TVariant (ctor A (field x int ∷ field y TUnit ∷ field z (name l) ∷ []) ∷ ctor B [] ∷ []))
-    gives (laid A (true ∷ false ∷ true ∷ []) (field x int ∷ field z (name l) ∷ []) ∷ laid B [] [] ∷ [])
+    gives (tagged 0 A (true ∷ false ∷ true ∷ []) (field x int ∷ field z (name l) ∷ []) ∷ tagged 1 B [] [] ∷ [])
+    -- tags: none of a single constructor, else places from 0
+    ∷ laid-out (TVariant []) gives []
+    ∷ laid-out (one A []) gives (laid A [] [] ∷ [])
+    ∷ laid-out (TVariant (ctor B [] ∷ ctor A [] ∷ ctor z [] ∷ [])) gives (tagged 0 B [] [] ∷ tagged 1 A [] [] ∷ tagged 2 z [] [] ∷ [])
     ∷ []
 
 pub constructors-laid-out : Passed ctor-cases
@@ -591,7 +599,7 @@ layout-cases =
     ∷ layouts (several (field x int ∷ field y TUnit ∷ field z TExn ∷ []) ∷ [])
     gives (L-struct (laid A (true ∷ false ∷ true ∷ []) (field x int ∷ field z TExn ∷ []) ∷ []) ∷ [])
     ∷ layouts (decl t 0 [] (TVariant (ctor A (field x int ∷ []) ∷ ctor B [] ∷ [])) ∷ [])
-    gives (L-struct (laid A (true ∷ []) (field x int ∷ []) ∷ laid B [] [] ∷ []) ∷ [])
+    gives (L-struct (tagged 0 A (true ∷ []) (field x int ∷ []) ∷ tagged 1 B [] [] ∷ []) ∷ [])
     ∷ layouts (decl t Realized [] (one A []) ∷ []) gives (L-struct (laid A [] [] ∷ []) ∷ [])
     -- flags
     ∷ layouts (decl t NoNewtype [] (one A (field x int ∷ [])) ∷ []) gives (struct int ∷ [])
@@ -940,7 +948,7 @@ run-cases =
     gives record {
       rounds = 2;
       infos =
-          let cls : List CtorLayout = laid A (false ∷ true ∷ []) (field y (name w) ∷ []) ∷ laid B [] [] ∷ [] in
+          let cls : List CtorLayout = tagged 0 A (false ∷ true ∷ []) (field y (name w) ∷ []) ∷ tagged 1 B [] [] ∷ [] in
           verdict true L-erased [] false
           ∷ verdict false (L-struct cls) cls false
           ∷ verdict false (newt A x 0 int) (laid A (true ∷ []) (field x int ∷ []) ∷ []) false

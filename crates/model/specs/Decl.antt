@@ -2,6 +2,7 @@
 -- Assumes nothing.
 use mathlib.Core.List.{List, [], _∷_, map}
 use mathlib.Core.Bool.{Bool, true, false}
+use mathlib.Core.Option.{Option, none, some}
 use Prim.Native.Nat.{ℕ, zero, suc, _/_, _%_}
 use lib.Dec.{eqb}
 use lib.ListN.{getD}
@@ -63,9 +64,11 @@ abbrev pub ctors-of-tydef : Dtype → List Ctor
 ctors-of-tydef d = ctors-of (d .dt-name) (d .dt-body)
 
 -- ---- verdicts
--- One slot for each field of the declaration, true where it is kept, and the kept fields (`cl_arity` is their number).
+-- The tag, none where the type has a single constructor; one slot for each field of the declaration, true where it is kept; and the
+-- kept fields (`cl_arity` is their number).
 pub record CtorLayout : Type 0 where
   pub cl-name : ℕ
+  pub cl-tag : Option ℕ
   pub cl-slots : List Bool
   pub cl-fields : List Field
 
@@ -82,10 +85,14 @@ pub data Layout : Type 0 where
   L-abbrev : Cty → Layout
   L-opaque : Layout
 
--- the number of a mark, and of a layout (FORMAT, section 2)
+-- the number of a mark, of a tag, and of a layout (FORMAT, section 2)
 abbrev pub bit : Bool → ℕ
 bit true = 1
 bit false = 0
+
+abbrev pub tag-number : Option ℕ → ℕ
+tag-number none = 0
+tag-number (some i) = suc i
 
 unfoldable pub layout-number : Layout → ℕ
 layout-number L-erased = 0

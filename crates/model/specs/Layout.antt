@@ -5,7 +5,7 @@ use mathlib.Core.List.{List, [], _∷_, map}
 use mathlib.Core.Bool.{Bool, true, false, _||_, not}
 use mathlib.Core.Option.{Option, none, some}
 use Prim.Native.Nat.{ℕ, suc}
-use lib.Dec.{ltb}
+use lib.Dec.{eqb, ltb}
 use lib.ListN.{length, getD}
 use Rattle.number_columns.specs.Column.{pick}
 use Rattle.model.specs.Cty.{Cty, uninline, names-of-cty}
@@ -52,16 +52,20 @@ kept [] fs = []
 kept (b ∷ bs) [] = []
 kept (b ∷ bs) (f ∷ fs) = let gs : List Field = kept bs fs in pick b (f ∷ gs) gs
 
-unfoldable pub ctor-layout : Ctor → List Bool → CtorLayout
-ctor-layout c bs = record { cl-name = c .ct-name; cl-slots = bs; cl-fields = kept bs (c .ct-fields) }
+unfoldable pub ctor-layout : Option ℕ → Ctor → List Bool → CtorLayout
+ctor-layout tag c bs = record { cl-name = c .ct-name; cl-tag = tag; cl-slots = bs; cl-fields = kept bs (c .ct-fields) }
 
--- the layouts of constructors, by their places
-abbrev pub layouts-of-ctors : (ℕ → Bool) → List Ctor → List CtorLayout
-layouts-of-ctors er cs = table (λ i. ctor-layout (getD cs i no-ctor) (slots er (getD cs i no-ctor .ct-fields))) (length cs)
+-- the tag of constructor i of n: none of a single one, else its place
+abbrev pub ctor-tag : ℕ → ℕ → Option ℕ
+ctor-tag n i = pick (eqb n 1) none (some i)
+
+-- the layouts of constructors, by their places, where `tag` has the tag of each place
+abbrev pub layouts-of-ctors : (ℕ → Bool) → (ℕ → Option ℕ) → List Ctor → List CtorLayout
+layouts-of-ctors er tag cs = table (λ i. ctor-layout (tag i) (getD cs i no-ctor) (slots er (getD cs i no-ctor .ct-fields))) (length cs)
 
 -- Layout's `ctor_layouts`
 unfoldable pub ctor-layouts : (ℕ → Bool) → Dtype → List CtorLayout
-ctor-layouts er d = layouts-of-ctors er (ctors-of-tydef d)
+ctor-layouts er d = let cs : List Ctor = ctors-of-tydef d in layouts-of-ctors er (ctor-tag (length cs)) cs
 
 -- ---- newtypes
 -- the place of the first kept field
