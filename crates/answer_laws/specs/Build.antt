@@ -25,7 +25,7 @@ use Rattle.meaning.specs.Output.{fill-all, verdict-lines, left-lines}
 use Rattle.answer.specs.Answer.{row8, row9-10, verdict-sheet, left-sheet, Clear, Passes}
 use Rattle.answer.specs.Cut.{Sheets, build, Whole}
 use Rattle.model.specs.Names.{Distinct, undeclared}
-use Rattle.meaning_laws.specs.Program.{AllWhole, None, Starts, select-append, told-groups, run-told, verdict-lines-append, none-left, none-right, none-append}
+use Rattle.meaning_laws.specs.Program.{AllWhole, AllTold, None, Starts, select-append, told-groups, run-told, verdict-lines-append, none-left, none-right, none-append}
 use Rattle.meaning_laws.specs.Rows.{ends-whole, Ends, row3-ends, ends-row3, row3-raws, NoHeader, no-header, row5-prefix}
 use Rattle.meaning_laws.specs.Output.{Sized, fits-sized, left-bytes-prefix, ten, verdict-fits, verdict-bytes, verdict-round}
 use Rattle.answer_laws.specs.Answer.{sheets, passes-build, build-passes, build-equal}
@@ -210,12 +210,15 @@ module _ (f : Format) (v l : ℕ) (p q : List ℕ) (s : Split (f .columns) p q) 
     first-fit : AllFit (f .columns) ps
     first-fit = no-bad-fit (f .columns) p (h .no-bad)
 
-    verdict-count : length (groups is-head ps) ≡ length (run (f .fuel) (program ps) .infos)
-    verdict-count = sym (told-groups ps (run (f .fuel) (program ps) .infos) (run-told (f .fuel) (program ps)))
+    first-whole : AllWhole (groups is-head ps)
+    first-whole = ends-whole ps (h .checks .ends)
+
+    first-told : AllTold (program ps) (run (f .fuel) (program ps) .infos)
+    first-told = run-told (f .fuel) (program ps)
 
     verdict-length : length vb ≡ length p
     verdict-length =
-        verdict-bytes (f .columns) ps (run (f .fuel) (program ps) .infos) (ten (f .columns) pos) first-fit verdict-count
+        verdict-bytes (f .columns) ps (run (f .fuel) (program ps) .infos) (ten (f .columns) pos) first-whole first-told first-fit
         ∙ (ap (λ (n : ℕ). lineBytes (f .columns) * n) (length-lines (f .columns) p) ∙ sym (whole-length (f .columns) p (s .first-whole)))
 
     verdict-whole : Whole (f .columns) vb
@@ -224,10 +227,10 @@ module _ (f : Format) (v l : ℕ) (p q : List ℕ) (s : Split (f .columns) p q) 
     lines-verdict : lines (f .columns) (vb ++ q) ≡ vs ++ qs
     lines-verdict =
         lines-append (f .columns) (count (f .columns) p) vb q (verdict-length ∙ whole-length (f .columns) p (s .first-whole))
-        ∙ ap (λ (ls : List Line). ls ++ qs) (verdict-round (f .columns) ps (run (f .fuel) (program ps) .infos) pos first-fit)
+        ∙ ap (λ (ls : List Line). ls ++ qs) (verdict-round (f .columns) ps (run (f .fuel) (program ps) .infos) pos first-whole first-told first-fit)
 
     verdict-no-bad : NoBad vs
-    verdict-no-bad = fit-no-bad (f .columns) vs (verdict-fits (f .columns) (ten (f .columns) pos) ps (run (f .fuel) (program ps) .infos) first-fit)
+    verdict-no-bad = fit-no-bad (f .columns) vs (verdict-fits (f .columns) (ten (f .columns) pos) ps (run (f .fuel) (program ps) .infos) first-whole first-told first-fit)
 
     rows : Starts is-head qs → SameRows f ps qs
     rows st = same-rows f ps qs (h .checks) st
@@ -405,16 +408,19 @@ unfolding verdict-sheet
 verdict-sheet-length f b v l pos h =
     verdict-length f v l b [] (split-nothing (f .columns) b (pass-whole f b v l h)) pos (passes-sound f b v l h)
 
+-- the lines of an accepted sheet pass row 3, and every declaration is as its counts say
+pub passes-ends : (f : Format) (b : List ℕ) (v l : ℕ) → Passes f b v l → Ends (lines (f .columns) b)
+passes-ends f b v l h = passes-sound f b v l h .checks .ends
+
+pub passes-whole : (f : Format) (b : List ℕ) (v l : ℕ) → Passes f b v l → AllWhole (groups is-head (lines (f .columns) b))
+passes-whole f b v l h = ends-whole (lines (f .columns) b) (passes-ends f b v l h)
+
 -- the lines that it reads as
 pub verdict-sheet-lines : (f : Format) (b : List ℕ) (v l : ℕ) → 0 < f .columns → Passes f b v l → lines (f .columns) (verdict-sheet f (lines (f .columns) b)) ≡ verdicts f (lines (f .columns) b)
 unfolding verdict-sheet
 verdict-sheet-lines f b v l pos h =
     let w : ℕ = f .columns in
-    verdict-round w (lines w b) (run (f .fuel) (program (lines w b)) .infos) pos (no-bad-fit w b (pass-no-bad w b (h .pass2)))
-
--- every declaration of an accepted sheet is as its counts say
-pub passes-whole : (f : Format) (b : List ℕ) (v l : ℕ) → Passes f b v l → AllWhole (groups is-head (lines (f .columns) b))
-passes-whole f b v l h = ends-whole (lines (f .columns) b) (passes-sound f b v l h .checks .ends)
+    verdict-round w (lines w b) (run (f .fuel) (program (lines w b)) .infos) pos (passes-whole f b v l h) (run-told (f .fuel) (program (lines w b))) (no-bad-fit w b (pass-no-bad w b (h .pass2)))
 
 -- the lines of that sheet with lines behind it
 pub verdict-lines-behind : (f : Format) (v l : ℕ) → 0 < f .columns → (p q : List ℕ) → Passes f p v l → lines (f .columns) (verdict-sheet f (lines (f .columns) p) ++ q) ≡ verdicts f (lines (f .columns) p) ++ lines (f .columns) q

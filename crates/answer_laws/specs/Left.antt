@@ -24,7 +24,7 @@ use Rattle.model.specs.Erasure.{marked, erasure-fixpoint}
 use Rattle.model.specs.Layout.{collapse, ctor-layouts, newtype-of-ctor, newtype-of, dropped, layout-of, candidates-of, passes-of}
 use Rattle.model.specs.Resolve.{stays, resolve}
 use Rattle.model.specs.Run.{left-program, layouts-of, run, returns, resolves, decl-fault, lay, layout-of-decl, left-at}
-use Rattle.meaning.specs.Program.{name-line, arg-line, type-line, local-line, param-line, ctor-line, field-line, verdict-line, import-line, is, is-head, select, before, Group, keeps-of, ctor-layouts-by, abbreviated, layout-by, info-of, verdict-of, trees, dtype-of, decl-of, program}
+use Rattle.meaning.specs.Program.{name-line, arg-line, type-line, local-line, param-line, ctor-line, field-line, verdict-line, import-line, is, is-head, select, before, Group, keeps-of, tags, ctor-layouts-by, abbreviated, layout-by, info-of, verdict-of, trees, dtype-of, decl-of, program}
 use Rattle.meaning.specs.Rows.{line-at, count-of, count-before, heads-before, params-after, row4, last-head, head-of, kept-after, one-ctor, good-verdict, good-verdicts, row7}
 use Rattle.meaning.specs.Output.{left-lines}
 use Rattle.answer.specs.Answer.{row8, row9-10, left-sheet, Clear, Passes}
@@ -39,7 +39,7 @@ use Rattle.answer_laws.specs.Build.{row1-small}
 use Rattle.meaning_laws.specs.Rows.{last-head-append, last-head-none}
 
 -- ---- an import's layout goes with its body
-by-matches : (n : ℕ) (b : Body) (ls : List Line) → 2 ≤ body-number b → StructMatches b (ctor-layouts-by (ctors-of n b) (keeps-of b ls))
+by-matches : (n : ℕ) (b : Body) (ls : List Line) → 2 ≤ body-number b → StructMatches b (ctor-layouts-by (tags ls) (ctors-of n b) (keeps-of b ls))
 unfolding body-number ctor-layouts-by ctors-of keeps-of
 by-matches n TAbstract ls h = tt
 by-matches n (TAbbrev c) ls h = absurd (omega arith)
@@ -158,15 +158,16 @@ row7-verdict : (ls : List Line) (j : ℕ) → row7 ls j ≡ false → letter (li
     good-verdict (head-of ls j) (kept-after 0 (take j ls)) (line-at ls j) ≡ true
 unfolding row7 good-verdicts
 row7-verdict ls j e v h =
-    chosen (is field-line (line-at ls j)) (is verdict-line (line-at ls j)) (is import-line (head-of ls j)) (good-verdict (head-of ls j) (kept-after 0 (take j ls)) (line-at ls j))
-    (leb (number (line-at ls j) 2) (pick (is import-line (head-of ls j)) 1 0)) _
-    (ap (λ (n : ℕ). eqb n field-line) v) (ap (λ (n : ℕ). eqb n verdict-line) v) h (not-false (good-verdicts ls j) e)
+    chosen (is ctor-line (line-at ls j)) (is field-line (line-at ls j)) (is verdict-line (line-at ls j)) (is import-line (head-of ls j)) (good-verdict (head-of ls j) (kept-after 0 (take j ls)) (line-at ls j))
+    _ (leb (number (line-at ls j) 2) (pick (is import-line (head-of ls j)) 1 0)) _
+    (ap (λ (n : ℕ). eqb n ctor-line) v) (ap (λ (n : ℕ). eqb n field-line) v) (ap (λ (n : ℕ). eqb n verdict-line) v) h (not-false (good-verdicts ls j) e)
   where
-    chosen : (a b c g x y : Bool) → a ≡ false → b ≡ true → c ≡ true → (a ⇒ x ∥ b && c ⇒ g ∥ y) ≡ true → g ≡ true
-    chosen true b c g x y p q r t = false-true (sym p)
-    chosen false true true g x y p q r t = t
-    chosen false true false g x y p q r t = false-true r
-    chosen false false c g x y p q r t = false-true q
+    chosen : (o a b c g w x y : Bool) → o ≡ false → a ≡ false → b ≡ true → c ≡ true → (o ⇒ w ∥ a ⇒ x ∥ b && c ⇒ g ∥ y) ≡ true → g ≡ true
+    chosen true a b c g w x y n p q r t = false-true (sym n)
+    chosen false true b c g w x y n p q r t = false-true (sym p)
+    chosen false false true true g w x y n p q r t = t
+    chosen false false true false g w x y n p q r t = false-true r
+    chosen false false false c g w x y n p q r t = false-true q
 
 -- ---- every layout goes with its body
 module _ (ls : List Line) (pass : Clear (length ls) (row7 ls)) where
@@ -209,7 +210,7 @@ module _ (ls : List Line) (pass : Clear (length ls) (row7 ls)) where
       go true m p =
           let z : own ≡ ti = cc in
           subst (λ (x : TypeInfo). Matches (t .dt-body) (x .ti-layout)) z
-          (group-matches i h e m (t .dt-body) (ctor-layouts-by (ctors-of-tydef t) (keeps-of (t .dt-body) (g .rest)))
+          (group-matches i h e m (t .dt-body) (ctor-layouts-by (tags (g .rest)) (ctors-of-tydef t) (keeps-of (t .dt-body) (g .rest)))
           (λ k. close-number (dtype-of (trees ls) g .dt-params) (dtype-of (trees ls) g .dt-body) ∙ body-of-number (trees ls) (number (line-at ls i) 2) (number (line-at ls i) 4) (g .rest) k)
           (λ k. by-matches (t .dt-name) (t .dt-body) (g .rest) k))
       go false m p = let z : _≡_ {A = ℕ} 0 1 = cc in absurd (omega arith)

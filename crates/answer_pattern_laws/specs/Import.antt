@@ -85,7 +85,7 @@ module _ (f : Format) (v l : ℕ) (pos : 0 < f .columns) (p : List ℕ) (pass : 
         ap length
         (ap (select name-line) lines-told
         ∙ (select-append name-line (verdicts f ps) qs
-        ∙ (ap (λ (r : List Line). r ++ select name-line qs) (select-verdict-lines name-line refl refl refl refl ps tis n (ended-row5 ps (c .clear5)))
+        ∙ (ap (λ (r : List Line). r ++ select name-line qs) (select-verdict-lines name-line refl refl refl refl refl ps tis n (ended-row5 ps (c .clear5)))
         ∙ (sym (select-append name-line ps qs) ∙ ap (select name-line) (sym lines-first)))))
 
     module _ (split : Split (f .columns) p q) where

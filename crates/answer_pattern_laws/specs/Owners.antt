@@ -46,7 +46,7 @@ use Rattle.model_laws.specs.Run.{import-layout}
 use Rattle.model_laws.specs.Resolve.{Matches}
 use Rattle.model_patterns.specs.Pat.{Owner, find-ctor, owned, ctor-owner, Slots, Constructed, Slotted, Sound}
 use Rattle.model_patterns.specs.Laws.Owners.{SoundInfo, ctor-layout-slotted, run-sound}
-use Rattle.meaning.specs.Program.{is, import-line, field-line, ctor-line, is-head, select, before, Group, groups, trees, field-of, ctor-of, body-of, dtype-of, keeps, keeps-of, ctor-layouts-by, abbreviated, layout-by, info-of, verdict-of, decl-of, program}
+use Rattle.meaning.specs.Program.{is, import-line, field-line, ctor-line, is-head, select, before, Group, groups, trees, field-of, ctor-of, body-of, dtype-of, keeps, keeps-of, tags, ctor-layouts-by, abbreviated, layout-by, info-of, verdict-of, decl-of, program}
 use Rattle.meaning.specs.Rows.{line-at, row7}
 use Rattle.meaning_laws.specs.Program.{length-slot, length-program, Tells, AllTold, HeadAt, head-at, program-at, run-told}
 use Rattle.meaning_patterns.specs.Patterns.{fields-among, declared-fields, miscounts}
@@ -96,17 +96,17 @@ Laid [] (cl ∷ cls) = ⊥
 Laid (c ∷ cs) [] = ⊥
 Laid (c ∷ cs) (cl ∷ cls) = (cl .cl-name ≡ c .ct-name) × (length (cl .cl-slots) ≡ length (c .ct-fields)) × Laid cs cls
 
-laid-by : (cs : List Ctor) (bss : List (List Bool)) → Fit cs bss → Laid cs (ctor-layouts-by cs bss)
+laid-by : (tag : ℕ → Option ℕ) (cs : List Ctor) (bss : List (List Bool)) → Fit cs bss → Laid cs (ctor-layouts-by tag cs bss)
 unfolding ctor-layouts-by ctor-layout
-laid-by [] [] h = tt
-laid-by [] (bs ∷ bss) h = absurd h
-laid-by (c ∷ cs) [] h = absurd h
-laid-by (c ∷ cs) (bs ∷ bss) h = (refl, h .0, laid-by cs bss (h .1))
+laid-by tag [] [] h = tt
+laid-by tag [] (bs ∷ bss) h = absurd h
+laid-by tag (c ∷ cs) [] h = absurd h
+laid-by tag (c ∷ cs) (bs ∷ bss) h = (refl, h .0, laid-by (λ i. tag (suc i)) cs bss (h .1))
 
-laid-ctors : (er : ℕ → Bool) (cs : List Ctor) → Laid cs (layouts-of-ctors er cs)
+laid-ctors : (er : ℕ → Bool) (tag : ℕ → Option ℕ) (cs : List Ctor) → Laid cs (layouts-of-ctors er tag cs)
 unfolding table ctor-layout
-laid-ctors er [] = tt
-laid-ctors er (c ∷ cs) = (refl, length-slot er (c .ct-fields), laid-ctors er cs)
+laid-ctors er tag [] = tt
+laid-ctors er tag (c ∷ cs) = (refl, length-slot er (c .ct-fields), laid-ctors er (λ i. tag (suc i)) cs)
 
 -- of each declaration with its verdict
 abbrev pub AllLaid : List Decl → List TypeInfo → Type 0
@@ -119,7 +119,7 @@ info-laid : (ts : List Cty) (g : Group) → Laid (ctors-of-tydef (close-fields (
 unfolding info-of close-fields dtype-of
 info-laid ts g =
     let d : Dtype = close-fields (dtype-of ts g) in
-    laid-by (ctors-of-tydef d) (keeps-of (d .dt-body) (g .rest)) (body-fit ts (dtype-of ts g .dt-params) (number (g .head) 0) (number (g .head) 2) (number (g .head) 4) (g .rest))
+    laid-by (tags (g .rest)) (ctors-of-tydef d) (keeps-of (d .dt-body) (g .rest)) (body-fit ts (dtype-of ts g .dt-params) (number (g .head) 0) (number (g .head) 2) (number (g .head) 4) (g .rest))
 
 told-laid : (ts : List Cty) (gs : List Group) (tis : List TypeInfo) → AllTold (map (decl-of ts) gs) tis → AllLaid (map (decl-of ts) gs) tis
 unfolding decl-of ctor-layouts
@@ -133,7 +133,7 @@ told-laid ts (g ∷ gs) (ti ∷ tis) h = (go (is import-line (g .head)) (h .0), 
 
     go : (c : Bool) → Tells ti d (pick c (imported (info-of d (g .rest) (verdict-of (g .rest)))) here) → Laid (ctors-of-tydef d) (ti .ti-ctors)
     go true t = subst (λ (x : TypeInfo). Laid (ctors-of-tydef d) (x .ti-ctors)) t (info-laid ts g)
-    go false t = subst (Laid (ctors-of-tydef d)) (sym (t .ctors)) (laid-ctors (t .erasing) (ctors-of-tydef d))
+    go false t = subst (Laid (ctors-of-tydef d)) (sym (t .ctors)) (laid-ctors (t .erasing) _ (ctors-of-tydef d))
 
 pub program-laid : (fuel : ℕ) (ls : List Line) → AllLaid (program ls) (run fuel (program ls) .infos)
 unfolding program
@@ -180,11 +180,11 @@ unfolding collapse
 collapse-constructed none cls = tt
 collapse-constructed (some nt) cls = tt
 
-by-slotted : (l : Layout) → Constructed l → (cs : List Ctor) (bss : List (List Bool)) → Fit cs bss → Every (λ cl. Constructed l × Slotted cl) (ctor-layouts-by cs bss)
+by-slotted : (l : Layout) → Constructed l → (tag : ℕ → Option ℕ) (cs : List Ctor) (bss : List (List Bool)) → Fit cs bss → Every (λ cl. Constructed l × Slotted cl) (ctor-layouts-by tag cs bss)
 unfolding ctor-layouts-by
-by-slotted l c [] bss h = tt
-by-slotted l c (k ∷ cs) [] h = tt
-by-slotted l c (k ∷ cs) (bs ∷ bss) h = ((c, ctor-layout-slotted k bs (h .0)), by-slotted l c cs bss (h .1))
+by-slotted l c tag [] bss h = tt
+by-slotted l c tag (k ∷ cs) [] h = tt
+by-slotted l c tag (k ∷ cs) (bs ∷ bss) h = ((c, ctor-layout-slotted (tag 0) k bs (h .0)), by-slotted l c (λ i. tag (suc i)) cs bss (h .1))
 
 layout-constructed : (n : ℕ) (b : Body) (cls : List CtorLayout) → Matches b (layout-by n b cls) → (abbreviated b ≡ L-opaque) → (Matches b L-opaque → ⊥) → Constructed (layout-by n b cls)
 unfolding layout-by
@@ -200,15 +200,15 @@ layout-constructed n b cls m a x = go (eqb n 0) (eqb n 1) (eqb n 2) (eqb n 3) m
     go false false false true k = absurd (x (subst (Matches b) a k))
     go false false false false k = absurd (x k)
 
-body-sound : (n v : ℕ) (b : Body) (bss : List (List Bool)) → Fit (ctors-of n b) bss → Matches b (layout-by v b (ctor-layouts-by (ctors-of n b) bss))
-    → Every (λ cl. Constructed (layout-by v b (ctor-layouts-by (ctors-of n b) bss)) × Slotted cl) (ctor-layouts-by (ctors-of n b) bss)
+body-sound : (n v : ℕ) (tag : ℕ → Option ℕ) (b : Body) (bss : List (List Bool)) → Fit (ctors-of n b) bss → Matches b (layout-by v b (ctor-layouts-by tag (ctors-of n b) bss))
+    → Every (λ cl. Constructed (layout-by v b (ctor-layouts-by tag (ctors-of n b) bss)) × Slotted cl) (ctor-layouts-by tag (ctors-of n b) bss)
 unfolding ctors-of ctor-layouts-by
-body-sound n v TAbstract bss h m = tt
-body-sound n v (TAbbrev c) bss h m = tt
-body-sound n v (TRecord fs) bss h m =
-    by-slotted (layout-by v (TRecord fs) (ctor-layouts-by (ctors-of n (TRecord fs)) bss)) (layout-constructed v (TRecord fs) (ctor-layouts-by (ctors-of n (TRecord fs)) bss) m refl (λ z. z)) (ctors-of n (TRecord fs)) bss h
-body-sound n v (TVariant cs) bss h m =
-    by-slotted (layout-by v (TVariant cs) (ctor-layouts-by cs bss)) (layout-constructed v (TVariant cs) (ctor-layouts-by cs bss) m refl (λ z. z)) cs bss h
+body-sound n v tag TAbstract bss h m = tt
+body-sound n v tag (TAbbrev c) bss h m = tt
+body-sound n v tag (TRecord fs) bss h m =
+    by-slotted (layout-by v (TRecord fs) (ctor-layouts-by tag (ctors-of n (TRecord fs)) bss)) (layout-constructed v (TRecord fs) (ctor-layouts-by tag (ctors-of n (TRecord fs)) bss) m refl (λ z. z)) tag (ctors-of n (TRecord fs)) bss h
+body-sound n v tag (TVariant cs) bss h m =
+    by-slotted (layout-by v (TVariant cs) (ctor-layouts-by tag cs bss)) (layout-constructed v (TVariant cs) (ctor-layouts-by tag cs bss) m refl (λ z. z)) tag cs bss h
 
 module _ (ls : List Line) (pass : Clear (length ls) (row7 ls)) where
   import-sound : (i : ℕ) (ti : TypeInfo) → i < length (program ls) → origin-at (program ls) i ≡ imported ti → SoundInfo ti
@@ -237,7 +237,7 @@ module _ (ls : List Line) (pass : Clear (length ls) (row7 ls)) where
       go true e m =
           let z : own ≡ ti = cc in
           subst SoundInfo z
-          (body-sound (d .dt-name) (number (verdict-of (g .rest)) 1) (d .dt-body) (keeps-of (d .dt-body) (g .rest))
+          (body-sound (d .dt-name) (number (verdict-of (g .rest)) 1) (tags (g .rest)) (d .dt-body) (keeps-of (d .dt-body) (g .rest))
           (body-fit (trees ls) (dtype-of (trees ls) g .dt-params) (d .dt-name) (number (g .head) 2) (number (g .head) 4) (g .rest))
           (subst (λ (x : TypeInfo). Matches (d .dt-body) (x .ti-layout)) (sym z) m))
       go false e m = let z : _≡_ {A = ℕ} 0 1 = cc in absurd (omega arith)

@@ -16,14 +16,14 @@ use Rattle.model.specs.Decl.{TVariant, has-flag, close-body, close-fields}
 use Rattle.model.specs.Erasure.{marked, fields-erased, body-erased, dtype-erased, rule-of, rule}
 use Rattle.meaning.specs.Program.{name-line, type-line, import-line, param-line, ctor-line, field-line, is, select, Group, groups, trees, ctor-of, body-of, dtype-of, program}
 use Rattle.meaning.specs.Rows.{line-at, count-of, zeros-from, good-head, good-numbers}
-use Rattle.meaning_laws.specs.Program.{select-append, head-cases}
+use Rattle.meaning_laws.specs.Program.{select-append, head-cases, length-groups-of}
 use Rattle.model_laws.specs.Rounds.{cases-eq}
 use Rattle.row4_limits.specs.Limits.{start}
 use Rattle.table_declared.specs.Passed.{Passed}
 use Rattle.table_access.specs.Tables.{nth, group, head-line, decls-of, first-of}
 use Rattle.table_declared.specs.LineLaws.{stands, good-line}
 use Rattle.table_declared.specs.DeclLaws.{line-inside, line-of-head, group-is, first-next, nth-in, dtype-is, origin-local, whole-at}
-use Rattle.table_declared.specs.BodyLaws.{close-erased, closed, fields-all, fields-some, length-groups-of, fields-of, ctor-fields}
+use Rattle.table_declared.specs.BodyLaws.{close-erased, closed, fields-all, fields-some, fields-of, ctor-fields}
 use Rattle.erasure_marks.specs.Marks.{marks-of, type-erased, Marks}
 use Rattle.erasure_marks.specs.MarksLaws.{bit-zero, bit-set}
 use Rattle.erasure_laws.specs.declared.Field.{Field}

@@ -54,7 +54,7 @@ use Rattle.model.specs.Decl.{
 }
 use Rattle.model.specs.Erasure.{marked, erasure-fixpoint}
 use Rattle.model.specs.Layout.{layouts-of-ctors, slots, kept, ctor-layout, ctor-layouts, newtype-of-ctor, newtype-of, candidate, dropped, collapse, layout-of-body, layout-of, candidates-of, passes-of}
-use Rattle.meaning.specs.Program.{import-line, is, is-head, Group, groups, keeps-of, ctor-layouts-by, abbreviated, layout-by, info-of, verdict-of, dtype-of, decl-of, trees, program}
+use Rattle.meaning.specs.Program.{import-line, is, is-head, Group, groups, keeps-of, tags, ctor-layouts-by, abbreviated, layout-by, info-of, verdict-of, dtype-of, decl-of, trees, program}
 use Rattle.model.specs.Resolve.{Unfold, gone, newtype, abbreviation, stays, unfold-body, unfold-dtype, unfold-of}
 use Rattle.model.specs.Run.{layouts-of, lay, layout-of-decl}
 use Rattle.model_laws.specs.Cty.{Each, Any, all-of, close-each}
@@ -95,16 +95,16 @@ module _ (Q : Cty → Type 0) (up : (c : Cty) → Q c → Q (uninline c)) where
   ctors-types n (TRecord fs) h = (h, tt)
   ctors-types n (TVariant cs) h = h
 
-  layouts-types : (er : ℕ → Bool) (cs : List Ctor) → Ctors Q cs → Kept Q (layouts-of-ctors er cs)
+  layouts-types : (er : ℕ → Bool) (tag : ℕ → Option ℕ) (cs : List Ctor) → Ctors Q cs → Kept Q (layouts-of-ctors er tag cs)
   unfolding table ctor-layout
-  layouts-types er [] h = tt
-  layouts-types er (c ∷ cs) h = (kept-types (slots er (c .ct-fields)) (c .ct-fields) (h .0), layouts-types er cs (h .1))
+  layouts-types er tag [] h = tt
+  layouts-types er tag (c ∷ cs) h = (kept-types (slots er (c .ct-fields)) (c .ct-fields) (h .0), layouts-types er (λ i. tag (suc i)) cs (h .1))
 
-  by-types : (cs : List Ctor) (bss : List (List Bool)) → Ctors Q cs → Kept Q (ctor-layouts-by cs bss)
+  by-types : (tag : ℕ → Option ℕ) (cs : List Ctor) (bss : List (List Bool)) → Ctors Q cs → Kept Q (ctor-layouts-by tag cs bss)
   unfolding ctor-layouts-by ctor-layout
-  by-types [] bss h = tt
-  by-types (c ∷ cs) [] h = tt
-  by-types (c ∷ cs) (bs ∷ bss) h = (kept-types bs (c .ct-fields) (h .0), by-types cs bss (h .1))
+  by-types tag [] bss h = tt
+  by-types tag (c ∷ cs) [] h = tt
+  by-types tag (c ∷ cs) (bs ∷ bss) h = (kept-types bs (c .ct-fields) (h .0), by-types (λ i. tag (suc i)) cs bss (h .1))
 
   newtype-ctor-payload : (n : ℕ) (bs : List Bool) (fs : List Field) → Fields Q fs → Payloads (newtype-of-ctor n bs fs)
   unfolding newtype-of-ctor
@@ -163,7 +163,7 @@ module _ (Q : Cty → Type 0) (up : (c : Cty) → Q c → Q (uninline c)) where
 
   info-payload : (d : Dtype) (ls : List Line) (v : Line) → BodyTypes Q (d .dt-body) → Payload (info-of d ls v .ti-layout)
   unfolding info-of
-  info-payload d ls v h = by-payload _ (d .dt-body) (ctor-layouts-by (ctors-of-tydef d) (keeps-of (d .dt-body) ls)) (by-types (ctors-of-tydef d) (keeps-of (d .dt-body) ls) (ctors-types (d .dt-name) (d .dt-body) h))
+  info-payload d ls v h = by-payload _ (d .dt-body) (ctor-layouts-by (tags ls) (ctors-of-tydef d) (keeps-of (d .dt-body) ls)) (by-types (tags ls) (ctors-of-tydef d) (keeps-of (d .dt-body) ls) (ctors-types (d .dt-name) (d .dt-body) h))
 
 -- ---- closed declarations
 pub uninline-each : (X : ℕ → Type 0) (c : Cty) → Each X Any c → Each X Any (uninline c)
@@ -262,7 +262,7 @@ module _ (ds : List Decl) (closed : Every Closed ds) where
       cand-bounded : Payloads (Bounded ps) up cand
       cand-bounded =
           rw (getD-candidates ds (marked ds s) s i none h)
-          (candidate-payload (Bounded ps) up (dtype-at ds i) (origin-at ds i) (getD s i false) cls (layouts-types (Bounded ps) up (marked ds s) (ctors-of-tydef (dtype-at ds i)) (ctors-types (Bounded ps) up (dtype-at ds i .dt-name) (dtype-at ds i .dt-body) (every-at Closed no-decl ds closed i h .types))))
+          (candidate-payload (Bounded ps) up (dtype-at ds i) (origin-at ds i) (getD s i false) cls (layouts-types (Bounded ps) up (marked ds s) _ (ctors-of-tydef (dtype-at ds i)) (ctors-types (Bounded ps) up (dtype-at ds i .dt-name) (dtype-at ds i .dt-body) (every-at Closed no-decl ds closed i h .types))))
 
       go : (o : Origin) → origin-at ds i ≡ o → OriginPayload ps o → Payload (Bounded ps) up (layout-of (dtype-at ds i) o (getD s i false) (dropped ds (passes-of ds s) i) cand cls)
       go here e k = local-payload (Bounded ps) up (dtype-at ds i) (getD s i false) (dropped ds (passes-of ds s) i) cand cls cand-bounded

@@ -2,6 +2,7 @@
 use mathlib.Core.Path.{_≡_, refl, ap, ap₂, sym, _∙_}
 use mathlib.Core.List.{List, [], _∷_, _++_, map, append-nil}
 use mathlib.Core.Bool.{Bool, true, false, not}
+use mathlib.Core.Option.{Option}
 use Prim.Native.Nat.{ℕ, zero, suc, _+_, _-_, _≤_, _<_}
 use native.Mathlib.Omega.{arith}
 use lib.Dec.{eqb}
@@ -50,11 +51,11 @@ module _ (er : ℕ → Bool) (ps : List ℕ) (ts : List Cty) where
   closed-ctor : Ctor → Ctor
   closed-ctor c = record { ct-name = c .ct-name; ct-fields = map (close-field ps) (c .ct-fields) }
 
-  variant-slots : (gs : List Group) → all-slots (layouts-of-ctors er (map (λ c. record { ct-name = c .ct-name; ct-fields = map (close-field ps) (c .ct-fields) }) (map (ctor-of ts) gs))) ≡ local-slots (fields-of gs)
+  variant-slots : (tag : ℕ → Option ℕ) (gs : List Group) → all-slots (layouts-of-ctors er tag (map (λ c. record { ct-name = c .ct-name; ct-fields = map (close-field ps) (c .ct-fields) }) (map (ctor-of ts) gs))) ≡ local-slots (fields-of gs)
   unfolding table all-slots ctor-layout ctor-of fields-of local-slots
-  variant-slots [] = refl
-  variant-slots (g ∷ gs) =
-      ap₂ _++_ (slots-closed (select field-line (g .rest))) (variant-slots gs) ∙ sym (local-append (select field-line (g .rest)) (fields-of gs))
+  variant-slots tag [] = refl
+  variant-slots tag (g ∷ gs) =
+      ap₂ _++_ (slots-closed (select field-line (g .rest))) (variant-slots (λ i. tag (suc i)) gs) ∙ sym (local-append (select field-line (g .rest)) (fields-of gs))
 
 -- by their keep numbers
 kept-slots : List Line → List Bool
@@ -65,13 +66,13 @@ unfolding kept-slots
 kept-append [] c = refl
 kept-append (l ∷ a) c = ap (λ (r : List Bool). not (eqb (number l 2) 0) ∷ r) (kept-append a c)
 
-variant-keeps : (cs : List Ctor) (gs : List Group) → length cs ≡ length gs → all-slots (ctor-layouts-by cs (map (λ g. keeps (g .rest)) gs)) ≡ kept-slots (fields-of gs)
+variant-keeps : (tag : ℕ → Option ℕ) (cs : List Ctor) (gs : List Group) → length cs ≡ length gs → all-slots (ctor-layouts-by tag cs (map (λ g. keeps (g .rest)) gs)) ≡ kept-slots (fields-of gs)
 unfolding all-slots ctor-layouts-by ctor-layout keeps kept-slots fields-of
-variant-keeps [] [] e = refl
-variant-keeps [] (g ∷ gs) e = absurd (omega arith)
-variant-keeps (c ∷ cs) [] e = absurd (omega arith)
-variant-keeps (c ∷ cs) (g ∷ gs) e =
-    ap (λ (r : List Bool). keeps (g .rest) ++ r) (variant-keeps cs gs (omega arith)) ∙ sym (kept-append (select field-line (g .rest)) (fields-of gs))
+variant-keeps tag [] [] e = refl
+variant-keeps tag [] (g ∷ gs) e = absurd (omega arith)
+variant-keeps tag (c ∷ cs) [] e = absurd (omega arith)
+variant-keeps tag (c ∷ cs) (g ∷ gs) e =
+    ap (λ (r : List Bool). keeps (g .rest) ++ r) (variant-keeps (λ i. tag (suc i)) cs gs (omega arith)) ∙ sym (kept-append (select field-line (g .rest)) (fields-of gs))
 
 -- ---- slots of a body
 module _ (er : ℕ → Bool) (ps : List ℕ) (ts : List Cty) (n kind last : ℕ) (ls : List Line)
@@ -79,27 +80,27 @@ module _ (er : ℕ → Bool) (ps : List ℕ) (ts : List Cty) (n kind last : ℕ)
   none-there : kind ≤ 1 → select field-line ls ≡ []
   none-there h = length-nil (select field-line ls) (bare h)
 
-  body-slots : all-slots (layouts-of-ctors er (ctors-of n (close-body ps (body-of ts kind last ls)))) ≡ local-slots er ps ts (select field-line ls)
+  body-slots : (tag : ℕ → Option ℕ) → all-slots (layouts-of-ctors er tag (ctors-of n (close-body ps (body-of ts kind last ls)))) ≡ local-slots er ps ts (select field-line ls)
   unfolding table body-of close-body ctors-of all-slots ctor-layout local-slots
-  body-slots = go (eqb kind 1) (eqb kind 2) (eqb kind 3) refl refl refl
+  body-slots tag = go (eqb kind 1) (eqb kind 2) (eqb kind 3) refl refl refl
     where
       go : (x y z : Bool) → eqb kind 1 ≡ x → eqb kind 2 ≡ y → eqb kind 3 ≡ z
-          → all-slots (layouts-of-ctors er (ctors-of n (close-body ps (
+          → all-slots (layouts-of-ctors er tag (ctors-of n (close-body ps (
           x ⇒ TAbbrev (type-at ts last) ∥
           y ⇒ TRecord (map (field-of ts) (select field-line ls)) ∥
           z ⇒ TVariant (map (ctor-of ts) (groups (is ctor-line) ls)) ∥
           TAbstract)))) ≡ local-slots er ps ts (select field-line ls)
       go true y z a c d = let e = eqb-true kind 1 a in rw (none-there (omega arith))
       go false true z a c d = append-nil (slots er (closed er ps ts (select field-line ls))) ∙ slots-closed er ps ts (select field-line ls)
-      go false false true a c d = variant-slots er ps ts (groups (is ctor-line) ls) ∙ sym (ap (local-slots er ps ts) (ctor-fields ls (ctors-first (eqb-true kind 3 d))))
+      go false false true a c d = variant-slots er ps ts tag (groups (is ctor-line) ls) ∙ sym (ap (local-slots er ps ts) (ctor-fields ls (ctors-first (eqb-true kind 3 d))))
       go false false false a c d = let p = eqb-false kind 1 a in let q = eqb-false kind 2 c in let r = eqb-false kind 3 d in rw (none-there (omega arith))
 
-  body-keeps : all-slots (ctor-layouts-by (ctors-of n (close-body ps (body-of ts kind last ls))) (keeps-of (close-body ps (body-of ts kind last ls)) ls)) ≡ kept-slots (select field-line ls)
+  body-keeps : (tag : ℕ → Option ℕ) → all-slots (ctor-layouts-by tag (ctors-of n (close-body ps (body-of ts kind last ls))) (keeps-of (close-body ps (body-of ts kind last ls)) ls)) ≡ kept-slots (select field-line ls)
   unfolding body-of close-body ctors-of keeps-of ctor-layouts-by all-slots ctor-layout keeps kept-slots
-  body-keeps = go (eqb kind 1) (eqb kind 2) (eqb kind 3) refl refl refl
+  body-keeps tag = go (eqb kind 1) (eqb kind 2) (eqb kind 3) refl refl refl
     where
       go : (x y z : Bool) → eqb kind 1 ≡ x → eqb kind 2 ≡ y → eqb kind 3 ≡ z
-          → all-slots (ctor-layouts-by (ctors-of n (close-body ps (
+          → all-slots (ctor-layouts-by tag (ctors-of n (close-body ps (
           x ⇒ TAbbrev (type-at ts last) ∥
           y ⇒ TRecord (map (field-of ts) (select field-line ls)) ∥
           z ⇒ TVariant (map (ctor-of ts) (groups (is ctor-line) ls)) ∥
@@ -111,7 +112,7 @@ module _ (er : ℕ → Bool) (ps : List ℕ) (ts : List Cty) (n kind last : ℕ)
       go true y z a c d = let e = eqb-true kind 1 a in rw (none-there (omega arith))
       go false true z a c d = append-nil (keeps ls)
       go false false true a c d =
-          variant-keeps (map (λ c. record { ct-name = c .ct-name; ct-fields = map (close-field ps) (c .ct-fields) }) (map (ctor-of ts) (groups (is ctor-line) ls))) (groups (is ctor-line) ls)
+          variant-keeps tag (map (λ c. record { ct-name = c .ct-name; ct-fields = map (close-field ps) (c .ct-fields) }) (map (ctor-of ts) (groups (is ctor-line) ls))) (groups (is ctor-line) ls)
           (length-map (map (ctor-of ts) (groups (is ctor-line) ls)) (λ c. record { ct-name = c .ct-name; ct-fields = map (close-field ps) (c .ct-fields) }) ∙ length-map (groups (is ctor-line) ls) (ctor-of ts))
           ∙ sym (ap kept-slots (ctor-fields ls (ctors-first (eqb-true kind 3 d))))
       go false false false a c d = let p = eqb-false kind 1 a in let q = eqb-false kind 2 c in let r = eqb-false kind 3 d in rw (none-there (omega arith))
@@ -134,13 +135,13 @@ module _ (ls : List Line) (p : Passed ls) (d : ℕ) (h : d < decls-of ls) where
   unfolding slots-of ctor-layouts close-fields dtype-of er ps fl
   slots-here e =
       rw (origin-local ls d h e, dtype-is ls d h)
-      (body-slots er ps (trees ls) (number (head-line ls d) 0) (number (head-line ls d) 2) (number (head-line ls d) 4) (group ls d .rest) (λ l. w .bare l .0) (w .kinds) (w .ctors-first))
+      (body-slots er ps (trees ls) (number (head-line ls d) 0) (number (head-line ls d) 2) (number (head-line ls d) 4) (group ls d .rest) (λ l. w .bare l .0) (w .kinds) (w .ctors-first) _)
 
   slots-import : is import-line (head-line ls d) ≡ true → slots-at (program ls) d ≡ kept-slots fl
   unfolding slots-of info-of close-fields dtype-of fl ps
   slots-import e =
       rw (origin-import ls d h e)
-      (body-keeps er ps (trees ls) (number (head-line ls d) 0) (number (head-line ls d) 2) (number (head-line ls d) 4) (group ls d .rest) (λ l. w .bare l .0) (w .kinds) (w .ctors-first))
+      (body-keeps er ps (trees ls) (number (head-line ls d) 0) (number (head-line ls d) 2) (number (head-line ls d) 4) (group ls d .rest) (λ l. w .bare l .0) (w .kinds) (w .ctors-first) _)
 
   nth-field : (j : ℕ) → j < length fl → getD fl j bad ≡ nth field-line ls (first-of field-line ls d + j)
   unfolding fl

@@ -2,6 +2,7 @@
 use mathlib.Core.Path.{_≡_, refl, ap, ap₂, sym, _∙_}
 use mathlib.Core.List.{List, [], _∷_, _++_, map, append-nil}
 use mathlib.Core.Bool.{Bool, true, false}
+use mathlib.Core.Option.{Option}
 use Prim.Native.Nat.{ℕ, zero, suc, _+_, _-_, _≤_, _<_}
 use native.Mathlib.Omega.{arith}
 use native.Mathlib.Numerals.{add-one}
@@ -14,15 +15,15 @@ use Rattle.sheet.specs.Line.{Line, bad, number}
 use Rattle.model.specs.Cty.{Cty}
 use Rattle.model.specs.Decl.{table, Field, Ctor, TAbstract, TAbbrev, TRecord, TVariant, Origin, here, imported, dtype-at, origin-at, ctors-of, CtorLayout, close-field, close-body, close-fields, bit}
 use Rattle.model.specs.Erasure.{marked, erasure-fixpoint}
-use Rattle.model.specs.Layout.{layouts-of-ctors, slots, kept, ctor-layout, ctor-layouts}
+use Rattle.model.specs.Layout.{ctor-tag, layouts-of-ctors, slots, kept, ctor-layout, ctor-layouts}
 use Rattle.meaning.specs.Output.{all-slots}
-use Rattle.meaning.specs.Program.{param-line, ctor-line, field-line, import-line, is, select, before, Group, groups, trees, type-at, field-of, ctor-of, body-of, dtype-of, keeps, keeps-of, ctor-layouts-by, info-of, program}
+use Rattle.meaning.specs.Program.{param-line, ctor-line, field-line, import-line, is, select, before, Group, groups, trees, type-at, field-of, ctor-of, body-of, dtype-of, keeps, keeps-of, tags, ctor-layouts-by, info-of, program}
 use Rattle.meaning.specs.Rows.{count-of}
-use Rattle.meaning_laws.specs.Program.{Whole, AllCounted}
+use Rattle.meaning_laws.specs.Program.{Whole, AllCounted, length-groups-of}
 use Rattle.table_declared.specs.Passed.{Passed}
 use Rattle.table_access.specs.Tables.{nth, group, head-line, decls-of, first-of}
 use Rattle.table_declared.specs.DeclLaws.{first-next, nth-in, dtype-is, origin-local, origin-import, whole-at}
-use Rattle.table_declared.specs.BodyLaws.{length-groups-of, fields-of}
+use Rattle.table_declared.specs.BodyLaws.{fields-of}
 use Rattle.resolve_kids.specs.Params.{params-from, params-of}
 use Rattle.keep_fields.specs.Keeps.{slots-of, slots-at, Slotted}
 use Rattle.keep_layouts.specs.Kept.{ctors-of-decl, ctors-at, kept-ctor, body-kind, body-last, field-at, ctor-fields, fields-by, ctors-by, ctors-kept}
@@ -109,12 +110,12 @@ closed-ctor ps c = record { ct-name = c .ct-name; ct-fields = map (close-field p
 abbrev closed : List Line → List ℕ → List Line → List Field
 closed ls ps r = map (close-field ps) (map (field-of (trees ls)) (select field-line r))
 
--- what a body keeps, where q says what lines keep
-module _ (q : List Line → List Bool) (ts : List Cty) (ps : List ℕ) (n kind : ℕ) (r : List Line) where
+-- what a body keeps, where q says what lines keep, and tag each constructor's tag
+module _ (tag : ℕ → Option ℕ) (q : List Line → List Bool) (ts : List Cty) (ps : List ℕ) (n kind : ℕ) (r : List Line) where
   unfoldable made : List CtorLayout
   made =
-      eqb kind 2 ⇒ ctor-layout (record { ct-name = n; ct-fields = map (close-field ps) (map (field-of ts) (select field-line r)) }) (q r) ∷ [] ∥
-      eqb kind 3 ⇒ ctor-layouts-by (map (closed-ctor ps) (map (ctor-of ts) (groups (is ctor-line) r))) (map (λ (g : Group). q (g .rest)) (groups (is ctor-line) r)) ∥
+      eqb kind 2 ⇒ ctor-layout (tag 0) (record { ct-name = n; ct-fields = map (close-field ps) (map (field-of ts) (select field-line r)) }) (q r) ∷ [] ∥
+      eqb kind 3 ⇒ ctor-layouts-by tag (map (closed-ctor ps) (map (ctor-of ts) (groups (is ctor-line) r))) (map (λ (g : Group). q (g .rest)) (groups (is ctor-line) r)) ∥
       []
 
 -- which fields are kept
@@ -141,26 +142,26 @@ module _ (ls : List Line) (keep ps : List ℕ) where
     slots-in [] = []
     slots-in (g ∷ gs) = q (g .rest) ++ slots-in gs
 
-    by : List Group → List CtorLayout
-    by gs = ctor-layouts-by (map (closed-ctor ps) (map (ctor-of (trees ls)) gs)) (map (λ (g : Group). q (g .rest)) gs)
+    by : (ℕ → Option ℕ) → List Group → List CtorLayout
+    by tag gs = ctor-layouts-by tag (map (closed-ctor ps) (map (ctor-of (trees ls)) gs)) (map (λ (g : Group). q (g .rest)) gs)
 
-    by-slots : (gs : List Group) → all-slots (by gs) ≡ slots-in gs
+    by-slots : (tag : ℕ → Option ℕ) (gs : List Group) → all-slots (by tag gs) ≡ slots-in gs
     unfolding by slots-in ctor-layouts-by all-slots ctor-layout
-    by-slots [] = refl
-    by-slots (g ∷ gs) = ap (λ (t : List Bool). q (g .rest) ++ t) (by-slots gs)
+    by-slots tag [] = refl
+    by-slots tag (g ∷ gs) = ap (λ (t : List Bool). q (g .rest) ++ t) (by-slots (λ i. tag (suc i)) gs)
 
-    by-ctors : (gs : List Group) (c f : ℕ) → AllCounted gs → Stands bad (nth ctor-line ls) c (map (λ (g : Group). g .head) gs)
-        → Stands bad (nth field-line ls) f (fields-of gs) → Stands false (keep-at keep) f (slots-in gs) → map kept-ctor (by gs) ≡ ctors-by ls keep ps c f (length gs)
+    by-ctors : (tag : ℕ → Option ℕ) (gs : List Group) (c f : ℕ) → AllCounted gs → Stands bad (nth ctor-line ls) c (map (λ (g : Group). g .head) gs)
+        → Stands bad (nth field-line ls) f (fields-of gs) → Stands false (keep-at keep) f (slots-in gs) → map kept-ctor (by tag gs) ≡ ctors-by ls keep ps c f (length gs)
     unfolding by slots-in ctor-layouts-by ctors-by ctor-layout ctor-of fields-of
-    by-ctors [] c f u t s k = refl
-    by-ctors (g ∷ gs) c f u t s k =
+    by-ctors tag [] c f u t s k = refl
+    by-ctors tag (g ∷ gs) c f u t s k =
         let fl : List Line = select field-line (g .rest) in
         let a : g .head ≡ nth ctor-line ls c = stands-head bad (nth ctor-line ls) c (g .head) (map (λ (x : Group). x .head) gs) t in
         let m : length fl ≡ ctor-fields ls c = u .0 ∙ ap (λ (l : Line). number l 1) a in
         let e : kept (q (g .rest)) (closed ls ps (g .rest)) ≡ fields-by ls keep ps f (ctor-fields ls c) =
         fields-are fl (q (g .rest)) f (full (g .rest)) (stands-left bad (nth field-line ls) f fl (fields-of gs) s) (stands-left false (keep-at keep) f (q (g .rest)) (slots-in gs) k)
         ∙ ap (fields-by ls keep ps f) m in
-        let i = by-ctors gs (suc c) (f + ctor-fields ls c) (u .1) (stands-tail bad (nth ctor-line ls) c (g .head) (map (λ (x : Group). x .head) gs) t)
+        let i = by-ctors (λ j. tag (suc j)) gs (suc c) (f + ctor-fields ls c) (u .1) (stands-tail bad (nth ctor-line ls) c (g .head) (map (λ (x : Group). x .head) gs) t)
         (rw m at (stands-right bad (nth field-line ls) f fl (fields-of gs) s))
         (rw (full (g .rest), m) at (stands-right false (keep-at keep) f (q (g .rest)) (slots-in gs) k)) in
         let v : number (g .head) 0 ≡ number (nth ctor-line ls c) 0 = ap (λ (l : Line). number l 0) a in
@@ -170,26 +171,26 @@ module _ (ls : List Line) (keep ps : List ℕ) where
     module _ (n kind last : ℕ) (r : List Line) (c f : ℕ) (flat : kind ≡ 2 → count-of field-line r ≡ last) (many : kind ≡ 3 → count-of ctor-line r ≡ last)
         (first : kind ≡ 3 → select field-line (before (is ctor-line) r) ≡ []) (counted : kind ≡ 3 → AllCounted (groups (is ctor-line) r))
         (t : Stands bad (nth ctor-line ls) c (select ctor-line r)) (s : Stands bad (nth field-line ls) f (select field-line r)) where
-      made-kept : Stands false (keep-at keep) f (all-slots (made q (trees ls) ps n kind r))
-          → map kept-ctor (made q (trees ls) ps n kind r) ≡ (eqb kind 2 ⇒ record { ct-name = n; ct-fields = fields-by ls keep ps f last } ∷ [] ∥ eqb kind 3 ⇒ ctors-by ls keep ps c f last ∥ [])
+      made-kept : (tag : ℕ → Option ℕ) → Stands false (keep-at keep) f (all-slots (made tag q (trees ls) ps n kind r))
+          → map kept-ctor (made tag q (trees ls) ps n kind r) ≡ (eqb kind 2 ⇒ record { ct-name = n; ct-fields = fields-by ls keep ps f last } ∷ [] ∥ eqb kind 3 ⇒ ctors-by ls keep ps c f last ∥ [])
       unfolding made by all-slots ctor-layout
-      made-kept = go (eqb kind 2) (eqb kind 3) refl refl
+      made-kept tag = go (eqb kind 2) (eqb kind 3) refl refl
         where
           go : (x y : Bool) → eqb kind 2 ≡ x → eqb kind 3 ≡ y
               → Stands false (keep-at keep) f (all-slots (
-              x ⇒ ctor-layout (record { ct-name = n; ct-fields = map (close-field ps) (map (field-of (trees ls)) (select field-line r)) }) (q r) ∷ [] ∥
-              y ⇒ by (groups (is ctor-line) r) ∥
+              x ⇒ ctor-layout (tag 0) (record { ct-name = n; ct-fields = map (close-field ps) (map (field-of (trees ls)) (select field-line r)) }) (q r) ∷ [] ∥
+              y ⇒ by tag (groups (is ctor-line) r) ∥
               []))
               → map kept-ctor (
-              x ⇒ ctor-layout (record { ct-name = n; ct-fields = map (close-field ps) (map (field-of (trees ls)) (select field-line r)) }) (q r) ∷ [] ∥
-              y ⇒ by (groups (is ctor-line) r) ∥
+              x ⇒ ctor-layout (tag 0) (record { ct-name = n; ct-fields = map (close-field ps) (map (field-of (trees ls)) (select field-line r)) }) (q r) ∷ [] ∥
+              y ⇒ by tag (groups (is ctor-line) r) ∥
               []) ≡ (x ⇒ record { ct-name = n; ct-fields = fields-by ls keep ps f last } ∷ [] ∥ y ⇒ ctors-by ls keep ps c f last ∥ [])
           go true y u v k =
               ap (λ (w : List Field). record { ct-name = n; ct-fields = w } ∷ [])
               (fields-are (select field-line r) (q r) f (full r) s (rw append-nil at k) ∙ ap (fields-by ls keep ps f) (flat (eqb-true kind 2 u)))
           go false true u v k =
               let e : kind ≡ 3 = eqb-true kind 3 v in
-              by-ctors (groups (is ctor-line) r) c f (counted e) (rw heads-of t) (rw (body.ctor-fields r (first e)) at s) (rw by-slots at k)
+              by-ctors tag (groups (is ctor-line) r) c f (counted e) (rw heads-of t) (rw (body.ctor-fields r (first e)) at s) (rw by-slots at k)
               ∙ ap (ctors-by ls keep ps c f) (length-groups-of ctor-line r ∙ many e)
           go false false u v k = refl
 
@@ -202,33 +203,33 @@ module _ (er : ℕ → Bool) (ts : List Cty) (ps : List ℕ) where
   unfolding local slots
   local-full r = simp length-map
 
-  by-local : (gs : List Group) → layouts-of-ctors er (map (closed-ctor ps) (map (ctor-of ts) gs)) ≡ ctor-layouts-by (map (closed-ctor ps) (map (ctor-of ts) gs)) (map (λ (g : Group). local (g .rest)) gs)
+  by-local : (tag : ℕ → Option ℕ) (gs : List Group) → layouts-of-ctors er tag (map (closed-ctor ps) (map (ctor-of ts) gs)) ≡ ctor-layouts-by tag (map (closed-ctor ps) (map (ctor-of ts) gs)) (map (λ (g : Group). local (g .rest)) gs)
   unfolding table ctor-layouts-by local ctor-of
-  by-local [] = refl
-  by-local (g ∷ gs) = ap (λ (w : List CtorLayout). ctor-layout (closed-ctor ps (ctor-of ts g)) (local (g .rest)) ∷ w) (by-local gs)
+  by-local tag [] = refl
+  by-local tag (g ∷ gs) = ap (λ (w : List CtorLayout). ctor-layout (tag 0) (closed-ctor ps (ctor-of ts g)) (local (g .rest)) ∷ w) (by-local (λ i. tag (suc i)) gs)
 
   module _ (n kind last : ℕ) (r : List Line) where
-    made-local : layouts-of-ctors er (ctors-of n (close-body ps (body-of ts kind last r))) ≡ made local ts ps n kind r
+    made-local : (tag : ℕ → Option ℕ) → layouts-of-ctors er tag (ctors-of n (close-body ps (body-of ts kind last r))) ≡ made tag local ts ps n kind r
     unfolding table body-of close-body ctors-of made local
-    made-local = go (eqb kind 1) (eqb kind 2) (eqb kind 3) refl refl refl
+    made-local tag = go (eqb kind 1) (eqb kind 2) (eqb kind 3) refl refl refl
       where
         go : (x y z : Bool) → eqb kind 1 ≡ x → eqb kind 2 ≡ y → eqb kind 3 ≡ z
-            → layouts-of-ctors er (ctors-of n (close-body ps (
+            → layouts-of-ctors er tag (ctors-of n (close-body ps (
             x ⇒ TAbbrev (type-at ts last) ∥
             y ⇒ TRecord (map (field-of ts) (select field-line r)) ∥
             z ⇒ TVariant (map (ctor-of ts) (groups (is ctor-line) r)) ∥
-            TAbstract))) ≡ made local ts ps n kind r
+            TAbstract))) ≡ made tag local ts ps n kind r
         go true y z a c d = let e = eqb-true kind 1 a in rw e
         go false true z a c d = rw c
-        go false false true a c d = rw (c, d) (by-local (groups (is ctor-line) r))
+        go false false true a c d = rw (c, d) (by-local tag (groups (is ctor-line) r))
         go false false false a c d = rw (c, d)
 
-    made-import : ctor-layouts-by (ctors-of n (close-body ps (body-of ts kind last r))) (keeps-of (close-body ps (body-of ts kind last r)) r) ≡ made keeps ts ps n kind r
+    made-import : (tag : ℕ → Option ℕ) → ctor-layouts-by tag (ctors-of n (close-body ps (body-of ts kind last r))) (keeps-of (close-body ps (body-of ts kind last r)) r) ≡ made tag keeps ts ps n kind r
     unfolding body-of close-body ctors-of keeps-of ctor-layouts-by made
-    made-import = go (eqb kind 1) (eqb kind 2) (eqb kind 3) refl refl refl
+    made-import tag = go (eqb kind 1) (eqb kind 2) (eqb kind 3) refl refl refl
       where
         go : (x y z : Bool) → eqb kind 1 ≡ x → eqb kind 2 ≡ y → eqb kind 3 ≡ z
-            → ctor-layouts-by (ctors-of n (close-body ps (
+            → ctor-layouts-by tag (ctors-of n (close-body ps (
             x ⇒ TAbbrev (type-at ts last) ∥
             y ⇒ TRecord (map (field-of ts) (select field-line r)) ∥
             z ⇒ TVariant (map (ctor-of ts) (groups (is ctor-line) r)) ∥
@@ -236,7 +237,7 @@ module _ (er : ℕ → Bool) (ts : List Cty) (ps : List ℕ) where
             x ⇒ TAbbrev (type-at ts last) ∥
             y ⇒ TRecord (map (field-of ts) (select field-line r)) ∥
             z ⇒ TVariant (map (ctor-of ts) (groups (is ctor-line) r)) ∥
-            TAbstract)) r) ≡ made keeps ts ps n kind r
+            TAbstract)) r) ≡ made tag keeps ts ps n kind r
         go true y z a c d = let e = eqb-true kind 1 a in rw e
         go false true z a c d = rw c
         go false false true a c d = rw (c, d)
@@ -277,15 +278,15 @@ module _ (ls : List Line) (p : Passed ls) (keep : List ℕ) (k : Slotted ls keep
       (record { there = λ j l. sym (ap (λ (x : ℕ). eqb x 1) (k .slots d h j l) ∙ bit-one (getD (slots-at (program ls) d) j false)) })
 
   -- what is kept by lines, where these are what is kept by types
-  by-made : (q : List Line → List Bool) → ((r : List Line) → length (q r) ≡ count-of field-line r)
-      → ctors-at (program ls) d ≡ made q (trees ls) (params-of ls d) (number (head-line ls d) 0) (body-kind ls d) (group ls d .rest)
+  by-made : (tag : ℕ → Option ℕ) (q : List Line → List Bool) → ((r : List Line) → length (q r) ≡ count-of field-line r)
+      → ctors-at (program ls) d ≡ made tag q (trees ls) (params-of ls d) (number (head-line ls d) 0) (body-kind ls d) (group ls d .rest)
       → map kept-ctor (ctors-at (program ls) d) ≡ ctors-kept ls keep d
   unfolding ctors-kept
-  by-made q full e =
+  by-made tag q full e =
       ap (map kept-ctor) e
       ∙ made-kept ls keep (params-of ls d) q full (number (head-line ls d) 0) (body-kind ls d) (body-last ls d) (group ls d .rest)
       (first-of ctor-line ls d) (first-of field-line ls d) (λ z. w .fields z .0) (w .ctors) (w .ctors-first) (w .counted)
-      (lines-stand ls d h ctor-line refl refl) (lines-stand ls d h field-line refl refl) (rw e at slots-stand)
+      (lines-stand ls d h ctor-line refl refl) (lines-stand ls d h field-line refl refl) tag (rw e at slots-stand)
 
   er : ℕ → Bool
   er = marked (program ls) (erasure-fixpoint (program ls) .marks)
@@ -295,15 +296,18 @@ module _ (ls : List Line) (p : Passed ls) (keep : List ℕ) (k : Slotted ls keep
   unfolding ctors-of-decl ctor-layouts info-of close-fields dtype-of er
   ctors-are = go (is import-line (head-line ls d)) refl
     where
+      tag : ℕ → Option ℕ
+      tag = ctor-tag (length (ctors-of (number (head-line ls d) 0) (close-body (params-of ls d) (body-of (trees ls) (body-kind ls d) (body-last ls d) (group ls d .rest)))))
+
       go : (c : Bool) → is import-line (head-line ls d) ≡ c → map kept-ctor (ctors-at (program ls) d) ≡ ctors-kept ls keep d
       go true e =
-          by-made keeps keeps-full
+          by-made (tags (group ls d .rest)) keeps keeps-full
           (rw (origin-import ls d h e, params-lines ls d h)
-          (made-import er (trees ls) (params-of ls d) (number (head-line ls d) 0) (body-kind ls d) (body-last ls d) (group ls d .rest)))
+          (made-import er (trees ls) (params-of ls d) (number (head-line ls d) 0) (body-kind ls d) (body-last ls d) (group ls d .rest) (tags (group ls d .rest))))
       go false e =
-          by-made (local er (trees ls) (params-of ls d)) (local-full er (trees ls) (params-of ls d))
+          by-made tag (local er (trees ls) (params-of ls d)) (local-full er (trees ls) (params-of ls d))
           (rw (origin-local ls d h e, dtype-is ls d h, params-lines ls d h)
-          (made-local er (trees ls) (params-of ls d) (number (head-line ls d) 0) (body-kind ls d) (body-last ls d) (group ls d .rest)))
+          (made-local er (trees ls) (params-of ls d) (number (head-line ls d) 0) (body-kind ls d) (body-last ls d) (group ls d .rest) tag))
 
   -- as many
   pub ctors-count : length (ctors-at (program ls) d) ≡ length (ctors-kept ls keep d)

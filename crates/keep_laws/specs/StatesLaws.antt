@@ -76,7 +76,7 @@ types-of-layouts [] = refl
 types-of-layouts (cl ∷ cls) = go (types-of-layouts cls) (cl .cl-fields)
   where
     go : field-types cls ≡ types-of-ctors (map kept-ctor cls) → (fs : List Field)
-        → field-types (record { cl-name = cl .cl-name; cl-slots = cl .cl-slots; cl-fields = fs } ∷ cls) ≡ types-of-fields fs ++ types-of-ctors (map kept-ctor cls)
+        → field-types (record { cl-name = cl .cl-name; cl-tag = cl .cl-tag; cl-slots = cl .cl-slots; cl-fields = fs } ∷ cls) ≡ types-of-fields fs ++ types-of-ctors (map kept-ctor cls)
     go e [] = e
     go e (f ∷ fs) = ap (λ (r : List Cty). f .fd-type ∷ r) (go e fs)
 

@@ -1,15 +1,15 @@
 -- A program does not depend on the texts of its lines. Assumes nothing.
-use mathlib.Core.Path.{_≡_, refl, _∙_}
+use mathlib.Core.Path.{_≡_, refl, ap, _∙_}
 use mathlib.Core.List.{List, [], _∷_, _++_, map}
 use mathlib.Core.Bool.{Bool, true, false, not}
-use Prim.Native.Nat.{ℕ}
+use Prim.Native.Nat.{ℕ, zero, suc}
 use lib.Dec.{eqb}
 use lib.ListN.{getD}
 use Rattle.number_columns.specs.Column.{pick}
 use Rattle.sheet.specs.Line.{Line, bad, number}
 use Rattle.walk_cells.specs.Cells.{bare}
 use Rattle.model.specs.Cty.{Cty}
-use Rattle.model.specs.Decl.{Body, TAbstract, TAbbrev, TRecord, TVariant, Dtype, close-fields, imported}
+use Rattle.model.specs.Decl.{Ctor, Body, TAbstract, TAbbrev, TRecord, TVariant, Dtype, ctors-of-tydef, close-fields, imported}
 use Rattle.meaning.specs.Program.{
   arg-line,
   type-line,
@@ -33,11 +33,15 @@ use Rattle.meaning.specs.Program.{
   dtype-of,
   keeps,
   keeps-of,
+  tag-of,
+  tags,
+  ctor-layouts-by,
   info-of,
   verdict-of,
   decl-of,
   program,
 }
+use Rattle.meaning_laws.specs.Program.{ctor-layouts-tags}
 
 -- ---- parts of a sheet
 pub select-bare : (x : ℕ) (ls : List Line) → select x (map bare ls) ≡ map bare (select x ls)
@@ -77,6 +81,12 @@ groups-bare p h (l ∷ ls) = rw (h l, groups-bare p h ls, before-bare p h ls) (g
     go false = refl
 
 -- what is made of each line alone
+-- what goes by a line's letter and numbers alone
+pub at-bare : {A : Type 0} (f : Line → A) → ((l : Line) → f (bare l) ≡ f l) → (ls : List Line) (i : ℕ) → f (getD (map bare ls) i bad) ≡ f (getD ls i bad)
+at-bare f h [] i = refl
+at-bare f h (l ∷ ls) zero = h l
+at-bare f h (l ∷ ls) (suc i) = at-bare f h ls i
+
 pub map-bare : {A : Type 0} (f : Line → A) → ((l : Line) → f (bare l) ≡ f l) → (ls : List Line) → map f (map bare ls) ≡ map f ls
 map-bare f h [] = refl
 map-bare f h (l ∷ ls) = rw (h l, map-bare f h ls)
@@ -137,13 +147,20 @@ keeps-of-bare (TRecord fs) ls = rw (keeps-bare ls)
 keeps-of-bare (TVariant cs) ls =
     rw (groups-bare (is ctor-line) (λ l. refl) ls, map-groups (λ g. keeps (g .rest)) (λ g. keeps-bare (g .rest)) (groups (is ctor-line) ls))
 
+tags-bare : (ls : List Line) (i : ℕ) → tags (map bare ls) i ≡ tags ls i
+tags-bare ls i = ap (λ (ms : List Line). tag-of (number (getD ms i bad) 2)) (select-bare ctor-line ls) ∙ ap tag-of (at-bare (λ l. number l 2) (λ l. refl) (select ctor-line ls) i)
+
 info-line : (d : Dtype) (ls : List Line) (v w : Line) → number v 0 ≡ number w 0 → number v 1 ≡ number w 1 → number v 2 ≡ number w 2 → info-of d ls v ≡ info-of d ls w
 unfolding info-of
 info-line d ls v w e f g = rw (e, f, g)
 
 info-lines : (d : Dtype) (ls : List Line) (v : Line) → info-of d (map bare ls) v ≡ info-of d ls v
 unfolding info-of
-info-lines d ls v = rw (keeps-of-bare (d .dt-body) ls)
+info-lines d ls v =
+    let cs : List Ctor = ctors-of-tydef d in
+    let e : ctor-layouts-by (tags (map bare ls)) cs (keeps-of (d .dt-body) (map bare ls)) ≡ ctor-layouts-by (tags ls) cs (keeps-of (d .dt-body) ls) =
+    ap (ctor-layouts-by (tags (map bare ls)) cs) (keeps-of-bare (d .dt-body) ls) ∙ ctor-layouts-tags (tags (map bare ls)) (tags ls) cs (keeps-of (d .dt-body) ls) (λ i h. tags-bare ls i) in
+    rw e
 
 -- the V line, by its numbers
 info-bare : (d : Dtype) (ls : List Line) → info-of d (map bare ls) (verdict-of (map bare ls)) ≡ info-of d ls (verdict-of ls)

@@ -1,5 +1,5 @@
 -- Rows 3, 4, 5 and 7 do not depend on texts, and row 6 only where it compares spellings. Assumes nothing.
-use mathlib.Core.Path.{_≡_, refl, ap, sym, _∙_}
+use mathlib.Core.Path.{_≡_, refl, ap, ap₂, sym, _∙_}
 use mathlib.Core.List.{List, [], _∷_, map}
 use mathlib.Core.Bool.{Bool, true, false, _&&_, _||_, not}
 use Prim.Native.Nat.{ℕ, zero, suc, _≤_, _<_}
@@ -51,6 +51,8 @@ use Rattle.meaning.specs.Rows.{
   last-head,
   head-of,
   kept-after,
+  ctors-after,
+  tag-in,
   good-verdict,
   good-verdicts,
   row7,
@@ -60,19 +62,13 @@ use Rattle.meaning.specs.Rows.{
   same-ctor,
   repeats,
 }
-use Rattle.meaning_bares.specs.ProgramLaws.{select-bare, map-bare}
+use Rattle.meaning_bares.specs.ProgramLaws.{at-bare, select-bare, map-bare}
 
 -- ---- lines by their place
 take-bare : (i : ℕ) (ls : List Line) → take i (map bare ls) ≡ map bare (take i ls)
 take-bare zero ls = refl
 take-bare (suc i) [] = refl
 take-bare (suc i) (l ∷ ls) = ap (λ (ms : List Line). bare l ∷ ms) (take-bare i ls)
-
--- what goes by a line's letter and numbers alone
-pub at-bare : {A : Type 0} (f : Line → A) → ((l : Line) → f (bare l) ≡ f l) → (ls : List Line) (i : ℕ) → f (line-at (map bare ls) i) ≡ f (line-at ls i)
-at-bare f h [] i = refl
-at-bare f h (l ∷ ls) zero = h l
-at-bare f h (l ∷ ls) (suc i) = at-bare f h ls i
 
 pub count-bare : (x : ℕ) (ls : List Line) → count-of x (map bare ls) ≡ count-of x ls
 count-bare x ls = rw (select-bare x ls) (length-map (select x ls) bare)
@@ -141,7 +137,7 @@ judged names types n y xs l =
     is type-line l ⇒ good-type names xs y l ∥
     is-head l ⇒ good-head names types l ∥
     is param-line l ⇒ ltb (number l 0) names && zeros-from 1 l ∥
-    is ctor-line l ⇒ ltb (number l 0) names && zeros-from 2 l ∥
+    is ctor-line l ⇒ ltb (number l 0) names && zeros-from 3 l ∥
     is field-line l ⇒ ltb (number l 0) names && ltb (number l 1) types && zeros-from 3 l ∥
     zeros-from 3 l
 
@@ -180,29 +176,36 @@ unfolding kept-after
 kept-bare n [] = refl
 kept-bare n (l ∷ ls) = kept-bare (pick (is-head l) 0 (pick (is field-line l && not (eqb (number l 2) 0)) (suc n) n)) ls
 
-allowed : Line → ℕ → Line → Bool
-allowed h kept l =
+ctors-bare : (n : ℕ) (ls : List Line) → ctors-after n (map bare ls) ≡ ctors-after n ls
+unfolding ctors-after
+ctors-bare n [] = refl
+ctors-bare n (l ∷ ls) = ctors-bare (pick (is-head l) 0 (pick (is ctor-line l) (suc n) n)) ls
+
+allowed : Line → ℕ → ℕ → Line → Bool
+allowed h ctors kept l =
+    is ctor-line l ⇒ eqb (number l 2) (tag-in h ctors) ∥
     is field-line l ⇒ leb (number l 2) (pick (is import-line h) 1 0) ∥
     is verdict-line l && is import-line h ⇒ good-verdict h kept l ∥
     is verdict-line l ⇒ eqb (number l 0) 0 && eqb (number l 1) 0 && eqb (number l 2) 0 ∥
     true
 
-allowed-line : (h : Line) (kept : ℕ) (l : Line) → allowed h kept (bare l) ≡ allowed h kept l
+allowed-line : (h : Line) (ctors kept : ℕ) (l : Line) → allowed h ctors kept (bare l) ≡ allowed h ctors kept l
 unfolding allowed good-verdict
-allowed-line h kept l = refl
+allowed-line h ctors kept l = refl
 
-allowed-head : (kept : ℕ) (l h : Line) → allowed (bare h) kept l ≡ allowed h kept l
+allowed-head : (ctors kept : ℕ) (l h : Line) → allowed (bare h) ctors kept l ≡ allowed h ctors kept l
 unfolding allowed good-verdict
-allowed-head kept l h = refl
+allowed-head ctors kept l h = refl
 
 verdicts-bare : (ls : List Line) (i : ℕ) → good-verdicts (map bare ls) i ≡ good-verdicts ls i
 unfolding good-verdicts allowed
 verdicts-bare ls i =
     let k = kept-after 0 (take i (map bare ls)) in
-    at-bare (allowed (head-of (map bare ls) i) k) (allowed-line (head-of (map bare ls) i) k) ls i
-    ∙ (ap (λ (ms : List Line). allowed (last-head bad ms) k (line-at ls i)) (take-bare (suc i) ls)
-    ∙ (last-bare (λ h. allowed h k (line-at ls i)) (allowed-head k (line-at ls i)) bad bad refl (take (suc i) ls)
-    ∙ ap (λ (n : ℕ). allowed (head-of ls i) n (line-at ls i)) (ap (kept-after 0) (take-bare i ls) ∙ kept-bare 0 (take i ls))))
+    let c = ctors-after 0 (take i (map bare ls)) in
+    at-bare (allowed (head-of (map bare ls) i) c k) (allowed-line (head-of (map bare ls) i) c k) ls i
+    ∙ (ap (λ (ms : List Line). allowed (last-head bad ms) c k (line-at ls i)) (take-bare (suc i) ls)
+    ∙ (last-bare (λ h. allowed h c k (line-at ls i)) (allowed-head c k (line-at ls i)) bad bad refl (take (suc i) ls)
+    ∙ ap₂ (λ (m n : ℕ). allowed (head-of ls i) m n (line-at ls i)) (ap (ctors-after 0) (take-bare i ls) ∙ ctors-bare 0 (take i ls)) (ap (kept-after 0) (take-bare i ls) ∙ kept-bare 0 (take i ls))))
 
 pub row7-bare : (ls : List Line) (i : ℕ) → row7 (map bare ls) i ≡ row7 ls i
 unfolding row7

@@ -1,7 +1,8 @@
 -- The layout that an import's lines say names only what the declaration's own types name. Assumes nothing.
 use mathlib.Core.List.{List, [], _∷_, List·Memᴰ·not-nil}
 use mathlib.Core.Bool.{Bool, true, false}
-use Prim.Native.Nat.{ℕ}
+use mathlib.Core.Option.{Option}
+use Prim.Native.Nat.{ℕ, suc}
 use lib.Dec.{eqb}
 use Rattle.number_columns.specs.Column.{pick, _⇒_∥_}
 use Rattle.sheet.specs.Line.{Line}
@@ -10,17 +11,17 @@ use Rattle.model.specs.Layout.{ctor-layout, newtype-of, collapse}
 use Rattle.model.specs.Names.{ctors-names, body-names, dtype-names, Among, cls-names, layout-names}
 use Rattle.model_laws.specs.Names.{among-append, kept-names, ctors-own}
 use Rattle.model_laws.specs.Own.{Own, option-weaken, newtype-own, collapse-own}
-use Rattle.meaning.specs.Program.{keeps-of, ctor-layouts-by, abbreviated, layout-by, info-of}
+use Rattle.meaning.specs.Program.{keeps-of, tags, ctor-layouts-by, abbreviated, layout-by, info-of}
 
-pub cls-by : (cs : List Ctor) (bss : List (List Bool)) → Among (cls-names (ctor-layouts-by cs bss)) (ctors-names cs)
+pub cls-by : (tag : ℕ → Option ℕ) (cs : List Ctor) (bss : List (List Bool)) → Among (cls-names (ctor-layouts-by tag cs bss)) (ctors-names cs)
 unfolding cls-names ctors-names ctor-layout ctor-layouts-by
-cls-by [] bss n m = m
-cls-by (c ∷ cs) [] n m = absurd (List·Memᴰ·not-nil m)
-cls-by (c ∷ cs) (bs ∷ bss) n m = among-append _ _ _ _ (kept-names bs (c .ct-fields)) (cls-by cs bss) n m
+cls-by tag [] bss n m = m
+cls-by tag (c ∷ cs) [] n m = absurd (List·Memᴰ·not-nil m)
+cls-by tag (c ∷ cs) (bs ∷ bss) n m = among-append _ _ _ _ (kept-names bs (c .ct-fields)) (cls-by (λ i. tag (suc i)) cs bss) n m
 
-pub ctor-layouts-by-own : (d : Dtype) (bss : List (List Bool)) → Own d (ctor-layouts-by (ctors-of-tydef d) bss)
+pub ctor-layouts-by-own : (d : Dtype) (tag : ℕ → Option ℕ) (bss : List (List Bool)) → Own d (ctor-layouts-by tag (ctors-of-tydef d) bss)
 unfolding dtype-names
-ctor-layouts-by-own d bss n m = ctors-own (d .dt-name) (d .dt-body) n (cls-by (ctors-of-tydef d) bss n m)
+ctor-layouts-by-own d tag bss n m = ctors-own (d .dt-name) (d .dt-body) n (cls-by tag (ctors-of-tydef d) bss n m)
 
 -- the layout that an import's lines say
 abbreviated-own : (b : Body) → Among (layout-names (abbreviated b)) (body-names b)
@@ -53,4 +54,4 @@ layout-by-own d k cls f = go0 (eqb k 0)
 
 pub info-own : (d : Dtype) (ls : List Line) (v : Line) → Among (layout-names (info-of d ls v .ti-layout)) (dtype-names d)
 unfolding info-of
-info-own d ls v = layout-by-own d _ _ (ctor-layouts-by-own d (keeps-of (d .dt-body) ls))
+info-own d ls v = layout-by-own d _ _ (ctor-layouts-by-own d (tags ls) (keeps-of (d .dt-body) ls))

@@ -114,6 +114,7 @@ use Rattle.meaning.specs.Program.{
   body-of,
   dtype-of,
   keeps-of,
+  tags,
   ctor-layouts-by,
   abbreviated,
   layout-by,
@@ -364,23 +365,23 @@ module _ (Q : ℕ → Type 0) (kind : (n : ℕ) → n ≤ 12 → Q n) (down : (m
   ctors-full n (TRecord fs) q h = (kind 1 (omega arith), ((q, h .0, h .1), tt), omega arith)
   ctors-full n (TVariant cs) q h = (h .0, h .1, omega arith)
 
-  ctor-layout-full : (c : Ctor) (bs : List Bool) → FullCtor Q c → FullLayouts Q (ctor-layout c bs)
+  ctor-layout-full : (tag : Option ℕ) (c : Ctor) (bs : List Bool) → FullCtor Q c → FullLayouts Q (ctor-layout tag c bs)
   unfolding ctor-layout
-  ctor-layout-full c bs h = (h .0, down (length (kept bs (c .ct-fields))) (length (c .ct-fields)) (length-kept bs (c .ct-fields)) (h .1), every-kept (FullField Q) bs (c .ct-fields) (h .2))
+  ctor-layout-full tag c bs h = (h .0, down (length (kept bs (c .ct-fields))) (length (c .ct-fields)) (length-kept bs (c .ct-fields)) (h .1), every-kept (FullField Q) bs (c .ct-fields) (h .2))
 
-  layouts-by : (er : ℕ → Bool) (cs : List Ctor) → Every (FullCtor Q) cs →
-      Every (FullLayouts Q) (layouts-of-ctors er cs) × (kept-fields (layouts-of-ctors er cs) ≤ ctor-fields cs)
+  layouts-by : (er : ℕ → Bool) (tag : ℕ → Option ℕ) (cs : List Ctor) → Every (FullCtor Q) cs →
+      Every (FullLayouts Q) (layouts-of-ctors er tag cs) × (kept-fields (layouts-of-ctors er tag cs) ≤ ctor-fields cs)
   unfolding table kept-fields ctor-fields ctor-layout
-  layouts-by er [] h = (tt, omega arith)
-  layouts-by er (c ∷ cs) h =
-      let k = layouts-by er cs (h .1) in
-      ((ctor-layout-full c (slots er (c .ct-fields)) (h .0), k .0), omega (arith, k .1, length-kept (slots er (c .ct-fields)) (c .ct-fields)))
+  layouts-by er tag [] h = (tt, omega arith)
+  layouts-by er tag (c ∷ cs) h =
+      let k = layouts-by er (λ i. tag (suc i)) cs (h .1) in
+      ((ctor-layout-full (tag 0) c (slots er (c .ct-fields)) (h .0), k .0), omega (arith, k .1, length-kept (slots er (c .ct-fields)) (c .ct-fields)))
 
   ctor-layouts-full : (er : ℕ → Bool) (d : Dtype) → FullDtype Q d → FullKept Q (body-fields (d .dt-body)) (ctor-layouts er d)
   unfolding ctor-layouts
   ctor-layouts-full er d h =
       let k = ctors-full (d .dt-name) (d .dt-body) (h .name) (h .body) in
-      let r = layouts-by er (ctors-of-tydef d) (k .1) in
+      let r = layouts-by er _ (ctors-of-tydef d) (k .1) in
       (rw length-table (k .0), r .0, omega (arith, r .1, k .2))
 
   newtype-ctor-full : (b n : ℕ) (bs : List Bool) (fs : List Field) → Every (FullField Q) fs → FullOption Q b (newtype-of-ctor n bs fs)
@@ -917,14 +918,14 @@ module _ (Q : ℕ → Type 0) (kind : (n : ℕ) → n ≤ 12 → Q n) (down : (m
     close-full d h = record { name = h .name; flags = h .flags; arity = h .arity; params = h .params; body = close-body-full (d .dt-params) (d .dt-body) (h .body) }
 
     -- an import's layout, by its keep numbers
-    by-full : (cs : List Ctor) (bss : List (List Bool)) → Every (FullCtor Q) cs →
-        Every (FullLayouts Q) (ctor-layouts-by cs bss) × (kept-fields (ctor-layouts-by cs bss) ≤ ctor-fields cs) × (length (ctor-layouts-by cs bss) ≤ length cs)
+    by-full : (tag : ℕ → Option ℕ) (cs : List Ctor) (bss : List (List Bool)) → Every (FullCtor Q) cs →
+        Every (FullLayouts Q) (ctor-layouts-by tag cs bss) × (kept-fields (ctor-layouts-by tag cs bss) ≤ ctor-fields cs) × (length (ctor-layouts-by tag cs bss) ≤ length cs)
     unfolding ctor-layouts-by kept-fields ctor-fields ctor-layout
-    by-full [] bss h = (tt, omega arith, omega arith)
-    by-full (c ∷ cs) [] h = (tt, omega arith, omega arith)
-    by-full (c ∷ cs) (bs ∷ bss) h =
-        let k = by-full cs bss (h .1) in
-        ((ctor-layout-full Q kind down c bs (h .0), k .0), omega (arith, k .1, length-kept bs (c .ct-fields)), omega (arith, k .2))
+    by-full tag [] bss h = (tt, omega arith, omega arith)
+    by-full tag (c ∷ cs) [] h = (tt, omega arith, omega arith)
+    by-full tag (c ∷ cs) (bs ∷ bss) h =
+        let k = by-full (λ i. tag (suc i)) cs bss (h .1) in
+        ((ctor-layout-full Q kind down (tag 0) c bs (h .0), k .0), omega (arith, k .1, length-kept bs (c .ct-fields)), omega (arith, k .2))
 
     abbreviated-full : (m : ℕ) (b : Body) → FullBody Q b → FullLayout Q m (abbreviated b)
     abbreviated-full m TAbstract h = tt
@@ -948,9 +949,9 @@ module _ (Q : ℕ → Type 0) (kind : (n : ℕ) → n ≤ 12 → Q n) (down : (m
     info-full d ls v h =
         let k = ctors-full Q kind down (d .dt-name) (d .dt-body) (h .name) (h .body) in
         let bss : List (List Bool) = keeps-of (d .dt-body) ls in
-        let r = by-full (ctors-of-tydef d) bss (k .1) in
-        layout-by-full (body-fields (d .dt-body)) (number v 1) (d .dt-body) (ctor-layouts-by (ctors-of-tydef d) bss) (h .body)
-        (down (length (ctor-layouts-by (ctors-of-tydef d) bss)) (length (ctors-of-tydef d)) (r .2) (k .0), r .0, omega (arith, r .1, k .2))
+        let r = by-full (tags ls) (ctors-of-tydef d) bss (k .1) in
+        layout-by-full (body-fields (d .dt-body)) (number v 1) (d .dt-body) (ctor-layouts-by (tags ls) (ctors-of-tydef d) bss) (h .body)
+        (down (length (ctor-layouts-by (tags ls) (ctors-of-tydef d) bss)) (length (ctors-of-tydef d)) (r .2) (k .0), r .0, omega (arith, r .1, k .2))
 
     decl-of-full : (g : Group) → Held (Numbered Q) n g → FullDecl Q (decl-of ts g)
     unfolding decl-of

@@ -1,14 +1,16 @@
 -- Laws of the two sheets that are written: what is added, how long they are, which names stand in the types of the left sheet, and
 -- that every line fits its columns. Assumes nothing.
+use mathlib.Core.Logic.{_⊎_, inl, inr}
 use mathlib.Core.Path.{_≡_, refl, ap, sym, _∙_}
 use mathlib.Core.List.{List, [], _∷_, _++_, map, append-assoc, append-nil, List·Memᴰ, List·Memᴰ·head, List·Memᴰ·tail, Memᴰ·append-left, Memᴰ·append-right}
 use mathlib.Core.Bool.{Bool, true, false}
+use mathlib.Core.Option.{Option, none as no-tag, some}
 use Prim.Native.Nat.{ℕ, zero, suc, _+_, _*_, _^_, _≤_, _<_}
 use native.Mathlib.Omega.{arith}
 use native.Mathlib.Nat.{mul-suc, mul-le-mul-left}
-use lib.Dec.{eqb}
+use lib.Dec.{eqb, leb}
 use lib.ListN.{length, getD, length-append, length-map}
-use borrow.Author.Tests.{eqb-true}
+use borrow.Author.Tests.{eqb-true, eqb-false, leb-true, leb-false}
 use Rattle.number_columns.specs.Column.{pick}
 use Rattle.number_columns.specs.ColumnLaws.{ten-pos}
 use Rattle.sheet.specs.Format.{lineBytes, textBytes}
@@ -17,11 +19,13 @@ use Rattle.sheet.specs.LineLaws.{AllBelow, Fits, named-length, row-length}
 use Rattle.sheet.specs.Sheet.{lines, encodes}
 use Rattle.sheet.specs.SheetLaws.{AllFit, length-encodes, lines-encodes}
 use Rattle.sheet.specs.ListLaws.{Every, every-mem, mem-every, every-map, every-over, every-append, every-left, every-right}
-use Rattle.meaning.specs.Program.{name-line, arg-line, type-line, local-line, param-line, ctor-line, field-line, verdict-line, import-line, is, is-head, select, before, Group, groups}
+use Rattle.meaning.specs.Program.{name-line, arg-line, type-line, local-line, param-line, ctor-line, field-line, verdict-line, import-line, is, is-head, select, before, Group, groups, dtype-of, info-of, verdict-of, decl-of, trees, program}
+use Rattle.meaning.specs.Rows.{count-of}
 use Rattle.model.specs.Cty.{Cty, Ctys, TUnit, TAny, TExn, TVar, TInt, TFloat, TConst, TArrow, TApp, TTuple, TBuf, TRef, TInline, nil, cons, gather, gathers, names-of-cty, lengths, size, sizes}
-use Rattle.model.specs.Decl.{bit, Field, Ctor, Body, TAbstract, TAbbrev, TRecord, TVariant, Dtype, Layout, L-erased, L-newtype, L-struct, L-abbrev, L-opaque, layout-number, TypeInfo}
-use Rattle.meaning.specs.Output.{fill-keeps, fill-verdict, all-slots, fill, fill-all, verdict-lines, Written, put, last, Members, listed, first-arg, emit, emits, Lines, field-lines, ctor-lines, decl-frame, decl-lines, program-lines, left-lines}
-use Rattle.meaning_laws.specs.Program.{flat, before-flat, length-verdict-lines}
+use Rattle.model.specs.Decl.{bit, Field, Ctor, Body, TAbstract, TAbbrev, TRecord, TVariant, Dtype, Layout, L-erased, L-newtype, L-struct, L-abbrev, L-opaque, layout-number, tag-number, ctors-of-tydef, close-fields, table, here, imported, TypeInfo}
+use Rattle.model.specs.Layout.{ctor-tag, ctor-layout, layouts-of-ctors, ctor-layouts}
+use Rattle.meaning.specs.Output.{fill-third, fill-keeps, fill-verdict, all-slots, fill, fill-all, verdict-lines, Written, put, last, Members, listed, first-arg, emit, emits, Lines, field-lines, ctor-lines, decl-frame, decl-lines, program-lines, left-lines}
+use Rattle.meaning_laws.specs.Program.{flat, before-flat, length-verdict-lines, third-line, tag-number-of, fill-told, fill-rest, Whole, AllWhole, Coherent, Told, AllTold, told-groups, ctors-counted}
 
 -- ---- lists
 -- ---- what is written is added at the ends
@@ -714,16 +718,20 @@ module _ (w : ℕ) (four : 4 < 10 ^ w) where
   zero-fits : 0 < 10 ^ w
   zero-fits = omega arith
 
-  keeps-fit : (bs : List Bool) (ls : List Line) → Every (Fits w) ls → Every (Fits w) (fill-keeps bs ls)
-  unfolding fill-keeps lettered
-  keeps-fit bs [] h = tt
-  keeps-fit [] (l ∷ ls) h = (h .0, keeps-fit [] ls (h .1))
-  keeps-fit (b ∷ bs) (l ∷ ls) h = go (is field-line l) (keeps-fit bs ls (h .1)) (keeps-fit (b ∷ bs) ls (h .1))
+  third-fit : (x : ℕ) → lettered x ≡ true → (ns : List ℕ) → AllBelow (10 ^ w) ns → (ls : List Line) → Every (Fits w) ls → Every (Fits w) (fill-third x ns ls)
+  unfolding fill-third
+  third-fit x t ns b [] h = tt
+  third-fit x t [] b (l ∷ ls) h = (h .0, third-fit x t [] tt ls (h .1))
+  third-fit x t (n ∷ ns) b (l ∷ ls) h = go (is x l) (third-fit x t ns (b .1) ls (h .1)) (third-fit x t (n ∷ ns) b ls (h .1))
     where
-      go : (c : Bool) → Every (Fits w) (fill-keeps bs ls) → Every (Fits w) (fill-keeps (b ∷ bs) ls) →
-          Every (Fits w) (elim c [ true ↦ row field-line (number l 0 ∷ number l 1 ∷ bit b ∷ 0 ∷ 0 ∷ []) ∷ fill-keeps bs ls | false ↦ l ∷ fill-keeps (b ∷ bs) ls ])
-      go true i j = ((refl, refl, (number-fits l 0 (h .0), (number-fits l 1 (h .0), (bit-fits b, (zero-fits, (zero-fits, tt)))))), i)
+      go : (c : Bool) → Every (Fits w) (fill-third x ns ls) → Every (Fits w) (fill-third x (n ∷ ns) ls) →
+          Every (Fits w) (elim c [ true ↦ third-line x n l ∷ fill-third x ns ls | false ↦ l ∷ fill-third x (n ∷ ns) ls ])
+      go true i j = ((t, refl, (number-fits l 0 (h .0), (number-fits l 1 (h .0), (b .0, (zero-fits, (zero-fits, tt)))))), i)
       go false i j = (h .0, j)
+
+  bits-below : (bs : List Bool) → AllBelow (10 ^ w) (map bit bs)
+  bits-below [] = tt
+  bits-below (b ∷ bs) = (bit-fits b, bits-below bs)
 
   verdict-fit : (ti : TypeInfo) (ls : List Line) → Every (Fits w) ls → Every (Fits w) (fill-verdict ti ls)
   unfolding fill-verdict lettered
@@ -735,41 +743,82 @@ module _ (w : ℕ) (four : 4 < 10 ^ w) where
       go l true k = (refl, refl, (bit-fits (ti .ti-erased), (layout-fits (ti .ti-layout), (bit-fits (ti .ti-record), (zero-fits, (zero-fits, tt))))))
       go l false k = k
 
-  fill-fits : (g : Group) (ti : TypeInfo) → Every (Fits w) (g .head ∷ g .rest) → Every (Fits w) (fill g ti)
-  unfolding fill lettered
-  fill-fits g ti h = go (is import-line (g .head))
-    where
-      go : (c : Bool) → Every (Fits w) (elim c [
-        | true ↦ g .head ∷ g .rest
-        | false ↦ row import-line (map (number (g .head)) (0 ∷ 1 ∷ 2 ∷ 3 ∷ 4 ∷ [])) ∷ fill-verdict ti (fill-keeps (all-slots (ti .ti-ctors)) (g .rest))
-      ])
-      go true = h
-      go false =
-          let f : (k : ℕ) → number (g .head) k < 10 ^ w = λ k. number-fits (g .head) k (h .0) in
-          ((refl, refl, (f 0, (f 1, (f 2, (f 3, (f 4, tt)))))), verdict-fit ti (fill-keeps (all-slots (ti .ti-ctors)) (g .rest)) (keeps-fit (all-slots (ti .ti-ctors)) (g .rest) (h .1)))
+  -- a tag's number is at most how many constructors there are
+  tags-below : (er : ℕ → Bool) (tag : ℕ → Option ℕ) (cs : List Ctor) → ((i : ℕ) → i < length cs → tag-number (tag i) < 10 ^ w) → AllBelow (10 ^ w) (map tag-number-of (layouts-of-ctors er tag cs))
+  unfolding table ctor-layout
+  tags-below er tag [] h = tt
+  tags-below er tag (c ∷ cs) h = (h 0 (omega arith), tags-below er (λ i. tag (suc i)) cs (λ i k. h (suc i) (omega arith)))
 
-  fill-all-fits : (gs : List Group) (tis : List TypeInfo) → Every (Fits w) (flat gs) → Every (Fits w) (fill-all gs tis)
+  ctor-tag-below : (n i : ℕ) → n < 10 ^ w → i < n → tag-number (ctor-tag n i) < 10 ^ w
+  ctor-tag-below n i b h = go (eqb n 1)
+    where
+      go : (c : Bool) → tag-number (pick c no-tag (some i)) < 10 ^ w
+      go true = zero-fits
+      go false = omega arith
+
+  ctors-below : (g : Group) → Whole g → Fits w (g .head) → count-of ctor-line (g .rest) < 10 ^ w
+  ctors-below g v h = go (leb (number (g .head) 2) 1) (eqb (number (g .head) 2) 2) refl refl
+    where
+      go : (a b : Bool) → leb (number (g .head) 2) 1 ≡ a → eqb (number (g .head) 2) 2 ≡ b → count-of ctor-line (g .rest) < 10 ^ w
+      go true b p q = omega (arith, v .bare (leb-true (number (g .head) 2) 1 p) .1)
+      go false true p q = omega (arith, v .fields (eqb-true (number (g .head) 2) 2 q) .1)
+      go false false p q =
+          let e : number (g .head) 2 ≡ 3 = omega (arith, v .kinds, leb-false (number (g .head) 2) 1 p, eqb-false (number (g .head) 2) 2 q) in
+          omega (arith, v .ctors e, number-fits (g .head) 4 h)
+
+  -- the tags of a local declaration
+  told-below : (ts : List Cty) (g : Group) (ti : TypeInfo) → Whole g → Coherent (close-fields (dtype-of ts g)) ti → Fits w (g .head) → AllBelow (10 ^ w) (map tag-number-of (ti .ti-ctors))
+  unfolding ctor-layouts close-fields dtype-of
+  told-below ts g ti v c h =
+      let d : Dtype = close-fields (dtype-of ts g) in
+      let cs : List Ctor = ctors-of-tydef d in
+      rw (c .ctors) (tags-below (c .erasing) (ctor-tag (length cs)) cs (λ i k. ctor-tag-below (length cs) i (few (ctors-counted (d .dt-params) ts (d .dt-name) g v)) k))
+    where
+      few : {n m : ℕ} → (n ≡ count-of ctor-line (g .rest)) ⊎ ((n ≡ 1) × (m ≡ 0)) → n < 10 ^ w
+      few (inl e) = omega (arith, ctors-below g v h)
+      few (inr e) = omega (arith, e .0)
+
+  fill-fits : (ts : List Cty) (g : Group) (ti : TypeInfo) → Whole g → Told (decl-of ts g) ti → Every (Fits w) (g .head ∷ g .rest) → Every (Fits w) (fill g ti)
+  unfolding fill lettered decl-of
+  fill-fits ts g ti v t h = go (is import-line (g .head)) t
+    where
+      go : (c : Bool)
+          → Told (record { dtype = close-fields (dtype-of ts g); origin = pick c (imported (info-of (close-fields (dtype-of ts g)) (g .rest) (verdict-of (g .rest)))) here }) ti
+          → Every (Fits w) (elim c [
+            | true ↦ g .head ∷ g .rest
+            | false ↦ row import-line (map (number (g .head)) (0 ∷ 1 ∷ 2 ∷ 3 ∷ 4 ∷ [])) ∷ fill-rest ti (g .rest)
+          ])
+      go true u = h
+      go false u =
+          let f : (k : ℕ) → number (g .head) k < 10 ^ w = λ k. number-fits (g .head) k (h .0) in
+          let bs : List Bool = all-slots (ti .ti-ctors) in (
+            (refl, refl, (f 0, (f 1, (f 2, (f 3, (f 4, tt)))))),
+            third-fit ctor-line refl (map tag-number-of (ti .ti-ctors)) (told-below ts g ti v u (h .0)) (fill-told ti (g .rest))
+                (verdict-fit ti (fill-keeps bs (g .rest)) (third-fit field-line refl (map bit bs) (bits-below bs) (g .rest) (h .1))),
+          )
+
+  fill-all-fits : (ts : List Cty) (gs : List Group) (tis : List TypeInfo) → AllWhole gs → AllTold (map (decl-of ts) gs) tis → Every (Fits w) (flat gs) → Every (Fits w) (fill-all gs tis)
   unfolding fill-all flat
-  fill-all-fits [] tis h = tt
-  fill-all-fits (g ∷ gs) [] h = tt
-  fill-all-fits (g ∷ gs) (ti ∷ tis) h =
+  fill-all-fits ts [] tis v t h = tt
+  fill-all-fits ts (g ∷ gs) [] v t h = tt
+  fill-all-fits ts (g ∷ gs) (ti ∷ tis) v t h =
       every-append (Fits w) (fill g ti) (fill-all gs tis)
-      (fill-fits g ti (every-left (Fits w) (g .head ∷ g .rest) (flat gs) h))
-      (fill-all-fits gs tis (every-right (Fits w) (g .head ∷ g .rest) (flat gs) h))
+      (fill-fits ts g ti (v .0) (t .0) (every-left (Fits w) (g .head ∷ g .rest) (flat gs) h))
+      (fill-all-fits ts gs tis (v .1) (t .1) (every-right (Fits w) (g .head ∷ g .rest) (flat gs) h))
 
   -- the lines of the verdict sheet fit where the input's do
-  pub verdict-fits : (ls : List Line) (tis : List TypeInfo) → AllFit w ls → AllFit w (verdict-lines ls tis)
-  unfolding verdict-lines
-  verdict-fits ls tis h =
+  pub verdict-fits : (ls : List Line) (tis : List TypeInfo) → AllWhole (groups is-head ls) → AllTold (program ls) tis → AllFit w ls → AllFit w (verdict-lines ls tis)
+  unfolding verdict-lines program
+  verdict-fits ls tis v t h =
       let p = before is-head ls in
       let q = flat (groups is-head ls) in
       let k : Every (Fits w) (p ++ q) = rw (before-flat is-head ls) h in
-      every-append (Fits w) p (fill-all (groups is-head ls) tis) (every-left (Fits w) p q k) (fill-all-fits (groups is-head ls) tis (every-right (Fits w) p q k))
+      every-append (Fits w) p (fill-all (groups is-head ls) tis) (every-left (Fits w) p q k) (fill-all-fits (trees ls) (groups is-head ls) tis v t (every-right (Fits w) p q k))
 
 -- as many bytes as the lines of the input have, and they read as its lines
-pub verdict-bytes : (w : ℕ) (ls : List Line) (tis : List TypeInfo) → 4 < 10 ^ w → AllFit w ls → length (groups is-head ls) ≡ length tis →
+pub verdict-bytes : (w : ℕ) (ls : List Line) (tis : List TypeInfo) → 4 < 10 ^ w → AllWhole (groups is-head ls) → AllTold (program ls) tis → AllFit w ls →
     length (encodes w (verdict-lines ls tis)) ≡ lineBytes w * length ls
-verdict-bytes w ls tis f h e = rw (length-encodes w (verdict-lines ls tis) (verdict-fits w f ls tis h), length-verdict-lines ls tis (sym e))
+verdict-bytes w ls tis f v t h = rw (length-encodes w (verdict-lines ls tis) (verdict-fits w f ls tis v t h), length-verdict-lines ls tis (told-groups ls tis t))
 
-pub verdict-round : (w : ℕ) (ls : List Line) (tis : List TypeInfo) → 0 < w → AllFit w ls → lines w (encodes w (verdict-lines ls tis)) ≡ verdict-lines ls tis
-verdict-round w ls tis z h = lines-encodes w (verdict-lines ls tis) z (verdict-fits w (ten w z) ls tis h)
+pub verdict-round : (w : ℕ) (ls : List Line) (tis : List TypeInfo) → 0 < w → AllWhole (groups is-head ls) → AllTold (program ls) tis → AllFit w ls → lines w (encodes w (verdict-lines ls tis)) ≡ verdict-lines ls tis
+verdict-round w ls tis z v t h = lines-encodes w (verdict-lines ls tis) z (verdict-fits w (ten w z) ls tis v t h)

@@ -7,17 +7,19 @@ use mathlib.Core.Bool.{Bool, true, false, _||_, not}
 use mathlib.Core.Option.{Option, none, some}
 use Prim.Native.Nat.{ℕ, zero, suc, _+_, _≤_, _<_}
 use native.Mathlib.Omega.{arith}
-use lib.Dec.{eqb}
-use lib.ListN.{length, getD, take, drop, length-append, length-map}
-use borrow.Author.Tests.{eqb-true, eqb-false}
+use lib.Dec.{eqb, leb}
+use lib.ListN.{length, getD, take, drop, length-append, length-map, List·getD-map}
+use borrow.Author.Tests.{eq-eqb, eqb-true, eqb-false, leb-true, leb-false}
 use Rattle.number_columns.specs.Column.{pick, _⇒_∥_}
 use Rattle.sheet.specs.Line.{Line, row, bad, letter, number}
 use Rattle.sheet.specs.ListLaws.{contrary, neither, Every, every-append, every-left, every-right}
 use Rattle.model.specs.Cty.{Cty, TUnit}
 use Rattle.model.specs.Decl.{
   bit,
+  tag-number,
   Field,
   Ctor,
+  no-ctor,
   Body,
   TAbstract,
   TAbbrev,
@@ -51,7 +53,7 @@ use Rattle.model.specs.Decl.{
   close-fields,
 }
 use Rattle.model.specs.Erasure.{cty-erased, marked, erasure-fixpoint}
-use Rattle.model.specs.Layout.{layouts-of-ctors, slots, ctor-layout, ctor-layouts, newtype-of, candidate, passes-of, dropped, collapse, layout-of-body, layout-of}
+use Rattle.model.specs.Layout.{ctor-tag, layouts-of-ctors, slots, ctor-layout, ctor-layouts, newtype-of, candidate, passes-of, dropped, collapse, layout-of-body, layout-of}
 use Rattle.model.specs.Names.{pin, pins}
 use Rattle.model.specs.Run.{info, run}
 use Rattle.meaning.specs.Program.{
@@ -77,6 +79,8 @@ use Rattle.meaning.specs.Program.{
   dtype-of,
   keeps,
   keeps-of,
+  tag-of,
+  tags,
   ctor-layouts-by,
   layout-by,
   info-of,
@@ -84,9 +88,9 @@ use Rattle.meaning.specs.Program.{
   decl-of,
   program,
 }
-use Rattle.meaning.specs.Output.{fill-keeps, fill-verdict, all-slots, fill, fill-all, verdict-lines, left-lines}
+use Rattle.meaning.specs.Output.{fill-third, fill-keeps, fill-tags, fill-verdict, all-slots, fill, fill-all, verdict-lines, left-lines}
 use Rattle.meaning.specs.Rows.{line-at, count-of, heads-before}
-use Rattle.model_laws.specs.Lists.{getD-map}
+use Rattle.model_laws.specs.Lists.{getD-map, getD-table, length-table}
 use Rattle.model_laws.specs.Layout.{getD-candidates, getD-layouts}
 
 -- ---- tests
@@ -380,39 +384,47 @@ head-at (l ∷ ls) k h = go (head-at ls) (is-head l) refl k h
 abbrev pub five : Line → List ℕ
 five l = map (number l) (0 ∷ 1 ∷ 2 ∷ 3 ∷ 4 ∷ [])
 
--- What a verdict sheet leaves of a line: D and I lines alike, without an F line's keep and a V line's verdict.
+-- a line of letter x without its third number
+abbrev without-third : ℕ → Line → Line
+without-third x l = row x (number l 0 ∷ number l 1 ∷ 0 ∷ number l 3 ∷ number l 4 ∷ [])
+
+-- What a verdict sheet leaves of a line: D and I lines alike, without a C line's tag, an F line's keep and a V line's verdict.
 unfoldable pub plain : Line → Line
 plain l =
     is-head l ⇒ row import-line (five l) ∥
-    is field-line l ⇒ row field-line (number l 0 ∷ number l 1 ∷ 0 ∷ number l 3 ∷ number l 4 ∷ []) ∥
+    is ctor-line l ⇒ without-third ctor-line l ∥
+    is field-line l ⇒ without-third field-line l ∥
     is verdict-line l ⇒ row verdict-line (0 ∷ 0 ∷ 0 ∷ number l 3 ∷ number l 4 ∷ []) ∥
     l
 
 -- a line by what `plain` makes of it
 pub data Kind (l : Line) : Type 0 where
   a-head : is-head l ≡ true → plain l ≡ row import-line (five l) → Kind l
-  a-field : letter l ≡ 70 → plain l ≡ row field-line (number l 0 ∷ number l 1 ∷ 0 ∷ number l 3 ∷ number l 4 ∷ []) → Kind l
+  a-ctor : letter l ≡ 67 → plain l ≡ without-third ctor-line l → Kind l
+  a-field : letter l ≡ 70 → plain l ≡ without-third field-line l → Kind l
   a-verdict : letter l ≡ 86 → plain l ≡ row verdict-line (0 ∷ 0 ∷ 0 ∷ number l 3 ∷ number l 4 ∷ []) → Kind l
-  another : is-head l ≡ false → is field-line l ≡ false → is verdict-line l ≡ false → plain l ≡ l → Kind l
+  another : is-head l ≡ false → is ctor-line l ≡ false → is field-line l ≡ false → is verdict-line l ≡ false → plain l ≡ l → Kind l
 
 pub kind : (l : Line) → Kind l
 unfolding plain
-kind l = go (is-head l) (is field-line l) (is verdict-line l) refl refl refl
+kind l = go (is-head l) (is ctor-line l) (is field-line l) (is verdict-line l) refl refl refl refl
   where
-    go : (a b c : Bool) → is-head l ≡ a → is field-line l ≡ b → is verdict-line l ≡ c → Kind l
-    go true b c d e f = a-head d (rw d)
-    go false true c d e f = a-field (eqb-true (letter l) 70 e) (rw (d, e))
-    go false false true d e f = a-verdict (eqb-true (letter l) 86 f) (rw (d, e, f))
-    go false false false d e f = another d e f (rw (d, e, f))
+    go : (a x b c : Bool) → is-head l ≡ a → is ctor-line l ≡ x → is field-line l ≡ b → is verdict-line l ≡ c → Kind l
+    go true x b c d t e f = a-head d (rw d)
+    go false true b c d t e f = a-ctor (eqb-true (letter l) 67 t) (rw (d, t))
+    go false false true c d t e f = a-field (eqb-true (letter l) 70 e) (rw (d, t, e))
+    go false false false true d t e f = a-verdict (eqb-true (letter l) 86 f) (rw (d, t, e, f))
+    go false false false false d t e f = another d t e f (rw (d, t, e, f))
 
 pub plain-head : (l : Line) → is-head (plain l) ≡ is-head l
 plain-head l = go (kind l)
   where
     go : Kind l → is-head (plain l) ≡ is-head l
     go (a-head h e) = rw e (sym h)
+    go (a-ctor h e) = rw (e, h)
     go (a-field h e) = rw (e, h)
     go (a-verdict h e) = rw (e, h)
-    go (another h f v e) = rw e
+    go (another h t f v e) = rw e
 
 -- letters other than D and I are kept
 pub plain-is : (x : ℕ) → eqb 68 x ≡ false → eqb 73 x ≡ false → (l : Line) → is x (plain l) ≡ is x l
@@ -420,19 +432,21 @@ plain-is x p q l = go (kind l)
   where
     go : Kind l → is x (plain l) ≡ is x l
     go (a-head h e) = rw e (q ∙ ⊎-elim (λ k. rw k (sym p)) (λ k. rw k (sym q)) (head-cases l h))
+    go (a-ctor h e) = rw (e, h)
     go (a-field h e) = rw (e, h)
     go (a-verdict h e) = rw (e, h)
-    go (another h f v e) = rw e
+    go (another h t f v e) = rw e
 
--- and lines of letters other than D, I, F and V altogether
-pub plain-same : (x : ℕ) → eqb 68 x ≡ false → eqb 73 x ≡ false → eqb 70 x ≡ false → eqb 86 x ≡ false → (l : Line) → is x l ≡ true → plain l ≡ l
-plain-same x p q r s l t = go (kind l)
+-- and lines of letters other than D, I, C, F and V altogether
+pub plain-same : (x : ℕ) → eqb 68 x ≡ false → eqb 73 x ≡ false → eqb 67 x ≡ false → eqb 70 x ≡ false → eqb 86 x ≡ false → (l : Line) → is x l ≡ true → plain l ≡ l
+plain-same x p q o r s l t = go (kind l)
   where
     go : Kind l → plain l ≡ l
     go (a-head h e) = ⊎-elim (λ k. contrary (is x l) t (rw k p)) (λ k. contrary (is x l) t (rw k q)) (head-cases l h)
+    go (a-ctor h e) = contrary (is x l) t (rw h o)
     go (a-field h e) = contrary (is x l) t (rw h r)
     go (a-verdict h e) = contrary (is x l) t (rw h s)
-    go (another h f v e) = e
+    go (another h c f v e) = e
 
 -- ---- lines replaced one by one
 abbrev pub map-group : (Line → Line) → Group → Group
@@ -487,14 +501,15 @@ pub map-groups : {A : Type 0} (p : Line → Bool) (f g : Group → A) → ((b : 
 map-groups p f g k [] h = refl
 map-groups {A} p f g k (b ∷ gs) h = ap₂ (λ (a : A) (r : List A). a ∷ r) (k b (h .0)) (map-groups p f g k gs (h .1))
 
--- the lines of a letter other than D, I, F and V
-pub select-plain : (x : ℕ) → eqb 68 x ≡ false → eqb 73 x ≡ false → eqb 70 x ≡ false → eqb 86 x ≡ false → (ls : List Line) → select x (map plain ls) ≡ select x ls
-select-plain x p q r s ls =
-    select-map plain x (plain-is x p q) ls ∙ map-select x plain (λ l. l) (plain-same x p q r s) ls ∙ map-id (select x ls)
+-- the lines of a letter other than D, I, C, F and V
+pub select-plain : (x : ℕ) → eqb 68 x ≡ false → eqb 73 x ≡ false → eqb 67 x ≡ false → eqb 70 x ≡ false → eqb 86 x ≡ false → (ls : List Line)
+    → select x (map plain ls) ≡ select x ls
+select-plain x p q o r s ls =
+    select-map plain x (plain-is x p q) ls ∙ map-select x plain (λ l. l) (plain-same x p q o r s) ls ∙ map-id (select x ls)
 
 pub trees-plain : (ls : List Line) → trees (map plain ls) ≡ trees ls
 unfolding trees
-trees-plain ls = rw (select-plain arg-line refl refl refl refl ls, select-plain type-line refl refl refl refl ls)
+trees-plain ls = rw (select-plain arg-line refl refl refl refl refl ls, select-plain type-line refl refl refl refl refl ls)
 
 -- ---- declarations of lines seen alike
 field-plain : (ts : List Cty) (l : Line) → is field-line l ≡ true → field-of ts (plain l) ≡ field-of ts l
@@ -503,18 +518,29 @@ field-plain ts l e = go (kind l)
   where
     go : Kind l → field-of ts (plain l) ≡ field-of ts l
     go (a-head h k) = ⊎-elim (λ q. contrary (is field-line l) e (rw q)) (λ q. contrary (is field-line l) e (rw q)) (head-cases l h)
+    go (a-ctor h k) = contrary (is field-line l) e (rw h)
     go (a-field h k) = rw k
     go (a-verdict h k) = contrary (is field-line l) e (rw h)
-    go (another h f v k) = rw k
+    go (another h t f v k) = rw k
 
 fields-plain : (ts : List Cty) (ls : List Line) → map (field-of ts) (select field-line (map plain ls)) ≡ map (field-of ts) (select field-line ls)
 fields-plain ts ls =
     rw (select-map plain field-line (plain-is field-line refl refl) ls, map-map)
     (map-select field-line (λ l. field-of ts (plain l)) (field-of ts) (field-plain ts) ls)
 
+plain-ctor-line : (l : Line) → is ctor-line l ≡ true → plain l ≡ without-third ctor-line l
+plain-ctor-line l e = go (kind l)
+  where
+    go : Kind l → plain l ≡ without-third ctor-line l
+    go (a-head h k) = ⊎-elim (λ q. contrary (is ctor-line l) e (rw q)) (λ q. contrary (is ctor-line l) e (rw q)) (head-cases l h)
+    go (a-ctor h k) = k
+    go (a-field h k) = contrary (is ctor-line l) e (rw h)
+    go (a-verdict h k) = contrary (is ctor-line l) e (rw h)
+    go (another h t f v k) = contrary (is ctor-line l) e t
+
 ctor-plain : (ts : List Cty) (g : Group) → Grouped (is ctor-line) g → ctor-of ts (map-group plain g) ≡ ctor-of ts g
 unfolding ctor-of
-ctor-plain ts g h = rw (plain-same ctor-line refl refl refl refl (g .head) (h .begins), fields-plain ts (g .rest))
+ctor-plain ts g h = rw (plain-ctor-line (g .head) (h .begins), fields-plain ts (g .rest))
 
 ctors-plain : (ts : List Cty) (ls : List Line) → map (ctor-of ts) (groups (is ctor-line) (map plain ls)) ≡ map (ctor-of ts) (groups (is ctor-line) ls)
 ctors-plain ts ls =
@@ -531,15 +557,19 @@ unfolding dtype-of
 dtype-plain ts g h = go (kind (g .head))
   where
     go : Kind (g .head) → dtype-of ts (map-group plain g) ≡ dtype-of ts g
-    go (a-head q e) = rw (e, select-plain param-line refl refl refl refl (g .rest), body-plain ts (number (g .head) 2) (number (g .head) 4) (g .rest))
+    go (a-head q e) = rw (e, select-plain param-line refl refl refl refl refl (g .rest), body-plain ts (number (g .head) 2) (number (g .head) 4) (g .rest))
+    go (a-ctor q e) = contrary (is-head (g .head)) h (rw q)
     go (a-field q e) = contrary (is-head (g .head)) h (rw q)
     go (a-verdict q e) = contrary (is-head (g .head)) h (rw q)
-    go (another q f v e) = contrary (is-head (g .head)) h q
+    go (another q t f v e) = contrary (is-head (g .head)) h q
 
 -- ---- the verdict sheet's lines
--- a local declaration's lines below its D line, filled
+-- a local declaration's lines below its D line, filled: keeps and verdict, and then tags
+abbrev pub fill-told : TypeInfo → List Line → List Line
+fill-told ti ls = fill-verdict ti (fill-keeps (all-slots (ti .ti-ctors)) ls)
+
 abbrev pub fill-rest : TypeInfo → List Line → List Line
-fill-rest ti ls = fill-verdict ti (fill-keeps (all-slots (ti .ti-ctors)) ls)
+fill-rest ti ls = fill-tags (ti .ti-ctors) (fill-told ti ls)
 
 -- `fill`, as a group
 unfoldable pub filled : Group → TypeInfo → Group
@@ -588,109 +618,214 @@ filled-is-import g ti = go (is import-line (g .head)) refl
     go true e = e
     go false e = refl
 
--- ---- F lines filled
-pub fill-keeps-nil : (ls : List Line) → fill-keeps [] ls ≡ ls
-unfolding fill-keeps
-fill-keeps-nil [] = refl
-fill-keeps-nil (l ∷ ls) = ap (λ (r : List Line). l ∷ r) (fill-keeps-nil ls)
+-- ---- third numbers filled
+-- a line of letter x with its third number, and an F line with its keep
+abbrev pub third-line : ℕ → ℕ → Line → Line
+third-line x n l = row x (number l 0 ∷ number l 1 ∷ n ∷ 0 ∷ 0 ∷ [])
 
--- an F line with its keep
 abbrev pub kept-line : Bool → Line → Line
-kept-line b l = row field-line (number l 0 ∷ number l 1 ∷ bit b ∷ 0 ∷ 0 ∷ [])
+kept-line b l = third-line field-line (bit b) l
 
-pub fill-keeps-field : (b : Bool) (bs : List Bool) (l : Line) (ls : List Line) → is field-line l ≡ true → fill-keeps (b ∷ bs) (l ∷ ls) ≡ kept-line b l ∷ fill-keeps bs ls
-unfolding fill-keeps
-fill-keeps-field b bs l ls e = rw (e, fill-keeps)
+module _ (x : ℕ) where
+  pub fill-third-nil : (ls : List Line) → fill-third x [] ls ≡ ls
+  unfolding fill-third
+  fill-third-nil [] = refl
+  fill-third-nil (l ∷ ls) = ap (λ (r : List Line). l ∷ r) (fill-third-nil ls)
 
-pub fill-keeps-other : (bs : List Bool) (l : Line) (ls : List Line) → is field-line l ≡ false → fill-keeps bs (l ∷ ls) ≡ l ∷ fill-keeps bs ls
-unfolding fill-keeps
-fill-keeps-other [] l ls e = refl
-fill-keeps-other (b ∷ bs) l ls e = rw (e, fill-keeps)
+  pub fill-third-yes : (n : ℕ) (ns : List ℕ) (l : Line) (ls : List Line) → is x l ≡ true → fill-third x (n ∷ ns) (l ∷ ls) ≡ third-line x n l ∷ fill-third x ns ls
+  unfolding fill-third
+  fill-third-yes n ns l ls e = rw (e, fill-third)
 
-bit-keep : (b : Bool) → not (eqb (bit b) 0) ≡ b
-bit-keep true = refl
-bit-keep false = refl
+  pub fill-third-other : (ns : List ℕ) (l : Line) (ls : List Line) → is x l ≡ false → fill-third x ns (l ∷ ls) ≡ l ∷ fill-third x ns ls
+  unfolding fill-third
+  fill-third-other [] l ls e = refl
+  fill-third-other (n ∷ ns) l ls e = rw (e, fill-third)
 
--- lines, and the same lines with keeps put in
-pub data Filling : List Bool → List Line → List Line → Type 0 where
-  done : {bs : List Bool} → Filling bs [] []
-  keep : {b : Bool} {bs : List Bool} {l : Line} {ls r : List Line} → is field-line l ≡ true → Filling bs ls r → Filling (b ∷ bs) (l ∷ ls) (kept-line b l ∷ r)
-  pass : {bs : List Bool} {l : Line} {ls r : List Line} → is field-line l ≡ false → Filling bs ls r → Filling bs (l ∷ ls) (l ∷ r)
-  past : {l : Line} {ls r : List Line} → Filling [] ls r → Filling [] (l ∷ ls) (l ∷ r)
+  -- numbers for two runs of lines, as many in the first as it has lines of the letter
+  pub fill-third-append : (ms ns : List ℕ) (xs ys : List Line) → length ms ≡ count-of x xs → fill-third x (ms ++ ns) (xs ++ ys) ≡ fill-third x ms xs ++ fill-third x ns ys
+  unfolding fill-third select
+  fill-third-append [] ns [] ys h = refl
+  fill-third-append (m ∷ ms) ns [] ys h = absurd (omega arith)
+  fill-third-append ms ns (l ∷ xs) ys h = go (is x l) refl ms (λ us k. fill-third-append us ns xs ys k) h
+    where
+      go : (c : Bool) → is x l ≡ c → (us : List ℕ)
+          → ((vs : List ℕ) → length vs ≡ count-of x xs → fill-third x (vs ++ ns) (xs ++ ys) ≡ fill-third x vs xs ++ fill-third x ns ys)
+          → length us ≡ count-of x (l ∷ xs)
+          → fill-third x (us ++ ns) (l ∷ xs ++ ys) ≡ fill-third x us (l ∷ xs) ++ fill-third x ns ys
+      go true e [] ih k = absurd (omega (arith, ap length (select-yes x l xs e)))
+      go true e (u ∷ us) ih k =
+          fill-third-yes u (us ++ ns) l (xs ++ ys) e
+          ∙ ap (λ (r : List Line). third-line x u l ∷ r) (ih us (omega (arith, ap length (select-yes x l xs e))))
+          ∙ ap (λ (r : List Line). r ++ fill-third x ns ys) (sym (fill-third-yes u us l xs e))
+      go false e us ih k =
+          fill-third-other (us ++ ns) l (xs ++ ys) e
+          ∙ ap (λ (r : List Line). l ∷ r) (ih us (k ∙ ap length (select-no x l xs e)))
+          ∙ ap (λ (r : List Line). r ++ fill-third x ns ys) (sym (fill-third-other us l xs e))
 
-pub filling : (bs : List Bool) (ls : List Line) → Filling bs ls (fill-keeps bs ls)
-unfolding fill-keeps
-filling bs [] = done
-filling [] (l ∷ ls) = past (filling [] ls)
-filling (b ∷ bs) (l ∷ ls) = go (is field-line l) refl (filling bs ls) (filling (b ∷ bs) ls)
-  where
-    go : (c : Bool) → is field-line l ≡ c → Filling bs ls (fill-keeps bs ls) → Filling (b ∷ bs) ls (fill-keeps (b ∷ bs) ls)
-        → Filling (b ∷ bs) (l ∷ ls) (elim c [ true ↦ kept-line b l ∷ fill-keeps bs ls | false ↦ l ∷ fill-keeps (b ∷ bs) ls ])
-    go true e h k = keep e h
-    go false e h k = pass e k
+  fill-nothing : (ns : List ℕ) → fill-third x ns [] ≡ []
+  unfolding fill-third
+  fill-nothing ns = refl
 
-length-filling : {bs : List Bool} {ls r : List Line} → Filling bs ls r → length r ≡ length ls
-length-filling done = refl
-length-filling (keep e f) = ap suc (length-filling f)
-length-filling (pass e f) = ap suc (length-filling f)
-length-filling (past f) = ap suc (length-filling f)
+  pub fill-third-none : (ns : List ℕ) (xs ys : List Line) → select x xs ≡ [] → fill-third x ns (xs ++ ys) ≡ xs ++ fill-third x ns ys
+  fill-third-none ns xs ys h = fill-third-append [] ns xs ys (sym (ap length h)) ∙ ap (λ (r : List Line). r ++ fill-third x ns ys) (fill-third-nil xs)
 
-pub length-fill-keeps : (bs : List Bool) (ls : List Line) → length (fill-keeps bs ls) ≡ length ls
-length-fill-keeps bs ls = length-filling (filling bs ls)
+  pub fill-third-absent : (ns : List ℕ) (ls : List Line) → select x ls ≡ [] → fill-third x ns ls ≡ ls
+  fill-third-absent ns ls h = ap (fill-third x ns) (sym (append-nil ls)) ∙ (fill-third-none ns ls [] h ∙ ap (λ (r : List Line). ls ++ r) (fill-nothing ns) ∙ append-nil ls)
 
--- a test that holds of no F line
-none-filling : (p : Line → Bool) → ((b : Bool) (l : Line) → p (kept-line b l) ≡ false) → {bs : List Bool} {ls r : List Line} → Filling bs ls r → None p ls → None p r
-none-filling p k done h = tt
-none-filling p k (keep {b = b} {l = l} e f) h = (k b l, none-filling p k f (h .1))
-none-filling p k (pass e f) h = (h .0, none-filling p k f (h .1))
-none-filling p k (past f) h = (h .0, none-filling p k f (h .1))
+  pub fill-third-last : (ns : List ℕ) (xs : List Line) (v : Line) → is x v ≡ false → fill-third x ns (xs ++ (v ∷ [])) ≡ fill-third x ns xs ++ (v ∷ [])
+  unfolding fill-third
+  fill-third-last ns [] v e = fill-third-other ns v [] e
+  fill-third-last [] (l ∷ xs) v e = ap (λ (r : List Line). l ∷ r) (fill-third-last [] xs v e)
+  fill-third-last (n ∷ ns) (l ∷ xs) v e = go (is x l) (fill-third-last ns xs v e) (fill-third-last (n ∷ ns) xs v e)
+    where
+      go : (c : Bool) → fill-third x ns (xs ++ (v ∷ [])) ≡ fill-third x ns xs ++ (v ∷ []) → fill-third x (n ∷ ns) (xs ++ (v ∷ [])) ≡ fill-third x (n ∷ ns) xs ++ (v ∷ [])
+          → elim c [ true ↦ third-line x n l ∷ fill-third x ns (xs ++ (v ∷ [])) | false ↦ l ∷ fill-third x (n ∷ ns) (xs ++ (v ∷ [])) ]
+          ≡ elim c [ true ↦ third-line x n l ∷ fill-third x ns xs | false ↦ l ∷ fill-third x (n ∷ ns) xs ] ++ (v ∷ [])
+      go true h k = ap (λ (r : List Line). third-line x n l ∷ r) h
+      go false h k = ap (λ (r : List Line). l ∷ r) k
 
-pub none-fill-keeps : (p : Line → Bool) → ((b : Bool) (l : Line) → p (kept-line b l) ≡ false) → (bs : List Bool) (ls : List Line) → None p ls → None p (fill-keeps bs ls)
-none-fill-keeps p k bs ls h = none-filling p k (filling bs ls) h
+-- lines, and the same lines with a third number put into each of letter x, which f gives of the next member of a list
+pub data Filling (A : Type 0) (x : ℕ) (f : A → ℕ) : List A → List Line → List Line → Type 0 where
+  done : {bs : List A} → Filling A x f bs [] []
+  keep : {b : A} {bs : List A} {l : Line} {ls r : List Line} → is x l ≡ true → Filling A x f bs ls r → Filling A x f (b ∷ bs) (l ∷ ls) (third-line x (f b) l ∷ r)
+  pass : {bs : List A} {l : Line} {ls r : List Line} → is x l ≡ false → Filling A x f bs ls r → Filling A x f bs (l ∷ ls) (l ∷ r)
+  past : {l : Line} {ls r : List Line} → Filling A x f [] ls r → Filling A x f [] (l ∷ ls) (l ∷ r)
 
--- the lines of another letter stay
-select-filling : (x : ℕ) → eqb 70 x ≡ false → {bs : List Bool} {ls r : List Line} → Filling bs ls r → select x r ≡ select x ls
-unfolding select
-select-filling x q done = refl
-select-filling x q (keep {l = l} e f) = rw (eqb-true (letter l) 70 e, q) (select-filling x q f)
-select-filling x q (pass {l = l} e f) = rw (select-filling x q f)
-select-filling x q (past f) = rw (select-filling x q f)
+module _ {A : Type 0} (x : ℕ) (f : A → ℕ) where
+  pub filling : (bs : List A) (ls : List Line) → Filling A x f bs ls (fill-third x (map f bs) ls)
+  unfolding fill-third
+  filling bs [] = done
+  filling [] (l ∷ ls) = past (filling [] ls)
+  filling (b ∷ bs) (l ∷ ls) = go (is x l) refl (filling bs ls) (filling (b ∷ bs) ls)
+    where
+      go : (c : Bool) → is x l ≡ c → Filling A x f bs ls (fill-third x (map f bs) ls) → Filling A x f (b ∷ bs) ls (fill-third x (map f (b ∷ bs)) ls)
+          → Filling A x f (b ∷ bs) (l ∷ ls) (elim c [ true ↦ third-line x (f b) l ∷ fill-third x (map f bs) ls | false ↦ l ∷ fill-third x (map f (b ∷ bs)) ls ])
+      go true e h k = keep e h
+      go false e h k = pass e k
 
-pub select-fill-keeps : (x : ℕ) → eqb 70 x ≡ false → (bs : List Bool) (ls : List Line) → select x (fill-keeps bs ls) ≡ select x ls
-select-fill-keeps x q bs ls = select-filling x q (filling bs ls)
+  length-filling : {bs : List A} {ls r : List Line} → Filling A x f bs ls r → length r ≡ length ls
+  length-filling done = refl
+  length-filling (keep e h) = ap suc (length-filling h)
+  length-filling (pass e h) = ap suc (length-filling h)
+  length-filling (past h) = ap suc (length-filling h)
 
+  pub length-fill : (bs : List A) (ls : List Line) → length (fill-third x (map f bs) ls) ≡ length ls
+  length-fill bs ls = length-filling (filling bs ls)
+
+  -- a test that holds of no line of the letter
+  none-filling : (p : Line → Bool) → ((b : A) (l : Line) → p (third-line x (f b) l) ≡ false) → {bs : List A} {ls r : List Line} → Filling A x f bs ls r → None p ls → None p r
+  none-filling p k done h = tt
+  none-filling p k (keep {b = b} {l = l} e g) h = (k b l, none-filling p k g (h .1))
+  none-filling p k (pass e g) h = (h .0, none-filling p k g (h .1))
+  none-filling p k (past g) h = (h .0, none-filling p k g (h .1))
+
+  pub none-fill : (p : Line → Bool) → ((b : A) (l : Line) → p (third-line x (f b) l) ≡ false) → (bs : List A) (ls : List Line) → None p ls → None p (fill-third x (map f bs) ls)
+  none-fill p k bs ls h = none-filling p k (filling bs ls) h
+
+  -- the lines of another letter stay
+  select-filling : (y : ℕ) → eqb x y ≡ false → {bs : List A} {ls r : List Line} → Filling A x f bs ls r → select y r ≡ select y ls
+  unfolding select
+  select-filling y q done = refl
+  select-filling y q (keep {l = l} e g) = rw (eqb-true (letter l) x e, q) (select-filling y q g)
+  select-filling y q (pass {l = l} e g) = rw (select-filling y q g)
+  select-filling y q (past g) = rw (select-filling y q g)
+
+  pub select-fill : (y : ℕ) → eqb x y ≡ false → (bs : List A) (ls : List Line) → select y (fill-third x (map f bs) ls) ≡ select y ls
+  select-fill y q bs ls = select-filling y q (filling bs ls)
+
+  -- the numbers that are put in are the numbers that are read
+  thirds : List Line → List ℕ
+  thirds ls = map (λ l. number l 2) (select x ls)
+
+  thirds-yes : (l : Line) (ls : List Line) → is x l ≡ true → thirds (l ∷ ls) ≡ number l 2 ∷ thirds ls
+  unfolding thirds
+  thirds-yes l ls e = rw (select-yes x l ls e)
+
+  thirds-no : (l : Line) (ls : List Line) → is x l ≡ false → thirds (l ∷ ls) ≡ thirds ls
+  unfolding thirds
+  thirds-no l ls e = rw (select-no x l ls e)
+
+  thirds-none : (ls : List Line) → count-of x ls ≡ 0 → thirds ls ≡ []
+  unfolding thirds
+  thirds-none ls h = go (select x ls) h
+    where
+      go : (r : List Line) → length r ≡ 0 → map (λ l. number l 2) r ≡ []
+      go [] h = refl
+      go (l ∷ r) h = absurd (omega arith)
+
+  thirds-filling : {bs : List A} {ls r : List Line} → Filling A x f bs ls r → length bs ≡ count-of x ls → thirds r ≡ map f bs
+  thirds-filling {bs = []} done h = thirds-none [] (sym h)
+  thirds-filling {bs = b ∷ bs} done h = absurd (omega (arith, ap length (select-none x [] tt)))
+  thirds-filling (keep {b = b} {bs = bs} {l = l} {ls = ls} {r = r} e g) h =
+      thirds-yes (third-line x (f b) l) r (eq-eqb x x refl) ∙ ap (λ (s : List ℕ). f b ∷ s) (thirds-filling g (omega (arith, ap length (select-yes x l ls e))))
+  thirds-filling (pass {l = l} {ls = ls} {r = r} e g) h = thirds-no l r e ∙ thirds-filling g (h ∙ ap length (select-no x l ls e))
+  thirds-filling (past {l = l} {ls = ls} {r = r} g) h = go (is x l) refl (λ k. thirds-filling g k)
+    where
+      go : (c : Bool) → is x l ≡ c → (0 ≡ count-of x ls → thirds r ≡ []) → thirds (l ∷ r) ≡ []
+      go true e ih = absurd (omega (arith, ap length (select-yes x l ls e)))
+      go false e ih = thirds-no l r e ∙ ih (h ∙ ap length (select-no x l ls e))
+
+  pub thirds-fill : (bs : List A) (ls : List Line) → length bs ≡ count-of x ls → map (λ l. number l 2) (select x (fill-third x (map f bs) ls)) ≡ map f bs
+  unfolding thirds
+  thirds-fill bs ls h = thirds-filling (filling bs ls) h
+
+  -- as many lines of the letter, and what stands between them stays
+  count-filling : {bs : List A} {ls r : List Line} → Filling A x f bs ls r → count-of x r ≡ count-of x ls
+  unfolding select
+  count-filling done = refl
+  count-filling (keep e g) = rw (e, eq-eqb x x refl) (ap suc (count-filling g))
+  count-filling (pass e g) = rw e (count-filling g)
+  count-filling (past {l = l} {ls = ls} {r = r} g) = go (is x l) (count-filling g)
+    where
+      go : (c : Bool) → count-of x r ≡ count-of x ls → length (pick c (l ∷ select x r) (select x r)) ≡ length (pick c (l ∷ select x ls) (select x ls))
+      go true h = ap suc h
+      go false h = h
+
+  pub count-fill : (bs : List A) (ls : List Line) → count-of x (fill-third x (map f bs) ls) ≡ count-of x ls
+  count-fill bs ls = count-filling (filling bs ls)
+
+  before-filling : {bs : List A} {ls r : List Line} → Filling A x f bs ls r → before (is x) r ≡ before (is x) ls
+  unfolding before
+  before-filling done = refl
+  before-filling (keep e g) = rw (e, eq-eqb x x refl)
+  before-filling (pass e g) = rw (before-filling g)
+  before-filling (past g) = rw (before-filling g)
+
+  rests-filling : {bs : List A} {ls r : List Line} → Filling A x f bs ls r → map (λ (g : Group). g .rest) (groups (is x) r) ≡ map (λ (g : Group). g .rest) (groups (is x) ls)
+  unfolding groups
+  rests-filling done = refl
+  rests-filling (keep {l = l} {ls = ls} {r = r} e g) =
+      rw (e, eq-eqb x x refl) (ap₂ (λ (a : List Line) (s : List (List Line)). a ∷ s) (before-filling g) (rests-filling g))
+  rests-filling (pass {l = l} {ls = ls} {r = r} e g) = rw e (rests-filling g)
+  rests-filling (past {l = l} {ls = ls} {r = r} g) = go (is x l) (before-filling g) (rests-filling g)
+    where
+      go : (c : Bool) → before (is x) r ≡ before (is x) ls → map (λ (g : Group). g .rest) (groups (is x) r) ≡ map (λ (g : Group). g .rest) (groups (is x) ls)
+          → map (λ (g : Group). g .rest) (pick c (record { head = l; rest = before (is x) r } ∷ groups (is x) r) (groups (is x) r))
+          ≡ map (λ (g : Group). g .rest) (pick c (record { head = l; rest = before (is x) ls } ∷ groups (is x) ls) (groups (is x) ls))
+      go true a b = ap₂ (λ (u : List Line) (s : List (List Line)). u ∷ s) a b
+      go false a b = b
+
+  pub rests-fill : (bs : List A) (ls : List Line)
+      → map (λ (g : Group). g .rest) (groups (is x) (fill-third x (map f bs) ls)) ≡ map (λ (g : Group). g .rest) (groups (is x) ls)
+  rests-fill bs ls = rests-filling (filling bs ls)
+
+-- ---- F lines filled
 -- keeps for two runs of lines, as many in the first as it has F lines
 pub fill-keeps-append : (bs cs : List Bool) (xs ys : List Line) → length bs ≡ count-of field-line xs → fill-keeps (bs ++ cs) (xs ++ ys) ≡ fill-keeps bs xs ++ fill-keeps cs ys
-unfolding fill-keeps select
-fill-keeps-append [] cs [] ys h = refl
-fill-keeps-append (b ∷ bs) cs [] ys h = absurd (omega arith)
-fill-keeps-append bs cs (l ∷ xs) ys h = go (is field-line l) refl bs (λ us k. fill-keeps-append us cs xs ys k) h
-  where
-    go : (c : Bool) → is field-line l ≡ c → (us : List Bool)
-        → ((vs : List Bool) → length vs ≡ count-of field-line xs → fill-keeps (vs ++ cs) (xs ++ ys) ≡ fill-keeps vs xs ++ fill-keeps cs ys)
-        → length us ≡ count-of field-line (l ∷ xs)
-        → fill-keeps (us ++ cs) (l ∷ xs ++ ys) ≡ fill-keeps us (l ∷ xs) ++ fill-keeps cs ys
-    go true e [] ih k = absurd (omega (arith, ap length (select-yes field-line l xs e)))
-    go true e (u ∷ us) ih k =
-        fill-keeps-field u (us ++ cs) l (xs ++ ys) e
-        ∙ ap (λ (r : List Line). kept-line u l ∷ r) (ih us (omega (arith, ap length (select-yes field-line l xs e))))
-        ∙ ap (λ (r : List Line). r ++ fill-keeps cs ys) (sym (fill-keeps-field u us l xs e))
-    go false e us ih k =
-        fill-keeps-other (us ++ cs) l (xs ++ ys) e
-        ∙ ap (λ (r : List Line). l ∷ r) (ih us (k ∙ ap length (select-no field-line l xs e)))
-        ∙ ap (λ (r : List Line). r ++ fill-keeps cs ys) (sym (fill-keeps-other us l xs e))
+fill-keeps-append bs cs xs ys h =
+    ap (λ (ns : List ℕ). fill-third field-line ns (xs ++ ys)) (map-append bit bs cs) ∙ fill-third-append field-line (map bit bs) (map bit cs) xs ys (length-map bs bit ∙ h)
 
-pub fill-keeps-none : (bs : List Bool) (xs ys : List Line) → select field-line xs ≡ [] → fill-keeps bs (xs ++ ys) ≡ xs ++ fill-keeps bs ys
-fill-keeps-none bs xs ys h = fill-keeps-append [] bs xs ys (sym (ap length h)) ∙ ap (λ (r : List Line). r ++ fill-keeps bs ys) (fill-keeps-nil xs)
+bits-read : (bs : List Bool) → map (λ n. not (eqb n 0)) (map bit bs) ≡ bs
+bits-read [] = refl
+bits-read (true ∷ bs) = ap (λ (r : List Bool). true ∷ r) (bits-read bs)
+bits-read (false ∷ bs) = ap (λ (r : List Bool). false ∷ r) (bits-read bs)
 
 -- the keeps that are put in are the keeps that are read
-keeps-yes : (l : Line) (ls : List Line) → is field-line l ≡ true → keeps (l ∷ ls) ≡ not (eqb (number l 2) 0) ∷ keeps ls
+pub keeps-fill-keeps : (bs : List Bool) (ls : List Line) → length bs ≡ count-of field-line ls → keeps (fill-keeps bs ls) ≡ bs
 unfolding keeps
-keeps-yes l ls e = rw (select-yes field-line l ls e)
-
-keeps-no : (l : Line) (ls : List Line) → is field-line l ≡ false → keeps (l ∷ ls) ≡ keeps ls
-unfolding keeps
-keeps-no l ls e = rw (select-no field-line l ls e)
+keeps-fill-keeps bs ls h =
+    sym (map-map (λ n. not (eqb n 0)) (λ l. number l 2) (select field-line (fill-keeps bs ls)))
+    ∙ (ap (map (λ n. not (eqb n 0))) (thirds-fill field-line bit bs ls h) ∙ bits-read bs)
 
 pub keeps-none : (ls : List Line) → count-of field-line ls ≡ 0 → keeps ls ≡ []
 unfolding keeps
@@ -700,21 +835,43 @@ keeps-none ls h = go (select field-line ls) h
     go [] h = refl
     go (l ∷ r) h = absurd (omega arith)
 
-keeps-filling : {bs : List Bool} {ls r : List Line} → Filling bs ls r → length bs ≡ count-of field-line ls → keeps r ≡ bs
-keeps-filling {bs = []} done h = keeps-none [] (sym h)
-keeps-filling {bs = b ∷ bs} done h = absurd (omega (arith, ap length (select-none field-line [] tt)))
-keeps-filling (keep {b = b} {bs = bs} {l = l} {ls = ls} {r = r} e f) h =
-    keeps-yes (kept-line b l) r refl
-    ∙ ap₂ (λ (x : Bool) (s : List Bool). x ∷ s) (bit-keep b) (keeps-filling f (omega (arith, ap length (select-yes field-line l ls e))))
-keeps-filling (pass {l = l} {ls = ls} {r = r} e f) h = keeps-no l r e ∙ keeps-filling f (h ∙ ap length (select-no field-line l ls e))
-keeps-filling (past {l = l} {ls = ls} {r = r} f) h = go (is field-line l) refl (λ k. keeps-filling f k)
-  where
-    go : (c : Bool) → is field-line l ≡ c → (0 ≡ count-of field-line ls → keeps r ≡ []) → keeps (l ∷ r) ≡ []
-    go true e ih = absurd (omega (arith, ap length (select-yes field-line l ls e)))
-    go false e ih = keeps-no l r e ∙ ih (h ∙ ap length (select-no field-line l ls e))
+-- ---- C lines filled
+abbrev pub tag-number-of : CtorLayout → ℕ
+tag-number-of cl = tag-number (cl .cl-tag)
 
-pub keeps-fill-keeps : (bs : List Bool) (ls : List Line) → length bs ≡ count-of field-line ls → keeps (fill-keeps bs ls) ≡ bs
-keeps-fill-keeps bs ls h = keeps-filling (filling bs ls) h
+pub tag-read : (t : Option ℕ) → tag-of (tag-number t) ≡ t
+tag-read none = refl
+tag-read (some i) = refl
+
+-- the tags that are put in are the tags that are read
+pub tags-fill-tags : (cls : List CtorLayout) (ls : List Line) → length cls ≡ count-of ctor-line ls → (i : ℕ) (d : CtorLayout) → i < length cls → tags (fill-tags cls ls) i ≡ getD cls i d .cl-tag
+tags-fill-tags cls ls h i d k =
+    ap tag-of
+    (sym (List·getD-map (λ l. number l 2) (select ctor-line (fill-tags cls ls)) i bad)
+    ∙ (ap (λ (ns : List ℕ). getD ns i 0) (thirds-fill ctor-line tag-number-of cls ls h) ∙ getD-map tag-number-of cls i 0 d k))
+    ∙ tag-read (getD cls i d .cl-tag)
+
+-- where there is no C line, none is read
+pub tags-none : (ls : List Line) → count-of ctor-line ls ≡ 0 → (i : ℕ) → tags ls i ≡ none
+tags-none ls h i = go (select ctor-line ls) h
+  where
+    go : (r : List Line) → length r ≡ 0 → tag-of (number (getD r i bad) 2) ≡ none
+    go [] h = refl
+    go (l ∷ r) h = absurd (omega arith)
+
+-- tags change no keeps
+pub keeps-fill-tags : (cls : List CtorLayout) (ls : List Line) → keeps (fill-tags cls ls) ≡ keeps ls
+unfolding keeps
+keeps-fill-tags cls ls = rw (select-fill ctor-line tag-number-of field-line refl cls ls)
+
+pub keeps-of-fill-tags : (b : Body) (cls : List CtorLayout) (ls : List Line) → keeps-of b (fill-tags cls ls) ≡ keeps-of b ls
+unfolding keeps-of
+keeps-of-fill-tags TAbstract cls ls = refl
+keeps-of-fill-tags (TAbbrev c) cls ls = refl
+keeps-of-fill-tags (TRecord fs) cls ls = ap (λ (bs : List Bool). bs ∷ []) (keeps-fill-tags cls ls)
+keeps-of-fill-tags (TVariant cs) cls ls =
+    sym (map-map keeps (λ (g : Group). g .rest) (groups (is ctor-line) (fill-tags cls ls)))
+    ∙ (ap (map keeps) (rests-fill ctor-line tag-number-of cls ls) ∙ map-map keeps (λ (g : Group). g .rest) (groups (is ctor-line) ls))
 
 -- ---- V lines filled
 -- a V line with its verdict
@@ -760,10 +917,14 @@ verdict-fill-verdict ti ls h =
     rw (fill-verdict-map ti ls, select-map (tell ti) verdict-line (tell-is ti verdict-line) ls, map-select verdict-line (tell ti) (λ l. told-line ti) (λ l e. rw e) ls)
     (getD-map (λ (l : Line). told-line ti) (select verdict-line ls) 0 bad bad h)
 
-pub none-fill-rest : (ti : TypeInfo) (p : Line → Bool) → ((b : Bool) (l : Line) → p (kept-line b l) ≡ false) → ((l : Line) → p (tell ti l) ≡ p l)
-    → (ls : List Line) → None p ls → None p (fill-rest ti ls)
-none-fill-rest ti p k t ls h =
-    rw (fill-verdict-map ti (fill-keeps (all-slots (ti .ti-ctors)) ls)) (none-map (tell ti) p t (fill-keeps (all-slots (ti .ti-ctors)) ls) (none-fill-keeps p k (all-slots (ti .ti-ctors)) ls h))
+-- no line begins a declaration
+pub none-told : (ti : TypeInfo) (ls : List Line) → None is-head ls → None is-head (fill-told ti ls)
+none-told ti ls h =
+    rw (fill-verdict-map ti (fill-keeps (all-slots (ti .ti-ctors)) ls))
+    (none-map (tell ti) is-head (tell-head ti) (fill-keeps (all-slots (ti .ti-ctors)) ls) (none-fill field-line bit is-head (λ b l. refl) (all-slots (ti .ti-ctors)) ls h))
+
+none-fill-rest : (ti : TypeInfo) (ls : List Line) → None is-head ls → None is-head (fill-rest ti ls)
+none-fill-rest ti ls h = none-fill ctor-line tag-number-of is-head (λ cl l. refl) (ti .ti-ctors) (fill-told ti ls) (none-told ti ls h)
 
 -- ---- the groups of the verdict sheet
 pub filled-grouped : (g : Group) (ti : TypeInfo) → Grouped is-head g → Grouped is-head (filled g ti)
@@ -772,7 +933,7 @@ filled-grouped g ti h = go (is import-line (g .head))
   where
     go : (c : Bool) → Grouped is-head (pick c g (record { head = row import-line (five (g .head)); rest = fill-rest ti (g .rest) }))
     go true = h
-    go false = record { begins = refl; alone = none-fill-rest ti is-head (λ b l. refl) (tell-head ti) (g .rest) (h .alone) }
+    go false = record { begins = refl; alone = none-fill-rest ti (g .rest) (h .alone) }
 
 pub fills-grouped : (gs : List Group) (tis : List TypeInfo) → AllGrouped is-head gs → AllGrouped is-head (fills gs tis)
 unfolding fills
@@ -804,8 +965,9 @@ length-filled g ti = go (is import-line (g .head))
     go : (c : Bool) → length (pick c g (record { head = row import-line (five (g .head)); rest = fill-rest ti (g .rest) }) .rest) ≡ length (g .rest)
     go true = refl
     go false =
-        rw (fill-verdict-map ti (fill-keeps (all-slots (ti .ti-ctors)) (g .rest)))
-        (length-map (fill-keeps (all-slots (ti .ti-ctors)) (g .rest)) (tell ti) ∙ length-fill-keeps (all-slots (ti .ti-ctors)) (g .rest))
+        length-fill ctor-line tag-number-of (ti .ti-ctors) (fill-told ti (g .rest))
+        ∙ rw (fill-verdict-map ti (fill-keeps (all-slots (ti .ti-ctors)) (g .rest)))
+        (length-map (fill-keeps (all-slots (ti .ti-ctors)) (g .rest)) (tell ti) ∙ length-fill field-line bit (all-slots (ti .ti-ctors)) (g .rest))
 
 length-flat-fills : (gs : List Group) (tis : List TypeInfo) → length tis ≡ length gs → length (flat (fills gs tis)) ≡ length (flat gs)
 unfolding flat fills
@@ -826,36 +988,38 @@ length-verdict-lines ls tis h =
     ∙ ap length (before-flat is-head ls))
 
 -- ---- the verdict sheet's lines seen alike
--- The last two numbers of an F or V line are 0, as row 5 has it.
+-- The last two numbers of a C, F or V line are 0, as row 5 has it.
 abbrev pub Ended : Line → Type 0
-Ended l = (is field-line l || is verdict-line l) ≡ true → (number l 3 ≡ 0) × (number l 4 ≡ 0)
+Ended l = (is ctor-line l || is field-line l || is verdict-line l) ≡ true → (number l 3 ≡ 0) × (number l 4 ≡ 0)
 
 abbrev pub AllEnded : List Line → Type 0
 AllEnded = Every Ended
 
-ended-filling : {bs : List Bool} {ls r : List Line} → Filling bs ls r → AllEnded ls → AllEnded r
-ended-filling done h = tt
-ended-filling (keep e f) h = (λ q. (refl, refl), ended-filling f (h .1))
-ended-filling (pass e f) h = (h .0, ended-filling f (h .1))
-ended-filling (past f) h = (h .0, ended-filling f (h .1))
+ended-filling : {A : Type 0} (x : ℕ) (f : A → ℕ) {bs : List A} {ls r : List Line} → Filling A x f bs ls r → AllEnded ls → AllEnded r
+ended-filling x f done h = tt
+ended-filling x f (keep e g) h = (λ q. (refl, refl), ended-filling x f g (h .1))
+ended-filling x f (pass e g) h = (h .0, ended-filling x f g (h .1))
+ended-filling x f (past g) h = (h .0, ended-filling x f g (h .1))
 
-plain-field-line : (l : Line) → is field-line l ≡ true → plain l ≡ row field-line (number l 0 ∷ number l 1 ∷ 0 ∷ number l 3 ∷ number l 4 ∷ [])
+plain-field-line : (l : Line) → is field-line l ≡ true → plain l ≡ without-third field-line l
 plain-field-line l e = go (kind l)
   where
-    go : Kind l → plain l ≡ row field-line (number l 0 ∷ number l 1 ∷ 0 ∷ number l 3 ∷ number l 4 ∷ [])
+    go : Kind l → plain l ≡ without-third field-line l
     go (a-head h k) = ⊎-elim (λ q. contrary (is field-line l) e (rw q)) (λ q. contrary (is field-line l) e (rw q)) (head-cases l h)
+    go (a-ctor h k) = contrary (is field-line l) e (rw h)
     go (a-field h k) = k
     go (a-verdict h k) = contrary (is field-line l) e (rw h)
-    go (another h f v k) = contrary (is field-line l) e f
+    go (another h t f v k) = contrary (is field-line l) e f
 
 plain-verdict-line : (l : Line) → is verdict-line l ≡ true → plain l ≡ row verdict-line (0 ∷ 0 ∷ 0 ∷ number l 3 ∷ number l 4 ∷ [])
 plain-verdict-line l e = go (kind l)
   where
     go : Kind l → plain l ≡ row verdict-line (0 ∷ 0 ∷ 0 ∷ number l 3 ∷ number l 4 ∷ [])
     go (a-head h k) = ⊎-elim (λ q. contrary (is verdict-line l) e (rw q)) (λ q. contrary (is verdict-line l) e (rw q)) (head-cases l h)
+    go (a-ctor h k) = contrary (is verdict-line l) e (rw h)
     go (a-field h k) = contrary (is verdict-line l) e (rw h)
     go (a-verdict h k) = k
-    go (another h f v k) = contrary (is verdict-line l) e v
+    go (another h t f v k) = contrary (is verdict-line l) e v
 
 pub plain-head-line : (l : Line) → is-head l ≡ true → plain l ≡ row import-line (five l)
 unfolding plain
@@ -863,8 +1027,13 @@ plain-head-line l e = rw e
 
 plain-kept : (b : Bool) (l : Line) → is field-line l ≡ true → Ended l → plain (kept-line b l) ≡ plain l
 plain-kept b l e h =
-    let k = h (rw e) in
+    let k = h (rw (eqb-true (letter l) 70 e)) in
     plain-field-line (kept-line b l) refl ∙ rw (plain-field-line l e, k .0, k .1)
+
+plain-tagged : (cl : CtorLayout) (l : Line) → is ctor-line l ≡ true → Ended l → plain (third-line ctor-line (tag-number-of cl) l) ≡ plain l
+plain-tagged cl l e h =
+    let k = h (rw (eqb-true (letter l) 67 e)) in
+    plain-ctor-line (third-line ctor-line (tag-number-of cl) l) refl ∙ rw (plain-ctor-line l e, k .0, k .1)
 
 plain-told : (ti : TypeInfo) (l : Line) → Ended l → plain (tell ti l) ≡ plain l
 plain-told ti l h = go (is verdict-line l) refl
@@ -875,21 +1044,32 @@ plain-told ti l h = go (is verdict-line l) refl
         plain-verdict-line (told-line ti) refl ∙ rw (plain-verdict-line l e, k .0, k .1)
     go false e = refl
 
-plain-filling : {bs : List Bool} {ls r : List Line} → Filling bs ls r → AllEnded ls → map plain r ≡ map plain ls
-plain-filling done h = refl
-plain-filling (keep {b = b} {l = l} e f) h = ap₂ (λ (x : Line) (s : List Line). x ∷ s) (plain-kept b l e (h .0)) (plain-filling f (h .1))
-plain-filling (pass {l = l} e f) h = ap (λ (s : List Line). plain l ∷ s) (plain-filling f (h .1))
-plain-filling (past {l = l} f) h = ap (λ (s : List Line). plain l ∷ s) (plain-filling f (h .1))
+plain-filling : {A : Type 0} (x : ℕ) (f : A → ℕ) → ((b : A) (l : Line) → is x l ≡ true → Ended l → plain (third-line x (f b) l) ≡ plain l)
+    → {bs : List A} {ls r : List Line} → Filling A x f bs ls r → AllEnded ls → map plain r ≡ map plain ls
+plain-filling x f p done h = refl
+plain-filling x f p (keep {b = b} {l = l} e g) h = ap₂ (λ (y : Line) (s : List Line). y ∷ s) (p b l e (h .0)) (plain-filling x f p g (h .1))
+plain-filling x f p (pass {l = l} e g) h = ap (λ (s : List Line). plain l ∷ s) (plain-filling x f p g (h .1))
+plain-filling x f p (past {l = l} g) h = ap (λ (s : List Line). plain l ∷ s) (plain-filling x f p g (h .1))
 
 plain-tell : (ti : TypeInfo) (ls : List Line) → AllEnded ls → map plain (map (tell ti) ls) ≡ map plain ls
 plain-tell ti [] h = refl
 plain-tell ti (l ∷ ls) h = ap₂ (λ (x : Line) (s : List Line). x ∷ s) (plain-told ti l (h .0)) (plain-tell ti ls (h .1))
 
+ended-told : (ti : TypeInfo) (ls : List Line) → AllEnded ls → AllEnded (map (tell ti) ls)
+ended-told ti [] h = tt
+ended-told ti (l ∷ ls) h = (go (is verdict-line l) (h .0), ended-told ti ls (h .1))
+  where
+    go : (c : Bool) → Ended l → Ended (pick c (told-line ti) l)
+    go true k = λ q. (refl, refl)
+    go false k = k
+
 pub plain-fill-rest : (ti : TypeInfo) (ls : List Line) → AllEnded ls → map plain (fill-rest ti ls) ≡ map plain ls
+unfolding fill-verdict
 plain-fill-rest ti ls h =
-    rw (fill-verdict-map ti (fill-keeps (all-slots (ti .ti-ctors)) ls))
-    (plain-tell ti (fill-keeps (all-slots (ti .ti-ctors)) ls) (ended-filling (filling (all-slots (ti .ti-ctors)) ls) h)
-    ∙ plain-filling (filling (all-slots (ti .ti-ctors)) ls) h)
+    let bs : List Bool = all-slots (ti .ti-ctors) in
+    let k : AllEnded (fill-keeps bs ls) = ended-filling field-line bit (filling field-line bit bs ls) h in
+    plain-filling ctor-line tag-number-of plain-tagged (filling ctor-line tag-number-of (ti .ti-ctors) (fill-told ti ls)) (ended-told ti (fill-keeps bs ls) k)
+    ∙ (plain-tell ti (fill-keeps bs ls) k ∙ plain-filling field-line bit plain-kept (filling field-line bit bs ls) h)
 
 pub plain-filled : (g : Group) (ti : TypeInfo) → is-head (g .head) ≡ true → AllEnded (g .rest) → map-group plain (filled g ti) ≡ map-group plain g
 unfolding filled
@@ -1028,15 +1208,23 @@ concat (bs ∷ bss) = bs ++ concat bss
 abbrev pub slots-of : (ℕ → Bool) → List Ctor → List (List Bool)
 slots-of er cs = map (λ c. slots er (c .ct-fields)) cs
 
-pub all-slots-concat : (er : ℕ → Bool) (cs : List Ctor) → all-slots (layouts-of-ctors er cs) ≡ concat (slots-of er cs)
+pub all-slots-concat : (er : ℕ → Bool) (tag : ℕ → Option ℕ) (cs : List Ctor) → all-slots (layouts-of-ctors er tag cs) ≡ concat (slots-of er cs)
 unfolding table all-slots concat ctor-layout
-all-slots-concat er [] = refl
-all-slots-concat er (c ∷ cs) = ap (λ (r : List Bool). slots er (c .ct-fields) ++ r) (all-slots-concat er cs)
+all-slots-concat er tag [] = refl
+all-slots-concat er tag (c ∷ cs) = ap (λ (r : List Bool). slots er (c .ct-fields) ++ r) (all-slots-concat er (λ i. tag (suc i)) cs)
 
-ctor-layouts-slots : (er : ℕ → Bool) (cs : List Ctor) → ctor-layouts-by cs (slots-of er cs) ≡ layouts-of-ctors er cs
+ctor-layouts-slots : (er : ℕ → Bool) (tag : ℕ → Option ℕ) (cs : List Ctor) → ctor-layouts-by tag cs (slots-of er cs) ≡ layouts-of-ctors er tag cs
 unfolding table ctor-layouts-by
-ctor-layouts-slots er [] = refl
-ctor-layouts-slots er (c ∷ cs) = ap (λ (r : List CtorLayout). ctor-layout c (slots er (c .ct-fields)) ∷ r) (ctor-layouts-slots er cs)
+ctor-layouts-slots er tag [] = refl
+ctor-layouts-slots er tag (c ∷ cs) = ap (λ (r : List CtorLayout). ctor-layout (tag 0) c (slots er (c .ct-fields)) ∷ r) (ctor-layouts-slots er (λ i. tag (suc i)) cs)
+
+-- tags that agree as far as there are constructors
+pub ctor-layouts-tags : (s t : ℕ → Option ℕ) (cs : List Ctor) (bss : List (List Bool)) → ((i : ℕ) → i < length cs → s i ≡ t i) → ctor-layouts-by s cs bss ≡ ctor-layouts-by t cs bss
+unfolding ctor-layouts-by
+ctor-layouts-tags s t [] bss h = refl
+ctor-layouts-tags s t (c ∷ cs) [] h = refl
+ctor-layouts-tags s t (c ∷ cs) (bs ∷ bss) h =
+    ap₂ (λ (x : Option ℕ) (r : List CtorLayout). ctor-layout x c bs ∷ r) (h 0 (omega arith)) (ctor-layouts-tags (λ i. s (suc i)) (λ i. t (suc i)) cs bss (λ i k. h (suc i) (omega arith)))
 
 -- as many keeps as F lines, constructor by constructor
 abbrev pub Counts : List (List Bool) → List Group → Type 0
@@ -1056,10 +1244,10 @@ ctor-not-field l e = rw (eqb-true (letter l) 67 e)
 fill-keeps-flat : (bss : List (List Bool)) (gs : List Group) → AllGrouped (is ctor-line) gs → Counts bss gs
     → fill-keeps (concat bss) (flat gs) ≡ flat (keep-groups bss gs)
 unfolding flat concat keep-groups
-fill-keeps-flat [] gs k c = fill-keeps-nil (flat gs)
+fill-keeps-flat [] gs k c = fill-third-nil field-line (flat gs)
 fill-keeps-flat (bs ∷ bss) [] k c = absurd c
 fill-keeps-flat (bs ∷ bss) (g ∷ gs) k c =
-    fill-keeps-other (bs ++ concat bss) (g .head) (g .rest ++ flat gs) (ctor-not-field (g .head) (k .0 .begins))
+    fill-third-other field-line (map bit (bs ++ concat bss)) (g .head) (g .rest ++ flat gs) (ctor-not-field (g .head) (k .0 .begins))
     ∙ ap (λ (r : List Line). g .head ∷ r) (fill-keeps-append bs (concat bss) (g .rest) (flat gs) (c .0) ∙ ap (λ (r : List Line). fill-keeps bs (g .rest) ++ r) (fill-keeps-flat bss gs (k .1) (c .1)))
 
 keep-groups-grouped : (bss : List (List Bool)) (gs : List Group) → AllGrouped (is ctor-line) gs → AllGrouped (is ctor-line) (keep-groups bss gs)
@@ -1067,7 +1255,7 @@ unfolding keep-groups
 keep-groups-grouped [] gs k = k
 keep-groups-grouped (bs ∷ bss) [] k = tt
 keep-groups-grouped (bs ∷ bss) (g ∷ gs) k =
-    (record { begins = k .0 .begins; alone = none-fill-keeps (is ctor-line) (λ b l. refl) bs (g .rest) (k .0 .alone) }, keep-groups-grouped bss gs (k .1))
+    (record { begins = k .0 .begins; alone = none-fill field-line bit (is ctor-line) (λ b l. refl) bs (g .rest) (k .0 .alone) }, keep-groups-grouped bss gs (k .1))
 
 keeps-keep-groups : (bss : List (List Bool)) (gs : List Group) → Counts bss gs → map (λ g. keeps (g .rest)) (keep-groups bss gs) ≡ bss
 unfolding keep-groups
@@ -1084,7 +1272,7 @@ keeps-variant bss ls h c =
     let k : AllGrouped (is ctor-line) gs = grouped (is ctor-line) ls in
     let pre : List Line = before (is ctor-line) ls in
     let e : fill-keeps (concat bss) ls ≡ pre ++ flat (keep-groups bss gs) =
-    ap (fill-keeps (concat bss)) (sym (before-flat (is ctor-line) ls)) ∙ fill-keeps-none (concat bss) pre (flat gs) h ∙ ap (λ (r : List Line). pre ++ r) (fill-keeps-flat bss gs k c) in
+    ap (fill-keeps (concat bss)) (sym (before-flat (is ctor-line) ls)) ∙ fill-third-none field-line (map bit (concat bss)) pre (flat gs) h ∙ ap (λ (r : List Line). pre ++ r) (fill-keeps-flat bss gs k c) in
     ap (λ (r : List Line). map (λ (g : Group). keeps (g .rest)) (groups (is ctor-line) r)) e
     ∙ ap (map (λ (g : Group). keeps (g .rest))) (groups-header (is ctor-line) pre (keep-groups bss gs) (none-before (is ctor-line) ls) (keep-groups-grouped bss gs k))
     ∙ keeps-keep-groups bss gs c
@@ -1146,15 +1334,87 @@ bit-eq : (b : Bool) → eqb (bit b) 1 ≡ b
 bit-eq true = refl
 bit-eq false = refl
 
+-- as many groups as lines that begin one
+pub length-groups-of : (x : ℕ) (ls : List Line) → length (groups (is x) ls) ≡ count-of x ls
+unfolding groups select
+length-groups-of x [] = refl
+length-groups-of x (l ∷ ls) = go (is x l) (length-groups-of x ls)
+  where
+    go : (c : Bool) → length (groups (is x) ls) ≡ count-of x ls
+        → length (pick c (record { head = l; rest = before (is x) ls } ∷ groups (is x) ls) (groups (is x) ls)) ≡ length (pick c (l ∷ select x ls) (select x ls))
+    go true e = ap suc e
+    go false e = e
+
+-- the tags of layouts are those of their places
+pub tag-at : (er : ℕ → Bool) (tag : ℕ → Option ℕ) (cs : List Ctor) (i : ℕ) (d : CtorLayout) → i < length cs → getD (layouts-of-ctors er tag cs) i d .cl-tag ≡ tag i
+unfolding ctor-layout
+tag-at er tag cs i d h = ap (λ (cl : CtorLayout). cl .cl-tag) (getD-table (λ j. ctor-layout (tag j) (getD cs j no-ctor) (slots er (getD cs j no-ctor .ct-fields))) (length cs) i d h)
+
+-- The C lines of a declaration are as many as its constructors, or there are none, and it is a record, whose only constructor has no tag.
+pub ctors-counted : (ps : List ℕ) (ts : List Cty) (n : ℕ) (g : Group) → Whole g
+    → let cs = ctors-of n (close-body ps (body-of ts (number (g .head) 2) (number (g .head) 4) (g .rest))) in
+    (length cs ≡ count-of ctor-line (g .rest)) ⊎ ((length cs ≡ 1) × (count-of ctor-line (g .rest) ≡ 0))
+unfolding body-of close-body ctors-of
+ctors-counted ps ts n g w = go (eqb kind 1) (eqb kind 2) (eqb kind 3) refl refl refl
+  where
+    kind : ℕ
+    kind = number (g .head) 2
+
+    go : (a b c : Bool) → eqb kind 1 ≡ a → eqb kind 2 ≡ b → eqb kind 3 ≡ c
+        → let cs = ctors-of n (close-body ps (a ⇒ TAbbrev (getD ts (number (g .head) 4) TUnit) ∥ b ⇒ TRecord (map (field-of ts) (select field-line (g .rest))) ∥ c ⇒ TVariant (map (ctor-of ts) (groups (is ctor-line) (g .rest))) ∥ TAbstract)) in
+        (length cs ≡ count-of ctor-line (g .rest)) ⊎ ((length cs ≡ 1) × (count-of ctor-line (g .rest) ≡ 0))
+    go true b c p q r = inl (sym (w .bare (omega (arith, eqb-true kind 1 p)) .1))
+    go false true c p q r = inr (refl, w .fields (eqb-true kind 2 q) .1)
+    go false false true p q r =
+        inl
+        (length-map (map (ctor-of ts) (groups (is ctor-line) (g .rest))) (close-ctor ps)
+        ∙ (length-map (groups (is ctor-line) (g .rest)) (ctor-of ts) ∙ length-groups-of ctor-line (g .rest)))
+    go false false false p q r = inl (sym (w .bare (omega (arith, w .kinds, eqb-false kind 1 p, eqb-false kind 2 q, eqb-false kind 3 r)) .1))
+
+-- where there are C lines, the last number of a D or I line says how many constructors there are
+pub ctors-last : (ps : List ℕ) (ts : List Cty) (n : ℕ) (g : Group) → Whole g → 0 < count-of ctor-line (g .rest)
+    → length (ctors-of n (close-body ps (body-of ts (number (g .head) 2) (number (g .head) 4) (g .rest)))) ≡ number (g .head) 4
+ctors-last ps ts n g w h = go (leb (number (g .head) 2) 1) (eqb (number (g .head) 2) 2) refl refl (ctors-counted ps ts n g w)
+  where
+    go : (a b : Bool) → leb (number (g .head) 2) 1 ≡ a → eqb (number (g .head) 2) 2 ≡ b → {k : ℕ}
+        → (k ≡ count-of ctor-line (g .rest)) ⊎ ((k ≡ 1) × (count-of ctor-line (g .rest) ≡ 0)) → k ≡ number (g .head) 4
+    go true b p q c = absurd (omega (arith, w .bare (leb-true (number (g .head) 2) 1 p) .1))
+    go false true p q c = absurd (omega (arith, w .fields (eqb-true (number (g .head) 2) 2 q) .1))
+    go false false p q (inl e) = e ∙ w .ctors (omega (arith, w .kinds, leb-false (number (g .head) 2) 1 p, eqb-false (number (g .head) 2) 2 q))
+    go false false p q (inr e) = absurd (omega (arith, e .1))
+
+-- tags by place, put into lines with as many C lines, and read
+tags-filled : (er : ℕ → Bool) (cs : List Ctor) (ls : List Line) → (length cs ≡ count-of ctor-line ls) ⊎ ((length cs ≡ 1) × (count-of ctor-line ls ≡ 0))
+    → (i : ℕ) → i < length cs → tags (fill-tags (layouts-of-ctors er (ctor-tag (length cs)) cs) ls) i ≡ ctor-tag (length cs) i
+tags-filled er cs ls (inl e) i h =
+    let n : length (layouts-of-ctors er (ctor-tag (length cs)) cs) ≡ length cs = length-table _ (length cs) in
+    tags-fill-tags (layouts-of-ctors er (ctor-tag (length cs)) cs) ls (n ∙ e) i (ctor-layout none no-ctor []) (omega (arith, n))
+    ∙ tag-at er (ctor-tag (length cs)) cs i (ctor-layout none no-ctor []) h
+tags-filled er cs ls (inr e) i h =
+    tags-none (fill-tags (layouts-of-ctors er (ctor-tag (length cs)) cs) ls) (count-fill ctor-line tag-number-of (layouts-of-ctors er (ctor-tag (length cs)) cs) ls ∙ e .1) i ∙ sym (ap (λ (n : ℕ). ctor-tag n i) (e .0))
+
+-- the lines between are as many C lines
+pub ctors-told : (ti : TypeInfo) (ls : List Line) → select ctor-line (fill-told ti ls) ≡ select ctor-line ls
+ctors-told ti ls = select-fill-verdict ti ctor-line refl (fill-keeps (all-slots (ti .ti-ctors)) ls) ∙ select-fill field-line bit ctor-line refl (all-slots (ti .ti-ctors)) ls
+
 ctors-filled : (ts : List Cty) (g : Group) (ti : TypeInfo) → Whole g → Coherent (close-fields (dtype-of ts g)) ti
-    → ctor-layouts-by (ctors-of-tydef (close-fields (dtype-of ts g))) (keeps-of (close-fields (dtype-of ts g) .dt-body) (fill-rest ti (g .rest))) ≡ ti .ti-ctors
+    → ctor-layouts-by (tags (fill-rest ti (g .rest))) (ctors-of-tydef (close-fields (dtype-of ts g))) (keeps-of (close-fields (dtype-of ts g) .dt-body) (fill-rest ti (g .rest))) ≡ ti .ti-ctors
 unfolding ctor-layouts close-fields dtype-of
 ctors-filled ts g ti w c =
     let d : Dtype = close-fields (dtype-of ts g) in
     let er : ℕ → Bool = c .erasing in
-    let s : all-slots (ti .ti-ctors) ≡ concat (slots-of er (ctors-of-tydef d)) = ap all-slots (c .ctors) ∙ all-slots-concat er (ctors-of-tydef d) in
-    rw (s, keeps-body ti er (d .dt-params) ts (d .dt-name) (number (g .head) 2) (number (g .head) 4) (g .rest) (w .ctors-first))
-    (ctor-layouts-slots er (ctors-of-tydef d) ∙ sym (c .ctors))
+    let cs : List Ctor = ctors-of-tydef d in
+    let s : all-slots (ti .ti-ctors) ≡ concat (slots-of er cs) = ap all-slots (c .ctors) ∙ all-slots-concat er (ctor-tag (length cs)) cs in
+    let k : keeps-of (d .dt-body) (fill-rest ti (g .rest)) ≡ slots-of er cs =
+    keeps-of-fill-tags (d .dt-body) (ti .ti-ctors) (fill-told ti (g .rest))
+    ∙ rw s (keeps-body ti er (d .dt-params) ts (d .dt-name) (number (g .head) 2) (number (g .head) 4) (g .rest) (w .ctors-first)) in
+    let n : (length cs ≡ count-of ctor-line (fill-told ti (g .rest))) ⊎ ((length cs ≡ 1) × (count-of ctor-line (fill-told ti (g .rest)) ≡ 0)) =
+    rw (ctors-told ti (g .rest)) (ctors-counted (d .dt-params) ts (d .dt-name) g w) in
+    let t : (i : ℕ) → i < length cs → tags (fill-rest ti (g .rest)) i ≡ ctor-tag (length cs) i =
+    λ i h. ap (λ (cls : List CtorLayout). tags (fill-tags cls (fill-told ti (g .rest))) i) (c .ctors) ∙ tags-filled er cs (fill-told ti (g .rest)) n i h in
+    ap (ctor-layouts-by (tags (fill-rest ti (g .rest))) cs) k
+    ∙ (ctor-layouts-tags (tags (fill-rest ti (g .rest))) (ctor-tag (length cs)) cs (slots-of er cs) t
+    ∙ (ctor-layouts-slots er (ctor-tag (length cs)) cs ∙ sym (c .ctors)))
 
 -- A coherent verdict is what the lines that it fills give back.
 pub info-filled : (ts : List Cty) (g : Group) (ti : TypeInfo) → Whole g → Coherent (close-fields (dtype-of ts g)) ti
@@ -1163,8 +1423,9 @@ unfolding info-of
 info-filled ts g ti w c =
     let d : Dtype = close-fields (dtype-of ts g) in
     let v : verdict-of (fill-rest ti (g .rest)) ≡ told-line ti =
-    verdict-fill-verdict ti (fill-keeps (all-slots (ti .ti-ctors)) (g .rest)) (rw (select-fill-keeps verdict-line refl (all-slots (ti .ti-ctors)) (g .rest)) (whole-verdict g w)) in
-    let k : ctor-layouts-by (ctors-of-tydef d) (keeps-of (d .dt-body) (fill-rest ti (g .rest))) ≡ ti .ti-ctors = ctors-filled ts g ti w c in
+    ap (λ (r : List Line). getD r 0 bad) (select-fill ctor-line tag-number-of verdict-line refl (ti .ti-ctors) (fill-told ti (g .rest)))
+    ∙ verdict-fill-verdict ti (fill-keeps (all-slots (ti .ti-ctors)) (g .rest)) (rw (select-fill field-line bit verdict-line refl (all-slots (ti .ti-ctors)) (g .rest)) (whole-verdict g w)) in
+    let k : ctor-layouts-by (tags (fill-rest ti (g .rest))) (ctors-of-tydef d) (keeps-of (d .dt-body) (fill-rest ti (g .rest))) ≡ ti .ti-ctors = ctors-filled ts g ti w c in
     rw (v, k, bit-eq (ti .ti-erased), bit-eq (ti .ti-record), layout-suits (d .dt-body) (ti .ti-ctors) (ti .ti-layout) (c .suits))
 
 -- ---- the program of a verdict sheet
@@ -1334,10 +1595,10 @@ verdict-lines-cut ls qs tis tjs us s h k =
     ∙ sym (verdict-lines-append ls qs tis us s h)
 
 -- the N, A and Y lines of a verdict sheet
-pub select-verdict-lines : (x : ℕ) → eqb 68 x ≡ false → eqb 73 x ≡ false → eqb 70 x ≡ false → eqb 86 x ≡ false
+pub select-verdict-lines : (x : ℕ) → eqb 68 x ≡ false → eqb 73 x ≡ false → eqb 67 x ≡ false → eqb 70 x ≡ false → eqb 86 x ≡ false
     → (ls : List Line) (tis : List TypeInfo) → length tis ≡ length (groups is-head ls) → AllEnded ls → select x (verdict-lines ls tis) ≡ select x ls
-select-verdict-lines x p q r s ls tis n h =
-    sym (select-plain x p q r s (verdict-lines ls tis)) ∙ ap (select x) (plain-verdict-lines ls tis n h) ∙ select-plain x p q r s ls
+select-verdict-lines x p q o r s ls tis n h =
+    sym (select-plain x p q o r s (verdict-lines ls tis)) ∙ ap (select x) (plain-verdict-lines ls tis n h) ∙ select-plain x p q o r s ls
 
 -- The program of a prefix's verdict sheet with the rest behind it.
 pub program-cut : (ls qs : List Line) (tis : List TypeInfo) → AllTold (program ls) tis → AllWhole (groups is-head ls) → AllEnded ls
@@ -1357,5 +1618,5 @@ pub left-lines-cut : (ls qs : List Line) (tis : List TypeInfo) (ds : List Dtype)
 left-lines-cut ls qs tis ds n h =
     left-lines-names (verdict-lines ls tis ++ qs) (ls ++ qs) ds
     (select-append name-line (verdict-lines ls tis) qs
-    ∙ ap (λ (r : List Line). r ++ select name-line qs) (select-verdict-lines name-line refl refl refl refl ls tis n h)
+    ∙ ap (λ (r : List Line). r ++ select name-line qs) (select-verdict-lines name-line refl refl refl refl refl ls tis n h)
     ∙ sym (select-append name-line ls qs))

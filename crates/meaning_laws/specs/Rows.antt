@@ -1,7 +1,7 @@
 -- Rows 3 to 7 of a sheet cut between declarations: what they say of a prefix, of a verdict sheet in its place, and of
 -- the lines of bytes. Assumes nothing.
-use mathlib.Core.Logic.{_⊎_, ⊎-elim}
-use mathlib.Core.Path.{_≡_, refl, ap, ap₂, sym, _∙_}
+use mathlib.Core.Logic.{_⊎_, inl, inr, ⊎-elim}
+use mathlib.Core.Path.{_≡_, refl, ap, ap₂, sym, _∙_, subst}
 use mathlib.Core.List.{List, [], _∷_, _++_, map, append-nil, map-append}
 use mathlib.Core.Bool.{Bool, true, false, _&&_, _||_, not, and-false}
 use mathlib.Core.Option.{Option, none, some}
@@ -17,10 +17,11 @@ use Rattle.sheet.specs.FirstLaws.{first-le, first-congr, none-first}
 use Rattle.sheet.specs.Line.{Line, named, row, bad, cell, value, decode, letter, number, text, isBad}
 use Rattle.sheet.specs.Sheet.{first, lineAt, count, line, lines}
 use Rattle.sheet.specs.SheetLaws.{length-lines, getD-lines}
-use Rattle.sheet.specs.ListLaws.{false-true, contrary, both, neither, length-nil, at-every}
+use Rattle.sheet.specs.ListLaws.{false-true, contrary, both, neither, length-nil, at-every, every-at}
 use Rattle.sheet.specs.LineLaws.{Decoded, as-named, as-row, as-bad, decoded, five-numbers}
 use Rattle.model.specs.Cty.{Cty, TUnit}
 use Rattle.model.specs.Decl.{
+  tag-number,
   bit,
   Field,
   Ctor,
@@ -44,12 +45,16 @@ use Rattle.model.specs.Decl.{
   TypeInfo,
   here,
   imported,
+  Decl,
+  no-decl,
+  dtype-at,
+  origin-at,
   table,
   close-field,
   close-body,
   close-fields,
 }
-use Rattle.model.specs.Layout.{layouts-of-ctors, slots, kept, ctor-layout, ctor-layouts, newtype-of-ctor, newtype-of}
+use Rattle.model.specs.Layout.{ctor-tag, layouts-of-ctors, slots, kept, ctor-layout, ctor-layouts, newtype-of-ctor, newtype-of}
 use Rattle.meaning.specs.declared.Due.{Due}
 use Rattle.meaning.specs.declared.Due.the-variants.{Header, Within, Broken}
 use Rattle.meaning.specs.Program.{
@@ -72,12 +77,16 @@ use Rattle.meaning.specs.Program.{
   ctor-of,
   body-of,
   dtype-of,
+  keeps-of,
+  tag-of,
+  tags,
+  ctor-layouts-by,
   info-of,
   verdict-of,
   decl-of,
   program,
 }
-use Rattle.meaning.specs.Output.{fill-keeps, fill-verdict, all-slots, verdict-lines}
+use Rattle.meaning.specs.Output.{fill-keeps, fill-tags, fill-verdict, all-slots, verdict-lines}
 use Rattle.meaning.specs.Rows.{
   line-at,
   count-of,
@@ -108,6 +117,8 @@ use Rattle.meaning.specs.Rows.{
   last-head,
   head-of,
   kept-after,
+  ctors-after,
+  tag-in,
   one-ctor,
   good-verdict,
   good-verdicts,
@@ -130,6 +141,7 @@ use Rattle.meaning_laws.specs.Program.{
   plain,
   Kind,
   a-head,
+  a-ctor,
   a-field,
   a-verdict,
   another,
@@ -154,8 +166,20 @@ use Rattle.meaning_laws.specs.Program.{
   told-line,
   tell,
   fill-verdict-map,
-  none-fill-keeps,
-  fill-keeps-other,
+  none-fill,
+  fill-third-last,
+  count-fill,
+  tag-number-of,
+  tag-at,
+  tag-read,
+  tags-none,
+  fill-told,
+  none-told,
+  ctors-told,
+  ctors-counted,
+  ctors-last,
+  length-groups-of,
+  length-program,
   Suits,
   has-ctors,
   Coherent,
@@ -191,7 +215,7 @@ use Rattle.meaning_laws.specs.Program.{
   before-after,
   before-header,
 }
-use Rattle.model_laws.specs.Lists.{trues, length-table, getD-table}
+use Rattle.model_laws.specs.Lists.{trues, length-table, getD-map, getD-table}
 
 none-some : {A B : Type 0} (a : A) → _≡_ {A = Option A} none (some a) → B
 none-some a e = let z : _≡_ {A = ℕ} 0 1 = cc in absurd (omega arith)
@@ -658,6 +682,16 @@ due-field (Within zero zero (suc c)) k l e h = rw (e, h)
 due-field (Within zero zero zero) k l e h = rw (e, h)
 due-field Broken k l e h = refl
 
+-- and a C line by its count of fields besides
+due-ctor : (q : Due) (k l : Line) → letter k ≡ 67 → letter l ≡ 67 → number k 1 ≡ number l 1 → due q k ≡ due q l
+unfolding due due-header
+due-ctor (Header place) k l e h n = rw (e, h)
+due-ctor (Within (suc p) f c) k l e h n = rw (e, h)
+due-ctor (Within zero (suc f) c) k l e h n = rw (e, h)
+due-ctor (Within zero zero (suc c)) k l e h n = rw (e, h, n)
+due-ctor (Within zero zero zero) k l e h n = rw (e, h)
+due-ctor Broken k l e h n = refl
+
 due-verdict : (q : Due) (k l : Line) → letter k ≡ 86 → letter l ≡ 86 → due q k ≡ due q l
 unfolding due due-header
 due-verdict (Header place) k l e h = rw (e, h)
@@ -674,9 +708,10 @@ due-plain q l = go (kind l) q
     go (a-head h e) (Header place) = rw e (head-due place (row import-line (five l)) refl ∙ sym (head-due place l h))
     go (a-head h e) (Within p f c) = rw e (head-within p f c (row import-line (five l)) refl ∙ sym (head-within p f c l h))
     go (a-head h e) Broken = due-broken (plain l) l
+    go (a-ctor h e) q = rw e (due-ctor q (row ctor-line (number l 0 ∷ number l 1 ∷ 0 ∷ number l 3 ∷ number l 4 ∷ [])) l refl h refl)
     go (a-field h e) q = rw e (due-field q (row field-line (number l 0 ∷ number l 1 ∷ 0 ∷ number l 3 ∷ number l 4 ∷ [])) l refl h)
     go (a-verdict h e) q = rw e (due-verdict q (row verdict-line (0 ∷ 0 ∷ 0 ∷ number l 3 ∷ number l 4 ∷ [])) l refl h)
-    go (another h f v e) q = rw e
+    go (another h t f v e) q = rw e
 
 due-after-plain : (q : Due) (ls : List Line) → due-after q (map plain ls) ≡ due-after q ls
 unfolding due-after
@@ -740,9 +775,9 @@ row4-plain f ls i =
     )
 
 -- row 5, letter by letter
-zeros-field : (l : Line) → zeros-from 3 (row field-line (number l 0 ∷ number l 1 ∷ 0 ∷ number l 3 ∷ number l 4 ∷ [])) ≡ zeros-from 3 l
+zeros-third : (x : ℕ) (l : Line) → zeros-from 3 (row x (number l 0 ∷ number l 1 ∷ 0 ∷ number l 3 ∷ number l 4 ∷ [])) ≡ zeros-from 3 l
 unfolding zeros-from first
-zeros-field l = refl
+zeros-third x l = refl
 
 zeros-verdict : (l : Line) → zeros-from 3 (row verdict-line (0 ∷ 0 ∷ 0 ∷ number l 3 ∷ number l 4 ∷ [])) ≡ zeros-from 3 l
 unfolding zeros-from first
@@ -760,7 +795,7 @@ good-line names types xs n y l =
     is type-line l ⇒ good-type names xs y l ∥
     is-head l ⇒ good-head names types l ∥
     is param-line l ⇒ ltb (number l 0) names && zeros-from 1 l ∥
-    is ctor-line l ⇒ ltb (number l 0) names && zeros-from 2 l ∥
+    is ctor-line l ⇒ ltb (number l 0) names && zeros-from 3 l ∥
     is field-line l ⇒ ltb (number l 0) names && ltb (number l 1) types && zeros-from 3 l ∥
     zeros-from 3 l
 
@@ -776,9 +811,10 @@ good-line-plain names types xs n y l = go (kind l)
   where
     go : Kind l → good-line names types xs n y (plain l) ≡ good-line names types xs n y l
     go (a-head h e) = rw e (good-head-plain names types l ∙ ⊎-elim (λ k. rw k) (λ k. rw k) (head-cases l h))
-    go (a-field h e) = rw (e, h, zeros-field l)
+    go (a-ctor h e) = rw (e, h, zeros-third ctor-line l)
+    go (a-field h e) = rw (e, h, zeros-third field-line l)
     go (a-verdict h e) = rw (e, h, zeros-verdict l)
-    go (another h f v e) = rw e
+    go (another h t f v e) = rw e
 
 pub row5-plain : (ls : List Line) (i : ℕ) → row5 (map plain ls) i ≡ row5 ls i
 unfolding row5
@@ -787,12 +823,12 @@ row5-plain ls i =
       good-numbers-line (map plain ls) i,
       good-numbers-line ls i,
       line-plain ls i,
-      select-plain name-line refl refl refl refl ls,
-      select-plain arg-line refl refl refl refl ls,
-      select-plain type-line refl refl refl refl ls,
+      select-plain name-line refl refl refl refl refl ls,
+      select-plain arg-line refl refl refl refl refl ls,
+      select-plain type-line refl refl refl refl refl ls,
       take-map plain i ls,
-      select-plain name-line refl refl refl refl (take i ls),
-      select-plain type-line refl refl refl refl (take i ls),
+      select-plain name-line refl refl refl refl refl (take i ls),
+      select-plain type-line refl refl refl refl refl (take i ls),
     )
     (ap not (good-line-plain (count-of name-line ls) (count-of type-line ls) (map (λ a. number a 0) (select arg-line ls)) (count-before name-line ls i) (count-before type-line ls i) (line-at ls i)))
 
@@ -807,27 +843,30 @@ text-plain l = go (kind l)
   where
     go : Kind l → text (plain l) ≡ text l
     go (a-head h e) = rw e (sym (text-row l (⊎-elim (λ k. rw k) (λ k. rw k) (head-cases l h))))
+    go (a-ctor h e) = rw e (sym (text-row l (rw h)))
     go (a-field h e) = rw e (sym (text-row l (rw h)))
     go (a-verdict h e) = rw e (sym (text-row l (rw h)))
-    go (another h f v e) = rw e
+    go (another h t f v e) = rw e
 
 is-ctor-plain : (l : Line) → is-ctor (plain l) ≡ is-ctor l
 is-ctor-plain l = go (kind l)
   where
     go : Kind l → is-ctor (plain l) ≡ is-ctor l
     go (a-head h e) = rw e (⊎-elim (λ k. rw k) (λ k. rw k) (head-cases l h))
+    go (a-ctor h e) = rw (e, h)
     go (a-field h e) = rw (e, h)
     go (a-verdict h e) = rw (e, h)
-    go (another h f v e) = rw e
+    go (another h t f v e) = rw e
 
 first-number-plain : (l : Line) → is verdict-line l ≡ false → number (plain l) 0 ≡ number l 0
 first-number-plain l n = go (kind l)
   where
     go : Kind l → number (plain l) 0 ≡ number l 0
     go (a-head h e) = rw e
+    go (a-ctor h e) = rw e
     go (a-field h e) = rw e
     go (a-verdict h e) = contrary (is verdict-line l) (rw h) n
-    go (another h f v e) = rw e
+    go (another h t f v e) = rw e
 
 -- lines k and l are of one kind that may not repeat a number; d and c: of one declaration, of one constructor
 alike : Bool → Bool → Line → Line → Bool
@@ -929,14 +968,15 @@ module _ (ls qs : List Line) (tis : List TypeInfo) (n : length tis ≡ length (g
   pub row6-verdict : (i : ℕ) → row6 (verdict-lines ls tis ++ qs) i ≡ row6 (ls ++ qs) i
   row6-verdict i = sym (row6-plain (verdict-lines ls tis ++ qs) i) ∙ ap (λ (r : List Line). row6 r i) plain-cut ∙ row6-plain (ls ++ qs) i
 
--- row 5 gives the zeros at the end of F and V lines
+-- row 5 gives the zeros at the end of C, F and V lines
 ended-line : (names types : ℕ) (xs : List ℕ) (n y : ℕ) (l : Line) → good-line names types xs n y l ≡ true → Ended l
 unfolding good-line
-ended-line names types xs n y l e q = zeros-ended l (go (is field-line l) refl q)
+ended-line names types xs n y l e q = zeros-ended l (go (is ctor-line l) (is field-line l) refl refl q)
   where
-    go : (c : Bool) → is field-line l ≡ c → (c || is verdict-line l) ≡ true → zeros-from 3 l ≡ true
-    go true k t = both (ltb (number l 0) names && ltb (number l 1) types) (zeros-from 3 l) (rw (eqb-true (letter l) 70 k) at e) .1
-    go false k t = rw (eqb-true (letter l) 86 t) at e
+    go : (b c : Bool) → is ctor-line l ≡ b → is field-line l ≡ c → (b || c || is verdict-line l) ≡ true → zeros-from 3 l ≡ true
+    go true c j k t = both (ltb (number l 0) names) (zeros-from 3 l) (rw (eqb-true (letter l) 67 j) at e) .1
+    go false true j k t = both (ltb (number l 0) names && ltb (number l 1) types) (zeros-from 3 l) (rw (eqb-true (letter l) 70 k) at e) .1
+    go false false j k t = rw (eqb-true (letter l) 86 t) at e
 
 pub ended-row5 : (ls : List Line) → ((i : ℕ) → i < length ls → row5 ls i ≡ false) → AllEnded ls
 unfolding row5
@@ -945,7 +985,7 @@ ended-row5 ls h =
     (sym (good-numbers-line ls i) ∙ not-false (good-numbers ls i) (h i k)))
 
 -- ---- row 7, line by line
--- line l as row 7 has it, in the declaration that line h begins, with n kept fields before it
+-- Line l as row 7 has it, in the declaration that line h begins: with n kept fields before it, and of a C line with k before it.
 good-at : Line → ℕ → Line → Bool
 good-at h n l =
     is field-line l ⇒ leb (number l 2) (pick (is import-line h) 1 0) ∥
@@ -953,9 +993,8 @@ good-at h n l =
     is verdict-line l ⇒ eqb (number l 0) 0 && eqb (number l 1) 0 && eqb (number l 2) 0 ∥
     true
 
-good-verdicts-at : (ls : List Line) (i : ℕ) → good-verdicts ls i ≡ good-at (head-of ls i) (kept-after 0 (take i ls)) (line-at ls i)
-unfolding good-verdicts good-at
-good-verdicts-at ls i = refl
+tag-good : Line → ℕ → Line → Bool
+tag-good h k l = is ctor-line l ⇒ eqb (number l 2) (tag-in h k) ∥ true
 
 abbrev next-head : Line → Line → Line
 next-head h l = pick (is-head l) l h
@@ -966,54 +1005,102 @@ more n l = pick (is field-line l && not (eqb (number l 2) 0)) (suc n) n
 abbrev next-kept : ℕ → Line → ℕ
 next-kept n l = pick (is-head l) 0 (more n l)
 
--- all lines are so, from such a state on
+abbrev next-ctors : ℕ → Line → ℕ
+next-ctors n l = pick (is-head l) 0 (pick (is ctor-line l) (suc n) n)
+
+-- a number that is kept from line to line
+follow : (ℕ → Line → ℕ) → ℕ → List Line → ℕ
+follow next n [] = n
+follow next n (l ∷ ls) = follow next (next n l) ls
+
+kept-follow : (n : ℕ) (ls : List Line) → kept-after n ls ≡ follow next-kept n ls
+unfolding kept-after follow
+kept-follow n [] = refl
+kept-follow n (l ∷ ls) = kept-follow (next-kept n l) ls
+
+ctors-follow : (n : ℕ) (ls : List Line) → ctors-after n ls ≡ follow next-ctors n ls
+unfolding ctors-after follow
+ctors-follow n [] = refl
+ctors-follow n (l ∷ ls) = ctors-follow (next-ctors n l) ls
+
+good-verdicts-at : (ls : List Line) (i : ℕ)
+    → good-verdicts ls i
+    ≡ (tag-good (head-of ls i) (follow next-ctors 0 (take i ls)) (line-at ls i) && good-at (head-of ls i) (follow next-kept 0 (take i ls)) (line-at ls i))
+unfolding good-verdicts good-at tag-good
+good-verdicts-at ls i = rw (kept-follow 0 (take i ls), ctors-follow 0 (take i ls)) (go (is ctor-line (line-at ls i)) refl (eqb (number (line-at ls i) 2) (tag-in (head-of ls i) (follow next-ctors 0 (take i ls)))))
+  where
+    go : (c : Bool) → is ctor-line (line-at ls i) ≡ c → (x : Bool)
+        → (c ⇒ x ∥ good-at (head-of ls i) (follow next-kept 0 (take i ls)) (line-at ls i)) ≡ ((c ⇒ x ∥ true) && good-at (head-of ls i) (follow next-kept 0 (take i ls)) (line-at ls i))
+    go true e true = rw (eqb-true (letter (line-at ls i)) 67 e)
+    go true e false = refl
+    go false e x = refl
+
+-- A test of all lines, each by the first line of its declaration and by such a number, from such a state on.
+module _ (test : Line → ℕ → Line → Bool) (next : ℕ → Line → ℕ) where
+  abbrev Along : Line → ℕ → List Line → Type 0
+  Along h n [] = Unit {0}
+  Along h n (l ∷ ls) = (test (next-head h l) n l ≡ true) × Along (next-head h l) (next n l) ls
+
+  along-at : (h : Line) (n : ℕ) (ls : List Line) → Along h n ls → (i : ℕ) → i < length ls → test (last-head h (take (suc i) ls)) (follow next n (take i ls)) (line-at ls i) ≡ true
+  unfolding last-head follow
+  along-at h n [] g i k = absurd (omega arith)
+  along-at h n (l ∷ ls) g zero k = g .0
+  along-at h n (l ∷ ls) g (suc i) k = along-at (next-head h l) (next n l) ls (g .1) i (omega arith)
+
+  at-along : (h : Line) (n : ℕ) (ls : List Line)
+      → ((i : ℕ) → i < length ls → test (last-head h (take (suc i) ls)) (follow next n (take i ls)) (line-at ls i) ≡ true) → Along h n ls
+  unfolding last-head follow
+  at-along h n [] g = tt
+  at-along h n (l ∷ ls) g = (g 0 (omega arith), at-along (next-head h l) (next n l) ls (λ i k. g (suc i) (omega arith)))
+
+  along-left : (h : Line) (n : ℕ) (a b : List Line) → Along h n (a ++ b) → Along h n a
+  along-left h n [] b g = tt
+  along-left h n (l ∷ a) b g = (g .0, along-left (next-head h l) (next n l) a b (g .1))
+
+  along-right : (h : Line) (n : ℕ) (a b : List Line) → Along h n (a ++ b) → Along (last-head h a) (follow next n a) b
+  unfolding last-head follow
+  along-right h n [] b g = g
+  along-right h n (l ∷ a) b g = along-right (next-head h l) (next n l) a b (g .1)
+
+  along-append : (h : Line) (n : ℕ) (a b : List Line) → Along h n a → Along (last-head h a) (follow next n a) b → Along h n (a ++ b)
+  unfolding last-head follow
+  along-append h n [] b g k = k
+  along-append h n (l ∷ a) b g k = (g .0, along-append (next-head h l) (next n l) a b (g .1) k)
+
+-- keeps and verdicts, and tags
 abbrev Goods : Line → ℕ → List Line → Type 0
-Goods h n [] = Unit {0}
-Goods h n (l ∷ ls) = (good-at (next-head h l) n l ≡ true) × Goods (next-head h l) (next-kept n l) ls
+Goods = Along good-at next-kept
 
-goods-at : (h : Line) (n : ℕ) (ls : List Line) → Goods h n ls → (i : ℕ) → i < length ls
-    → good-at (last-head h (take (suc i) ls)) (kept-after n (take i ls)) (line-at ls i) ≡ true
-unfolding last-head kept-after
-goods-at h n [] g i k = absurd (omega arith)
-goods-at h n (l ∷ ls) g zero k = g .0
-goods-at h n (l ∷ ls) g (suc i) k = goods-at (next-head h l) (next-kept n l) ls (g .1) i (omega arith)
+abbrev Tagged : Line → ℕ → List Line → Type 0
+Tagged = Along tag-good next-ctors
 
-at-goods : (h : Line) (n : ℕ) (ls : List Line)
-    → ((i : ℕ) → i < length ls → good-at (last-head h (take (suc i) ls)) (kept-after n (take i ls)) (line-at ls i) ≡ true) → Goods h n ls
-unfolding last-head kept-after
-at-goods h n [] g = tt
-at-goods h n (l ∷ ls) g = (g 0 (omega arith), at-goods (next-head h l) (next-kept n l) ls (λ i k. g (suc i) (omega arith)))
-
-row7-goods : (ls : List Line) → ((i : ℕ) → i < length ls → row7 ls i ≡ false) → Goods bad 0 ls
+row7-goods : (ls : List Line) → ((i : ℕ) → i < length ls → row7 ls i ≡ false) → Tagged bad 0 ls × Goods bad 0 ls
 unfolding row7
-row7-goods ls h = at-goods bad 0 ls (λ i k. sym (good-verdicts-at ls i) ∙ not-false (good-verdicts ls i) (h i k))
+row7-goods ls h = (at-along tag-good next-ctors bad 0 ls (λ i k. tests i k .0), at-along good-at next-kept bad 0 ls (λ i k. tests i k .1))
+  where
+    tests : (i : ℕ) → i < length ls → (tag-good (head-of ls i) (follow next-ctors 0 (take i ls)) (line-at ls i) ≡ true) × (good-at (head-of ls i) (follow next-kept 0 (take i ls)) (line-at ls i) ≡ true)
+    tests i k = both (tag-good (head-of ls i) (follow next-ctors 0 (take i ls)) (line-at ls i)) (good-at (head-of ls i) (follow next-kept 0 (take i ls)) (line-at ls i)) (sym (good-verdicts-at ls i) ∙ not-false (good-verdicts ls i) (h i k))
 
-goods-row7 : (ls : List Line) → Goods bad 0 ls → (i : ℕ) → i < length ls → row7 ls i ≡ false
+goods-row7 : (ls : List Line) → Tagged bad 0 ls → Goods bad 0 ls → (i : ℕ) → i < length ls → row7 ls i ≡ false
 unfolding row7
-goods-row7 ls g i k = ap not (good-verdicts-at ls i ∙ goods-at bad 0 ls g i k)
-
-goods-left : (h : Line) (n : ℕ) (a b : List Line) → Goods h n (a ++ b) → Goods h n a
-goods-left h n [] b g = tt
-goods-left h n (l ∷ a) b g = (g .0, goods-left (next-head h l) (next-kept n l) a b (g .1))
-
-goods-right : (h : Line) (n : ℕ) (a b : List Line) → Goods h n (a ++ b) → Goods (last-head h a) (kept-after n a) b
-unfolding last-head kept-after
-goods-right h n [] b g = g
-goods-right h n (l ∷ a) b g = goods-right (next-head h l) (next-kept n l) a b (g .1)
-
-goods-append : (h : Line) (n : ℕ) (a b : List Line) → Goods h n a → Goods (last-head h a) (kept-after n a) b → Goods h n (a ++ b)
-unfolding last-head kept-after
-goods-append h n [] b g k = k
-goods-append h n (l ∷ a) b g k = (g .0, goods-append (next-head h l) (next-kept n l) a b (g .1) k)
+goods-row7 ls t g i k = ap not (good-verdicts-at ls i ∙ ap₂ _&&_ (along-at tag-good next-ctors bad 0 ls t i k) (along-at good-at next-kept bad 0 ls g i k))
 
 good-at-bad : (h k : Line) (m n : ℕ) → good-at h m bad ≡ good-at k n bad
 unfolding good-at
 good-at-bad h k m n = refl
 
+tag-good-bad : (h k : Line) (m n : ℕ) → tag-good h m bad ≡ tag-good k n bad
+unfolding tag-good
+tag-good-bad h k m n = refl
+
 -- a line that begins a declaration
 good-at-head : (h : Line) (n : ℕ) (l : Line) → is-head l ≡ true → good-at h n l ≡ true
 unfolding good-at
 good-at-head h n l e = ⊎-elim (λ k. rw k) (λ k. rw k) (head-cases l e)
+
+tag-good-head : (h : Line) (n : ℕ) (l : Line) → is-head l ≡ true → tag-good h n l ≡ true
+unfolding tag-good
+tag-good-head h n l e = ⊎-elim (λ k. rw k) (λ k. rw k) (head-cases l e)
 
 -- ---- the lines that a verdict fills
 good-kept : (k : Line) (n : ℕ) (b : Bool) (l : Line) → is import-line k ≡ true → good-at k n (kept-line b l) ≡ true
@@ -1032,7 +1119,7 @@ good-widen h k m n l p q v g = rw (q, v) (go (is field-line l) (rw (p, v) at g))
 
 -- F lines with their keeps, after an I line
 goods-filling : (h k : Line) (m n : ℕ) {bs : List Bool} {ls r : List Line} → is import-line h ≡ false → is import-line k ≡ true
-    → Filling bs ls r → None is-head ls → None (is verdict-line) ls → Goods h m ls → Goods k n r
+    → Filling Bool field-line bit bs ls r → None is-head ls → None (is verdict-line) ls → Goods h m ls → Goods k n r
 goods-filling h k m n p q done a b g = tt
 goods-filling h k m n p q (keep {b = c} {l = l} e f) a b g =
     (good-kept k n c l q, goods-filling h k (more m l) (more n (kept-line c l)) p q f (a .1) (b .1) (rw (a .0) at (g .1)))
@@ -1042,7 +1129,7 @@ goods-filling h k m n p q (past {l = l} f) a b g =
     rw (a .0) (good-widen h k m n l p q (b .0) (rw (a .0) at (g .0)), goods-filling h k (more m l) (more n l) p q f (a .1) (b .1) (rw (a .0) at (g .1)))
 
 -- the kept fields, counted
-kept-filling : (n : ℕ) {bs : List Bool} {ls r : List Line} → Filling bs ls r → None is-head ls → length bs ≡ count-of field-line ls → kept-after n r ≡ n + trues bs
+kept-filling : (n : ℕ) {bs : List Bool} {ls r : List Line} → Filling Bool field-line bit bs ls r → None is-head ls → length bs ≡ count-of field-line ls → kept-after n r ≡ n + trues bs
 unfolding kept-after trues
 kept-filling n {bs = []} done a c = omega arith
 kept-filling n {bs = b ∷ bs} done a c = absurd (omega (arith, ap length (select-none field-line [] tt)))
@@ -1057,18 +1144,6 @@ kept-filling n (past {l = l} {ls = ls} {r = r} f) a c = go (is field-line l) ref
     go true e ih = absurd (omega (arith, ap length (select-yes field-line l ls e)))
     go false e ih = rw (a .0, e) (ih (c ∙ ap length (select-no field-line l ls e)))
 
-fill-keeps-last : (bs : List Bool) (xs : List Line) (v : Line) → is field-line v ≡ false → fill-keeps bs (xs ++ (v ∷ [])) ≡ fill-keeps bs xs ++ (v ∷ [])
-unfolding fill-keeps
-fill-keeps-last bs [] v e = fill-keeps-other bs v [] e
-fill-keeps-last [] (x ∷ xs) v e = ap (λ (r : List Line). x ∷ r) (fill-keeps-last [] xs v e)
-fill-keeps-last (b ∷ bs) (x ∷ xs) v e = go (is field-line x) (fill-keeps-last bs xs v e) (fill-keeps-last (b ∷ bs) xs v e)
-  where
-    go : (c : Bool) → fill-keeps bs (xs ++ (v ∷ [])) ≡ fill-keeps bs xs ++ (v ∷ []) → fill-keeps (b ∷ bs) (xs ++ (v ∷ [])) ≡ fill-keeps (b ∷ bs) xs ++ (v ∷ [])
-        → elim c [ true ↦ kept-line b x ∷ fill-keeps bs (xs ++ (v ∷ [])) | false ↦ x ∷ fill-keeps (b ∷ bs) (xs ++ (v ∷ [])) ]
-        ≡ elim c [ true ↦ kept-line b x ∷ fill-keeps bs xs | false ↦ x ∷ fill-keeps (b ∷ bs) xs ] ++ (v ∷ [])
-    go true h k = ap (λ (r : List Line). kept-line b x ∷ r) h
-    go false h k = ap (λ (r : List Line). x ∷ r) k
-
 tell-none : (ti : TypeInfo) (ls : List Line) → None (is verdict-line) ls → map (tell ti) ls ≡ ls
 tell-none ti [] n = refl
 tell-none ti (l ∷ ls) n = rw (n .0) (ap (λ (r : List Line). l ∷ r) (tell-none ti ls (n .1)))
@@ -1077,15 +1152,45 @@ tell-verdict : (ti : TypeInfo) (l : Line) → is verdict-line l ≡ true → tel
 tell-verdict ti l e = rw e
 
 -- the lines that a verdict fills: those before the V line with their keeps, and the V line
-fill-rest-ends : (ti : TypeInfo) (body : List Line) (v : Line) → None (is verdict-line) body → is verdict-line v ≡ true
-    → fill-rest ti (body ++ (v ∷ [])) ≡ fill-keeps (all-slots (ti .ti-ctors)) body ++ (told-line ti ∷ [])
-fill-rest-ends ti body v n e =
+fill-told-ends : (ti : TypeInfo) (body : List Line) (v : Line) → None (is verdict-line) body → is verdict-line v ≡ true
+    → fill-told ti (body ++ (v ∷ [])) ≡ fill-keeps (all-slots (ti .ti-ctors)) body ++ (told-line ti ∷ [])
+fill-told-ends ti body v n e =
     let bs : List Bool = all-slots (ti .ti-ctors) in
     let xs : List Line = fill-keeps bs body in
-    ap (fill-verdict ti) (fill-keeps-last bs body v (rw (eqb-true (letter v) 86 e)))
+    ap (fill-verdict ti) (fill-third-last field-line (map bit bs) body v (rw (eqb-true (letter v) 86 e)))
     ∙ fill-verdict-map ti (xs ++ (v ∷ []))
     ∙ map-append (tell ti) xs (v ∷ [])
-    ∙ ap₂ (λ (a : List Line) (l : Line). a ++ (l ∷ [])) (tell-none ti xs (none-fill-keeps (is verdict-line) (λ b l. refl) bs body n)) (tell-verdict ti v e)
+    ∙ ap₂ (λ (a : List Line) (l : Line). a ++ (l ∷ [])) (tell-none ti xs (none-fill field-line bit (is verdict-line) (λ b l. refl) bs body n)) (tell-verdict ti v e)
+
+-- tags change nothing but C lines
+goods-tags : (h : Line) (n : ℕ) {cls : List CtorLayout} {ls r : List Line} → Filling CtorLayout ctor-line tag-number-of cls ls r → None is-head ls → Goods h n ls → Goods h n r
+unfolding good-at
+goods-tags h n done a g = tt
+goods-tags h n (keep {l = l} e f) a g = (refl, goods-tags h n f (a .1) (rw (eqb-true (letter l) 67 e) at (g .1)))
+goods-tags h n (pass {l = l} e f) a g = rw (a .0) (rw (a .0) at (g .0), goods-tags h (more n l) f (a .1) (rw (a .0) at (g .1)))
+goods-tags h n (past {l = l} f) a g = rw (a .0) (rw (a .0) at (g .0), goods-tags h (more n l) f (a .1) (rw (a .0) at (g .1)))
+
+-- tags by place, after an I line
+tagged-filling : (h : Line) (k : ℕ) {cls : List CtorLayout} {ls r : List Line} → Filling CtorLayout ctor-line tag-number-of cls ls r → None is-head ls → length cls ≡ count-of ctor-line ls
+    → ((i : ℕ) (d : CtorLayout) → i < length cls → tag-number-of (getD cls i d) ≡ tag-in h (k + i)) → Tagged h k r
+unfolding tag-good
+tagged-filling h k done a n t = tt
+tagged-filling h k (keep {b = b} {bs = cls} {l = l} {ls = ls} e f) a n t = (
+  eq-eqb (tag-number-of b) (tag-in h k) (t 0 b (omega arith) ∙ ap (tag-in h) (omega arith)),
+  tagged-filling h (suc k) f (a .1) (omega (arith, ap length (select-yes ctor-line l ls e))) (λ i d j. t (suc i) d (omega arith) ∙ ap (tag-in h) (omega arith)),
+)
+tagged-filling h k (pass {l = l} {ls = ls} e f) a n t = rw (a .0, e) (refl, tagged-filling h k f (a .1) (n ∙ ap length (select-no ctor-line l ls e)) t)
+tagged-filling h k (past {l = l} {ls = ls} {r = r} f) a n t = go (is ctor-line l) refl (λ j. tagged-filling h k f (a .1) j t)
+  where
+    go : (c : Bool) → is ctor-line l ≡ c → (0 ≡ count-of ctor-line ls → Tagged h k r) → Tagged h k (l ∷ r)
+    go true e ih = absurd (omega (arith, ap length (select-yes ctor-line l ls e)))
+    go false e ih = rw (a .0, e) (refl, ih (n ∙ ap length (select-no ctor-line l ls e)))
+
+-- lines without C lines
+tagged-none : (h : Line) (k : ℕ) (ls : List Line) → None is-head ls → None (is ctor-line) ls → Tagged h k ls
+unfolding tag-good
+tagged-none h k [] a c = tt
+tagged-none h k (l ∷ ls) a c = rw (a .0, c .0) (refl, tagged-none h k ls (a .1) (c .1))
 
 -- ---- a verdict on its own lines
 -- kept fields are as many as true slots
@@ -1104,17 +1209,17 @@ one-field n bs (f ∷ []) l e = refl
 one-field n bs (f ∷ g ∷ fs) l e = none-some l e
 
 -- a newtype has one constructor with one kept field
-newtype-one : (er : ℕ → Bool) (cs : List Ctor) (l : NewtypeLayout) → newtype-of (layouts-of-ctors er cs) ≡ some l
+newtype-one : (er : ℕ → Bool) (tag : ℕ → Option ℕ) (cs : List Ctor) (l : NewtypeLayout) → newtype-of (layouts-of-ctors er tag cs) ≡ some l
     → (length cs ≡ 1) × (trues (concat (slots-of er cs)) ≡ 1)
 unfolding table newtype-of ctor-layout concat
-newtype-one er [] l e = none-some l e
-newtype-one er (c ∷ []) l e = (
+newtype-one er tag [] l e = none-some l e
+newtype-one er tag (c ∷ []) l e = (
   refl,
   ap trues (append-nil (slots er (c .ct-fields)))
       ∙ sym (length-kept (slots er (c .ct-fields)) (c .ct-fields) (length-slot er (c .ct-fields)))
       ∙ one-field (c .ct-name) (slots er (c .ct-fields)) (kept (slots er (c .ct-fields)) (c .ct-fields)) l e,
 )
-newtype-one er (c ∷ d ∷ cs) l e = none-some l e
+newtype-one er tag (c ∷ d ∷ cs) l e = none-some l e
 
 length-concat : (bss : List (List Bool)) (gs : List Group) → AllGrouped (is ctor-line) gs → Counts bss gs → length (concat bss) ≡ count-of field-line (flat gs)
 unfolding concat flat
@@ -1149,16 +1254,6 @@ slots-counted er ps ts n k last ls h c = go (eqb k 1) (eqb k 2) (eqb k 3) (λ e.
         ∙ ap length (sym (select-append field-line pre (flat gs)) ∙ ap (select field-line) (before-flat (is ctor-line) ls))
     go false false false p q = false-true q
 
-length-ctors : (ls : List Line) → length (groups (is ctor-line) ls) ≡ count-of ctor-line ls
-unfolding groups select
-length-ctors [] = refl
-length-ctors (l ∷ ls) = go (is ctor-line l) (length-ctors ls)
-  where
-    go : (c : Bool) → length (groups (is ctor-line) ls) ≡ count-of ctor-line ls
-        → length (pick c (record { head = l; rest = before (is ctor-line) ls } ∷ groups (is ctor-line) ls) (groups (is ctor-line) ls)) ≡ length (pick c (l ∷ select ctor-line ls) (select ctor-line ls))
-    go true e = ap suc e
-    go false e = e
-
 -- one constructor, by the D or I line
 one-ctor-line : (ps : List ℕ) (ts : List Cty) (n k last : ℕ) (ls : List Line) → (k ≡ 3 → count-of ctor-line ls ≡ last)
     → length (ctors-of n (close-body ps (body-of ts k last ls))) ≡ 1 → (eqb k 2 || (eqb k 3 && eqb last 1)) ≡ true
@@ -1172,7 +1267,7 @@ one-ctor-line ps ts n k last ls h c = go (eqb k 1) (eqb k 2) (eqb k 3) (λ e. h 
     go false true z p q = refl
     go false false true p q =
         eq-eqb last 1
-        (sym (p refl) ∙ sym (length-ctors ls) ∙ sym (length-map (groups (is ctor-line) ls) (ctor-of ts)) ∙ sym (length-map (map (ctor-of ts) (groups (is ctor-line) ls)) (close-ctor ps)) ∙ q)
+        (sym (p refl) ∙ sym (length-groups-of ctor-line ls) ∙ sym (length-map (groups (is ctor-line) ls) (ctor-of ts)) ∙ sym (length-map (map (ctor-of ts) (groups (is ctor-line) ls)) (close-ctor ps)) ∙ q)
     go false false false p q = absurd (omega arith)
 
 bit-le : (b : Bool) → leb (bit b) 1 ≡ true
@@ -1227,8 +1322,8 @@ newtype-lines ts g ti w c a l e =
     let d : Dtype = close-fields (dtype-of ts g) in
     let er : ℕ → Bool = c .erasing in
     let bs : List Bool = all-slots (ti .ti-ctors) in
-    let o = newtype-one er (ctors-of-tydef d) l (rw (c .ctors) at e) in
-    let s : bs ≡ concat (slots-of er (ctors-of-tydef d)) = ap all-slots (c .ctors) ∙ all-slots-concat er (ctors-of-tydef d) in
+    let o = newtype-one er (ctor-tag (length (ctors-of-tydef d))) (ctors-of-tydef d) l (rw (c .ctors) at e) in
+    let s : bs ≡ concat (slots-of er (ctors-of-tydef d)) = ap all-slots (c .ctors) ∙ all-slots-concat er (ctor-tag (length (ctors-of-tydef d))) (ctors-of-tydef d) in
     let n : length bs ≡ count-of field-line (g .rest) =
     ap length s
     ∙ slots-counted er (d .dt-params) ts (d .dt-name) (number (g .head) 2) (number (g .head) 4) (g .rest) (w .ctors-first) (has-ctors-one (d .dt-name) (d .dt-body) (o .0)) in
@@ -1239,7 +1334,7 @@ newtype-lines ts g ti w c a l e =
     ∙ ap (λ (r : List Line). select field-line (w .body) ++ r) (select-none field-line (w .last ∷ []) (rw (eqb-true (letter (w .last)) 86 (w .is-last)), tt))
     ∙ append-nil (select field-line (w .body))) in (
       one-ctor-line (d .dt-params) ts (d .dt-name) (number (g .head) 2) (number (g .head) 4) (g .rest) (w .ctors) (o .0),
-      kept-filling 0 (filling bs (w .body)) a (n ∙ m) ∙ omega (arith, ap trues s, o .1),
+      kept-filling 0 (filling field-line bit bs (w .body)) a (n ∙ m) ∙ omega (arith, ap trues s, o .1),
     )
 
 good-told-line : (ts : List Cty) (g : Group) (ti : TypeInfo) (w : Whole g) → Coherent (close-fields (dtype-of ts g)) ti → None is-head (w .body)
@@ -1257,53 +1352,105 @@ goods-local ts g ti k w c e q =
     let h : Line = row import-line (five (g .head)) in
     let bs : List Bool = all-slots (ti .ti-ctors) in
     let a : None is-head (w .body) = none-left is-head (w .body) (w .last ∷ []) (rw (w .ends) at (k .alone)) in
-    let p : Goods (g .head) 0 (w .body) = goods-left (g .head) 0 (w .body) (w .last ∷ []) (rw (w .ends) at q) in
-    rw (w .ends, fill-rest-ends ti (w .body) (w .last) (w .before-last) (w .is-last))
-    (goods-append h 0 (fill-keeps bs (w .body)) (told-line ti ∷ [])
-    (goods-filling (g .head) h 0 0 e refl (filling bs (w .body)) a (w .before-last) p)
-    (rw (last-head-none h (fill-keeps bs (w .body)) (none-fill-keeps is-head (λ b l. refl) bs (w .body) a)) (good-told-line ts g ti w c a), tt))
+    let p : Goods (g .head) 0 (w .body) = along-left good-at next-kept (g .head) 0 (w .body) (w .last ∷ []) (rw (w .ends) at q) in
+    let o : Goods h 0 (fill-told ti (g .rest)) =
+    rw (w .ends, fill-told-ends ti (w .body) (w .last) (w .before-last) (w .is-last))
+    (along-append good-at next-kept h 0 (fill-keeps bs (w .body)) (told-line ti ∷ [])
+    (goods-filling (g .head) h 0 0 e refl (filling field-line bit bs (w .body)) a (w .before-last) p)
+    (rw (last-head-none h (fill-keeps bs (w .body)) (none-fill field-line bit is-head (λ b l. refl) bs (w .body) a), ← (kept-follow 0 (fill-keeps bs (w .body)))) (good-told-line ts g ti w c a), tt)) in
+    goods-tags h 0 (filling ctor-line tag-number-of (ti .ti-ctors) (fill-told ti (g .rest))) (none-told ti (g .rest) (k .alone)) o
 
--- a declaration filled, after any lines
-goods-filled : (ts : List Cty) (g : Group) (ti : TypeInfo) (h k : Line) (m n : ℕ) → Grouped is-head g → Whole g → Told (decl-of ts g) ti
-    → Goods h m (g .head ∷ g .rest) → Goods k n (filled g ti .head ∷ filled g ti .rest)
-unfolding decl-of
-goods-filled ts g ti h k m n p w t q = go (is import-line (g .head)) refl t
+-- and their tags
+tagged-local : (ts : List Cty) (g : Group) (ti : TypeInfo) → Grouped is-head g → Whole g → Coherent (close-fields (dtype-of ts g)) ti → Tagged (row import-line (five (g .head))) 0 (fill-rest ti (g .rest))
+unfolding close-fields dtype-of ctor-layouts ctor-layout
+tagged-local ts g ti k w c = go (ctors-counted (d .dt-params) ts (d .dt-name) g w) (ctors-last (d .dt-params) ts (d .dt-name) g w)
   where
-    r : Goods (g .head) 0 (g .rest)
-    r = rw (p .begins) at (q .1)
+    d : Dtype
+    d = close-fields (dtype-of ts g)
 
-    go : (c : Bool) → is import-line (g .head) ≡ c
-        → Told (record { dtype = close-fields (dtype-of ts g); origin = pick c (imported (info-of (close-fields (dtype-of ts g)) (g .rest) (verdict-of (g .rest)))) here }) ti
-        → Goods k n (filled g ti .head ∷ filled g ti .rest)
-    go true e u = rw (filled-import g ti e, p .begins) (good-at-head (g .head) n (g .head) (p .begins), r)
-    go false e u = rw (filled-local g ti e) (good-at-head (row import-line (five (g .head))) n (row import-line (five (g .head))) refl, goods-local ts g ti p w u e r)
+    h : Line
+    h = row import-line (five (g .head))
 
-goods-fills : (ts : List Cty) (gs : List Group) (tis : List TypeInfo) (h k : Line) (m n : ℕ) → AllGrouped is-head gs → AllWhole gs → AllTold (map (decl-of ts) gs) tis
-    → Goods h m (flat gs) → Goods k n (flat (fills gs tis))
-unfolding flat fills
-goods-fills ts [] tis h k m n p w t q = tt
-goods-fills ts (g ∷ gs) [] h k m n p w t q = tt
-goods-fills ts (g ∷ gs) (ti ∷ tis) h k m n p w t q =
-    let x : List Line = g .head ∷ g .rest in
-    let y : List Line = filled g ti .head ∷ filled g ti .rest in
-    goods-append k n y (flat (fills gs tis))
-    (goods-filled ts g ti h k m n (p .0) (w .0) (t .0) (goods-left h m x (flat gs) q))
-    (goods-fills ts gs tis (last-head h x) (last-head k y) (kept-after m x) (kept-after n y) (p .1) (w .1) (t .1) (goods-right h m x (flat gs) q))
+    cs : List Ctor
+    cs = ctors-of-tydef d
+
+    cls : List CtorLayout
+    cls = layouts-of-ctors (c .erasing) (ctor-tag (length cs)) cs
+
+    none : None is-head (fill-told ti (g .rest))
+    none = none-told ti (g .rest) (k .alone)
+
+    go : (length cs ≡ count-of ctor-line (g .rest)) ⊎ ((length cs ≡ 1) × (count-of ctor-line (g .rest) ≡ 0)) → (0 < count-of ctor-line (g .rest) → length cs ≡ number (g .head) 4)
+        → Tagged h 0 (fill-rest ti (g .rest))
+    go (inl e) m =
+        let n : length cls ≡ length cs = length-table _ (length cs) in
+        subst (λ (x : List CtorLayout). Tagged h 0 (fill-tags x (fill-told ti (g .rest)))) (sym (c .ctors))
+        (tagged-filling h 0 (filling ctor-line tag-number-of cls (fill-told ti (g .rest))) none (n ∙ (e ∙ sym (ap length (ctors-told ti (g .rest)))))
+        (λ i x j.
+        let l : i < length cs = omega (arith, n) in
+        ap tag-number (tag-at (c .erasing) (ctor-tag (length cs)) cs i x l) ∙ ap₂ (λ (v u : ℕ). tag-number (ctor-tag v u)) (m (omega (arith, e))) (omega arith)))
+    go (inr e) m =
+        tagged-none h 0 (fill-rest ti (g .rest)) (none-fill ctor-line tag-number-of is-head (λ x l. refl) (ti .ti-ctors) (fill-told ti (g .rest)) none)
+        (none-select ctor-line (fill-rest ti (g .rest)) (length-nil (select ctor-line (fill-rest ti (g .rest))) (count-fill ctor-line tag-number-of (ti .ti-ctors) (fill-told ti (g .rest)) ∙ (ap length (ctors-told ti (g .rest)) ∙ e .1))))
+
+-- ---- declarations filled, after any lines
+-- a test that a declaration's first line passes, that imports keep, and that a local declaration's filled lines meet
+module _ (test : Line → ℕ → Line → Bool) (next : ℕ → Line → ℕ) (ts : List Cty)
+    (at-head : (h : Line) (n : ℕ) (l : Line) → is-head l ≡ true → test h n l ≡ true) (zeros : (n : ℕ) (l : Line) → is-head l ≡ true → next n l ≡ 0)
+    (local : (g : Group) (ti : TypeInfo) → Grouped is-head g → Whole g → Coherent (close-fields (dtype-of ts g)) ti → is import-line (g .head) ≡ false
+    → Along test next (g .head) 0 (g .rest) → Along test next (row import-line (five (g .head))) 0 (fill-rest ti (g .rest))) where
+  along-filled : (g : Group) (ti : TypeInfo) (h k : Line) (m n : ℕ) → Grouped is-head g → Whole g → Told (decl-of ts g) ti
+      → Along test next h m (g .head ∷ g .rest) → Along test next k n (filled g ti .head ∷ filled g ti .rest)
+  unfolding decl-of
+  along-filled g ti h k m n p w t q = go (is import-line (g .head)) refl t
+    where
+      r : Along test next (g .head) 0 (g .rest)
+      r = rw (p .begins, zeros m (g .head) (p .begins)) at (q .1)
+
+      go : (c : Bool) → is import-line (g .head) ≡ c
+          → Told (record { dtype = close-fields (dtype-of ts g); origin = pick c (imported (info-of (close-fields (dtype-of ts g)) (g .rest) (verdict-of (g .rest)))) here }) ti
+          → Along test next k n (filled g ti .head ∷ filled g ti .rest)
+      go true e u = rw (filled-import g ti e, p .begins, zeros n (g .head) (p .begins)) (at-head (g .head) n (g .head) (p .begins), r)
+      go false e u =
+          let x : Line = row import-line (five (g .head)) in
+          rw (filled-local g ti e, zeros n x refl) (at-head x n x refl, local g ti p w u e r)
+
+  along-fills : (gs : List Group) (tis : List TypeInfo) (h k : Line) (m n : ℕ) → AllGrouped is-head gs → AllWhole gs → AllTold (map (decl-of ts) gs) tis
+      → Along test next h m (flat gs) → Along test next k n (flat (fills gs tis))
+  unfolding flat fills
+  along-fills [] tis h k m n p w t q = tt
+  along-fills (g ∷ gs) [] h k m n p w t q = tt
+  along-fills (g ∷ gs) (ti ∷ tis) h k m n p w t q =
+      let x : List Line = g .head ∷ g .rest in
+      let y : List Line = filled g ti .head ∷ filled g ti .rest in
+      along-append test next k n y (flat (fills gs tis))
+      (along-filled g ti h k m n (p .0) (w .0) (t .0) (along-left test next h m x (flat gs) q))
+      (along-fills gs tis (last-head h x) (last-head k y) (follow next m x) (follow next n y) (p .1) (w .1) (t .1) (along-right test next h m x (flat gs) q))
+
+  along-verdict : (ls : List Line) (tis : List TypeInfo) → trees ls ≡ ts → AllWhole (groups is-head ls) → AllTold (program ls) tis → Along test next bad 0 ls → Along test next bad 0 (verdict-lines ls tis)
+  along-verdict ls tis e w t q =
+      let hs : List Line = before is-head ls in
+      let gs : List Group = groups is-head ls in
+      let p : Along test next bad 0 (hs ++ flat gs) = rw (before-flat is-head ls) q in
+      rw (verdict-lines-flat ls tis)
+      (along-append test next bad 0 hs (flat (fills gs tis)) (along-left test next bad 0 hs (flat gs) p)
+      (along-fills gs tis (last-head bad hs) (last-head bad hs) (follow next 0 hs) (follow next 0 hs) (grouped is-head ls) w (rw (program-groups ls, e) at t) (along-right test next bad 0 hs (flat gs) p)))
+
+head-zeros : (x : ℕ) (l : Line) → is-head l ≡ true → pick (is-head l) 0 x ≡ 0
+head-zeros x l e = rw e
 
 goods-verdict : (ls : List Line) (tis : List TypeInfo) → AllWhole (groups is-head ls) → AllTold (program ls) tis → Goods bad 0 ls → Goods bad 0 (verdict-lines ls tis)
-goods-verdict ls tis w t q =
-    let hs : List Line = before is-head ls in
-    let gs : List Group = groups is-head ls in
-    let p : Goods bad 0 (hs ++ flat gs) = rw (before-flat is-head ls) q in
-    rw (verdict-lines-flat ls tis)
-    (goods-append bad 0 hs (flat (fills gs tis)) (goods-left bad 0 hs (flat gs) p)
-    (goods-fills (trees ls) gs tis (last-head bad hs) (last-head bad hs) (kept-after 0 hs) (kept-after 0 hs) (grouped is-head ls) w (rw (program-groups ls) at t) (goods-right bad 0 hs (flat gs) p)))
+goods-verdict ls tis = along-verdict good-at next-kept (trees ls) good-at-head (λ n l e. head-zeros (more n l) l e) (goods-local (trees ls)) ls tis refl
+
+tagged-verdict : (ls : List Line) (tis : List TypeInfo) → AllWhole (groups is-head ls) → AllTold (program ls) tis → Tagged bad 0 ls → Tagged bad 0 (verdict-lines ls tis)
+tagged-verdict ls tis =
+    along-verdict tag-good next-ctors (trees ls) tag-good-head (λ n l e. head-zeros (pick (is ctor-line l) (suc n) n) l e) (λ g ti p w c e q. tagged-local (trees ls) g ti p w c) ls tis refl
 
 -- Where a sheet passes row 7, so does its verdict sheet.
 pub row7-verdict : (ls : List Line) (tis : List TypeInfo) → AllWhole (groups is-head ls) → AllTold (program ls) tis → ((i : ℕ) → i < length ls → row7 ls i ≡ false)
     → (i : ℕ) → i < length ls → row7 (verdict-lines ls tis) i ≡ false
 row7-verdict ls tis w t h i k =
-    goods-row7 (verdict-lines ls tis) (goods-verdict ls tis w t (row7-goods ls h)) i (rw (length-verdict-lines ls tis (told-groups ls tis t)) k)
+    goods-row7 (verdict-lines ls tis) (tagged-verdict ls tis w t (row7-goods ls h .0)) (goods-verdict ls tis w t (row7-goods ls h .1)) i (rw (length-verdict-lines ls tis (told-groups ls tis t)) k)
 
 pub last-head-append : (h : Line) (a b : List Line) → last-head h (a ++ b) ≡ last-head (last-head h a) b
 unfolding last-head
@@ -1315,31 +1462,52 @@ unfolding kept-after
 kept-after-append n [] b = refl
 kept-after-append n (l ∷ a) b = kept-after-append (next-kept n l) a b
 
-good-verdicts-rest : (a qs : List Line) (j : ℕ)
-    → good-verdicts (a ++ qs) (length a + j) ≡ good-at (last-head (last-head bad a) (take (suc j) qs)) (kept-after (kept-after 0 a) (take j qs)) (line-at qs j)
-good-verdicts-rest a qs j =
-    let e : suc (length a + j) ≡ length a + suc j = omega arith in
-    good-verdicts-at (a ++ qs) (length a + j)
-    ∙ rw (e, take-append-add a qs (suc j), take-append-add a qs j, getD-append-add a qs j bad, last-head-append bad a (take (suc j) qs), kept-after-append 0 a (take j qs))
+pub ctors-after-append : (n : ℕ) (a b : List Line) → ctors-after n (a ++ b) ≡ ctors-after (ctors-after n a) b
+unfolding ctors-after
+ctors-after-append n [] b = refl
+ctors-after-append n (l ∷ a) b = ctors-after-append (next-ctors n l) a b
 
--- after a line that begins a declaration nothing is left of the state before
-good-rest : (h k : Line) (m n : ℕ) (qs : List Line) (j : ℕ) → Starts is-head qs
-    → good-at (last-head h (take (suc j) qs)) (kept-after m (take j qs)) (line-at qs j) ≡ good-at (last-head k (take (suc j) qs)) (kept-after n (take j qs)) (line-at qs j)
-unfolding last-head kept-after
-good-rest h k m n [] j s = good-at-bad (last-head h []) (last-head k []) (kept-after m (take j [])) (kept-after n (take j []))
-good-rest h k m n (l ∷ qs) zero s = good-at-head (pick (is-head l) l h) m l s ∙ sym (good-at-head (pick (is-head l) l k) n l s)
-good-rest h k m n (l ∷ qs) (suc j) s =
-    ap₂ (λ (x : Line) (i : ℕ). good-at x i (line-at qs j))
-    (ap (λ (c : Bool). last-head (pick c l h) (take (suc j) qs)) s ∙ sym (ap (λ (c : Bool). last-head (pick c l k) (take (suc j) qs)) s))
-    (ap (λ (c : Bool). kept-after (pick c 0 (more m l)) (take j qs)) s ∙ sym (ap (λ (c : Bool). kept-after (pick c 0 (more n l)) (take j qs)) s))
+follow-append : (next : ℕ → Line → ℕ) (n : ℕ) (a b : List Line) → follow next n (a ++ b) ≡ follow next (follow next n a) b
+unfolding follow
+follow-append next n [] b = refl
+follow-append next n (l ∷ a) b = follow-append next (next n l) a b
+
+-- a test of line j of the rest, by the state that the lines before it leave
+module _ (test : Line → ℕ → Line → Bool) (next : ℕ → Line → ℕ) where
+  rest-at : Line → ℕ → List Line → ℕ → Bool
+  rest-at h n qs j = test (last-head h (take (suc j) qs)) (follow next n (take j qs)) (line-at qs j)
+
+  test-rest : (a qs : List Line) (j : ℕ)
+      → test (head-of (a ++ qs) (length a + j)) (follow next 0 (take (length a + j) (a ++ qs))) (line-at (a ++ qs) (length a + j)) ≡ rest-at (last-head bad a) (follow next 0 a) qs j
+  unfolding rest-at
+  test-rest a qs j =
+      let e : suc (length a + j) ≡ length a + suc j = omega arith in
+      rw (e, take-append-add a qs (suc j), take-append-add a qs j, getD-append-add a qs j bad, last-head-append bad a (take (suc j) qs), follow-append next 0 a (take j qs))
+
+  -- after a line that begins a declaration nothing is left of the state before
+  rest-same : ((h k : Line) (m n : ℕ) → test h m bad ≡ test k n bad) → ((h : Line) (n : ℕ) (l : Line) → is-head l ≡ true → test h n l ≡ true)
+      → ((n : ℕ) (l : Line) → is-head l ≡ true → next n l ≡ 0) → (h k : Line) (m n : ℕ) (qs : List Line) (j : ℕ) → Starts is-head qs → rest-at h m qs j ≡ rest-at k n qs j
+  unfolding rest-at last-head follow
+  rest-same b p z h k m n [] j s = b (last-head h []) (last-head k []) (follow next m (take j [])) (follow next n (take j []))
+  rest-same b p z h k m n (l ∷ qs) zero s = p (pick (is-head l) l h) m l s ∙ sym (p (pick (is-head l) l k) n l s)
+  rest-same b p z h k m n (l ∷ qs) (suc j) s =
+      ap₂ (λ (x : Line) (i : ℕ). test (last-head x (take (suc j) qs)) (follow next i (take j qs)) (line-at qs j))
+      (ap (λ (c : Bool). pick c l h) s ∙ sym (ap (λ (c : Bool). pick c l k) s)) (z m l s ∙ sym (z n l s))
 
 -- the rest of the lines sees nothing of a prefix but its length
 pub row7-rest : (a b qs : List Line) (j : ℕ) → Starts is-head qs → row7 (a ++ qs) (length a + j) ≡ row7 (b ++ qs) (length b + j)
 unfolding row7
-row7-rest a b qs j s = ap not
-    (good-verdicts-rest a qs j
-    ∙ good-rest (last-head bad a) (last-head bad b) (kept-after 0 a) (kept-after 0 b) qs j s
-    ∙ sym (good-verdicts-rest b qs j))
+row7-rest a b qs j s = ap not (at a ∙ (ap₂ _&&_ tags goods ∙ sym (at b)))
+  where
+    at : (c : List Line) → good-verdicts (c ++ qs) (length c + j)
+        ≡ (rest-at tag-good next-ctors (last-head bad c) (follow next-ctors 0 c) qs j && rest-at good-at next-kept (last-head bad c) (follow next-kept 0 c) qs j)
+    at c = good-verdicts-at (c ++ qs) (length c + j) ∙ ap₂ _&&_ (test-rest tag-good next-ctors c qs j) (test-rest good-at next-kept c qs j)
+
+    tags : rest-at tag-good next-ctors (last-head bad a) (follow next-ctors 0 a) qs j ≡ rest-at tag-good next-ctors (last-head bad b) (follow next-ctors 0 b) qs j
+    tags = rest-same tag-good next-ctors tag-good-bad tag-good-head (λ n l e. head-zeros (pick (is ctor-line l) (suc n) n) l e) _ _ _ _ qs j s
+
+    goods : rest-at good-at next-kept (last-head bad a) (follow next-kept 0 a) qs j ≡ rest-at good-at next-kept (last-head bad b) (follow next-kept 0 b) qs j
+    goods = rest-same good-at next-kept good-at-bad good-at-head (λ n l e. head-zeros (more n l) l e) _ _ _ _ qs j s
 
 -- Row 7 of a prefix's verdict sheet with the rest behind it.
 pub row7-cut : (ls qs : List Line) (tis : List TypeInfo) → Starts is-head qs → AllWhole (groups is-head ls) → AllTold (program ls) tis
@@ -1360,6 +1528,170 @@ row7-cut ls qs tis s w t h i = go (ltb i (length ls)) refl
         ap (row7 (verdict-lines ls tis ++ qs)) (omega (arith, n))
         ∙ row7-rest (verdict-lines ls tis) ls qs (i - length ls) s
         ∙ ap (row7 (ls ++ qs)) (omega arith)
+
+-- ---- C lines stand in declarations
+-- where a declaration is open, the line that began it is a D or I line
+abbrev Opened : Due → Line → Type 0
+Opened (Header place) h = Unit {0}
+Opened (Within p f c) h = is-head h ≡ true
+Opened Broken h = Unit {0}
+
+announced-opened : (k p n : ℕ) (l : Line) → is-head l ≡ true → Opened (announced k p n) l
+unfolding announced
+announced-opened k p n l e = go (leb k 1) (eqb k 2) (eqb k 3)
+  where
+    go : (a b c : Bool) → Opened (a ⇒ Within p 0 0 ∥ b ⇒ Within p n 0 ∥ c ⇒ Within p 0 n ∥ Broken) l
+    go true b c = e
+    go false true c = e
+    go false false true = e
+    go false false false = tt
+
+within-kept : (c : Bool) (q : Due) (h : Line) → Opened q h → Opened (pick c q Broken) h
+within-kept true q h o = o
+within-kept false q h o = tt
+
+ctor-no-head : (l : Line) → is ctor-line l ≡ true → is-head l ≡ false
+ctor-no-head l e = rw (eqb-true (letter l) 67 e)
+
+header-stays : (place : ℕ) (l : Line) → is-head l ≡ false → is-within (due (Header place) l) ≡ false
+unfolding due due-header
+header-stays place l e = rw e (go (is name-line l && leb place 0) (is arg-line l && leb place 1) (is type-line l && leb place 2))
+  where
+    go : (a b c : Bool) → is-within (a ⇒ Header 0 ∥ b ⇒ Header 1 ∥ c ⇒ Header 2 ∥ Broken) ≡ false
+    go true b c = refl
+    go false true c = refl
+    go false false true = refl
+    go false false false = refl
+
+within-next : (p f c : ℕ) (h l : Line) → is-head h ≡ true → Opened (due (Within p f c) l) h
+unfolding due
+within-next (suc p) f c h l o = within-kept (is param-line l) (Within p f c) h o
+within-next zero (suc f) c h l o = within-kept (is field-line l) (Within zero f c) h o
+within-next zero zero (suc c) h l o = within-kept (is ctor-line l) (Within zero (number l 1) c) h o
+within-next zero zero zero h l o = within-ended (is verdict-line l)
+  where
+    within-ended : (t : Bool) → Opened (pick t (Header 3) Broken) h
+    within-ended true = tt
+    within-ended false = tt
+
+ctor-opened : (q : Due) (h l : Line) → Opened q h → is-broken (due q l) ≡ false → is ctor-line l ≡ true → is-head h ≡ true
+unfolding due due-header
+ctor-opened (Header place) h l o b c = false-true (sym (rw (eqb-true (letter l) 67 c) at b))
+ctor-opened (Within p f k) h l o b c = o
+ctor-opened Broken h l o b c = false-true (sym b)
+
+opened-next : (q : Due) (h l : Line) → Opened q h → is-broken (due q l) ≡ false → Opened (due q l) (next-head h l)
+unfolding due
+opened-next (Header place) h l o b = go (is-head l) refl
+  where
+    go : (c : Bool) → is-head l ≡ c → Opened (due (Header place) l) (pick c l h)
+    go true e = rw (head-due place l e) (announced-opened (number l 2) (number l 3) (number l 4) l e)
+    go false e = others (due (Header place) l) (header-stays place l e)
+      where
+        others : (q : Due) → is-within q ≡ false → Opened q h
+        others (Header p) n = tt
+        others (Within p f c) n = false-true (sym n)
+        others Broken n = tt
+opened-next (Within p f c) h l o b = go (is-head l) refl
+  where
+    go : (t : Bool) → is-head l ≡ t → Opened (due (Within p f c) l) (pick t l h)
+    go true e = false-true (sym (rw (head-within p f c l e) at b))
+    go false e = within-next p f c h l o
+opened-next Broken h l o b = tt
+
+ctor-headed : (q : Due) (h : Line) (ls : List Line) → Opened q h → is-header (due-after q ls) ≡ true → (i : ℕ) → i < length ls → is ctor-line (line-at ls i) ≡ true → is-head (last-head h (take (suc i) ls)) ≡ true
+unfolding due-after last-head
+ctor-headed q h [] o e i l c = absurd (omega arith)
+ctor-headed q h (x ∷ ls) o e zero l c = rw (ctor-no-head x c) (ctor-opened q h x o (unbroken (due q x) ls e) c)
+ctor-headed q h (x ∷ ls) o e (suc i) l c = ctor-headed (due q x) (next-head h x) ls (opened-next q h x o (unbroken (due q x) ls e)) e i (omega arith) c
+
+-- Where row 3 passes, a C line is in a declaration.
+pub ctor-declared : (ls : List Line) → Ends ls → (i : ℕ) → i < length ls → is ctor-line (line-at ls i) ≡ true → is-head (head-of ls i) ≡ true
+ctor-declared ls h i l c = ctor-headed (Header 0) bad ls tt h i l c
+
+-- ---- the tags of imports
+-- the C lines of a declaration that passes, by their places
+tagged-read : (h : Line) (k : ℕ) (ls : List Line) → None is-head ls → Tagged h k ls → (i : ℕ) → i < count-of ctor-line ls → number (getD (select ctor-line ls) i bad) 2 ≡ tag-in h (k + i)
+unfolding select tag-good
+tagged-read h k [] n t i q = absurd (omega arith)
+tagged-read h k (l ∷ ls) n t i q = go (is ctor-line l) refl i q (rw (n .0) at (t .0)) (λ m r j z. tagged-read h m ls (n .1) r j z) (rw (n .0) at (t .1))
+  where
+    go : (c : Bool) → is ctor-line l ≡ c → (j : ℕ) → j < length (pick c (l ∷ select ctor-line ls) (select ctor-line ls)) → (c ⇒ eqb (number l 2) (tag-in h k) ∥ true) ≡ true
+        → ((m : ℕ) → Tagged h m ls → (z : ℕ) → z < count-of ctor-line ls → number (getD (select ctor-line ls) z bad) 2 ≡ tag-in h (m + z))
+        → Tagged h (pick c (suc k) k) ls → number (getD (pick c (l ∷ select ctor-line ls) (select ctor-line ls)) j bad) 2 ≡ tag-in h (k + j)
+    go true e zero p u ih r = eqb-true (number l 2) (tag-in h k) u ∙ ap (tag-in h) (omega arith)
+    go true e (suc j) p u ih r = ih (suc k) r j (omega arith) ∙ ap (tag-in h) (omega arith)
+    go false e j p u ih r = ih k r j p
+
+-- a test of all lines is one of each declaration's
+along-group : (test : Line → ℕ → Line → Bool) (next : ℕ → Line → ℕ) → ((n : ℕ) (l : Line) → is-head l ≡ true → next n l ≡ 0) → (h : Line) (n : ℕ) (gs : List Group) → AllGrouped is-head gs
+    → Along test next h n (flat gs) → (j : ℕ) (d : Group) → j < length gs → Along test next (getD gs j d .head) 0 (getD gs j d .rest)
+unfolding flat
+along-group test next z h n [] p q j d l = absurd (omega arith)
+along-group test next z h n (g ∷ gs) p q zero d l = rw (p .0 .begins, z n (g .head) (p .0 .begins)) at (along-left test next h n (g .head ∷ g .rest) (flat gs) q .1)
+along-group test next z h n (g ∷ gs) p q (suc j) d l =
+    let x : List Line = g .head ∷ g .rest in
+    along-group test next z (last-head h x) (follow next n x) gs (p .1) (along-right test next h n x (flat gs) q) j d (omega arith)
+
+by-tag : (tag : ℕ → Option ℕ) (cs : List Ctor) (bss : List (List Bool)) (k : ℕ) (x : CtorLayout) → k < length (ctor-layouts-by tag cs bss) → getD (ctor-layouts-by tag cs bss) k x .cl-tag ≡ tag k
+unfolding ctor-layouts-by ctor-layout
+by-tag tag [] bss k x h = absurd (omega arith)
+by-tag tag (c ∷ cs) [] k x h = absurd (omega arith)
+by-tag tag (c ∷ cs) (bs ∷ bss) zero x h = refl
+by-tag tag (c ∷ cs) (bs ∷ bss) (suc k) x h = by-tag (λ i. tag (suc i)) cs bss k x (omega arith)
+
+-- the tag that a C line of an import has is that of its place
+lines-tags : (ps : List ℕ) (ts : List Cty) (n : ℕ) (g : Group) → Grouped is-head g → Whole g → is import-line (g .head) ≡ true → Tagged (g .head) 0 (g .rest)
+    → let m = length (ctors-of n (close-body ps (body-of ts (number (g .head) 2) (number (g .head) 4) (g .rest)))) in (i : ℕ) → i < m → tags (g .rest) i ≡ ctor-tag m i
+lines-tags ps ts n g p w e t i h = go (ctors-counted ps ts n g w) (ctors-last ps ts n g w)
+  where
+    m : ℕ
+    m = length (ctors-of n (close-body ps (body-of ts (number (g .head) 2) (number (g .head) 4) (g .rest))))
+
+    go : (m ≡ count-of ctor-line (g .rest)) ⊎ ((m ≡ 1) × (count-of ctor-line (g .rest) ≡ 0)) → (0 < count-of ctor-line (g .rest) → m ≡ number (g .head) 4) → tags (g .rest) i ≡ ctor-tag m i
+    go (inl q) r =
+        let k : i < count-of ctor-line (g .rest) = omega (arith, q) in
+        let y : tag-in (g .head) (0 + i) ≡ tag-number (ctor-tag m i) = rw e (ap₂ (λ (a b : ℕ). tag-number (ctor-tag a b)) (sym (r (omega arith))) (omega arith)) in
+        ap tag-of (tagged-read (g .head) 0 (g .rest) (p .alone) t i k ∙ y) ∙ tag-read (ctor-tag m i)
+    go (inr q) r = tags-none (g .rest) (q .1) i ∙ sym (ap (λ (a : ℕ). ctor-tag a i) (q .0))
+
+-- Where row 7 passes, the tags of an import are those that its constructors would get here.
+pub import-tags : (ls : List Line) → AllWhole (groups is-head ls) → ((i : ℕ) → i < length ls → row7 ls i ≡ false) → (i : ℕ) (ti : TypeInfo) → i < length (program ls) → origin-at (program ls) i ≡ imported ti
+    → (k : ℕ) (x : CtorLayout) → k < length (ti .ti-ctors) → k < length (ctors-of-tydef (dtype-at (program ls) i)) → getD (ti .ti-ctors) k x .cl-tag ≡ ctor-tag (length (ctors-of-tydef (dtype-at (program ls) i))) k
+unfolding decl-of info-of close-fields dtype-of
+import-tags ls w r i ti h o k x l n = go (is import-line (g .head)) refl (ap (λ (y : Decl). y .origin) (sym at) ∙ o)
+  where
+    g : Group
+    g = getD (groups is-head ls) i (record { head = bad; rest = [] })
+
+    j : i < length (groups is-head ls)
+    j = omega (arith, length-groups ls, length-program ls)
+
+    d : Dtype
+    d = close-fields (dtype-of (trees ls) g)
+
+    at : getD (program ls) i no-decl ≡ decl-of (trees ls) g
+    at = ap (λ (y : List Decl). getD y i no-decl) (program-groups ls) ∙ getD-map (decl-of (trees ls)) (groups is-head ls) i no-decl (record { head = bad; rest = [] }) j
+
+    q : Tagged (g .head) 0 (g .rest)
+    q =
+        let hs : List Line = before is-head ls in
+        along-group tag-good next-ctors (λ m y e. head-zeros (pick (is ctor-line y) (suc m) m) y e) (last-head bad hs) (follow next-ctors 0 hs) (groups is-head ls) (grouped is-head ls)
+        (along-right tag-good next-ctors bad 0 hs (flat (groups is-head ls)) (rw (before-flat is-head ls) (row7-goods ls r .0))) i (record { head = bad; rest = [] }) j
+
+    own : TypeInfo
+    own = info-of d (g .rest) (verdict-of (g .rest))
+
+    go : (c : Bool) → is import-line (g .head) ≡ c → pick c (imported own) here ≡ imported ti → getD (ti .ti-ctors) k x .cl-tag ≡ ctor-tag (length (ctors-of-tydef (dtype-at (program ls) i))) k
+    go true e z =
+        let y : own ≡ ti = cc in
+        let a : dtype-at (program ls) i ≡ d = ap (λ (u : Decl). u .dtype) at in
+        ap (λ (u : TypeInfo). getD (u .ti-ctors) k x .cl-tag) (sym y)
+        ∙ (by-tag (tags (g .rest)) (ctors-of-tydef d) (keeps-of (d .dt-body) (g .rest)) k x (rw (sym y) at l)
+        ∙ (lines-tags (d .dt-params) (trees ls) (d .dt-name) g (every-at (Grouped is-head) (record { head = bad; rest = [] }) (groups is-head ls) (grouped is-head ls) i j)
+        (every-at Whole (record { head = bad; rest = [] }) (groups is-head ls) w i j) e q k (rw a at n)
+        ∙ ap (λ (u : Dtype). ctor-tag (length (ctors-of-tydef u)) k) (sym a)))
+    go false e z = let y : _≡_ {A = ℕ} 0 1 = cc in absurd (omega arith)
 
 -- ---- row 3 of the bytes
 -- a line's letter and numbers, by its bytes

@@ -4,6 +4,7 @@
 use mathlib.Core.Logic.{⊎-elim}
 use mathlib.Core.Path.{_≡_, refl, ap, ap₂, sym, _∙_, subst}
 use mathlib.Core.List.{List, [], _∷_, map, List·Memᴰ, List·Memᴰ·head, Memᴰ·append-left, Memᴰ·append-right}
+use mathlib.Core.Option.{Option}
 use mathlib.Core.Bool.{Bool, true, false, _&&_, not}
 use Prim.Native.Nat.{ℕ, suc, _+_, _≤_, _<_}
 use native.Mathlib.Omega.{arith}
@@ -149,18 +150,18 @@ module _ (er er' : ℕ → Bool) where
       (cty-erased-local (f .fd-type) (λ n m. h n (Memᴰ·append-left (fields-names fs) m)))
       (slots-local fs (λ n m. h n (Memᴰ·append-right (names-of-cty (f .fd-type)) m)))
 
-  ctors-local : (cs : List Ctor) → Alike er er' (ctors-names cs)
-      → layouts-of-ctors er cs ≡ layouts-of-ctors er' cs
+  ctors-local : (tag : ℕ → Option ℕ) (cs : List Ctor) → Alike er er' (ctors-names cs)
+      → layouts-of-ctors er tag cs ≡ layouts-of-ctors er' tag cs
   unfolding ctors-names table
-  ctors-local [] h = refl
-  ctors-local (c ∷ cs) h =
-      ap₂ (λ (x : List Bool) (l : List CtorLayout). ctor-layout c x ∷ l)
+  ctors-local tag [] h = refl
+  ctors-local tag (c ∷ cs) h =
+      ap₂ (λ (x : List Bool) (l : List CtorLayout). ctor-layout (tag 0) c x ∷ l)
       (slots-local (c .ct-fields) (λ n m. h n (Memᴰ·append-left (ctors-names cs) m)))
-      (ctors-local cs (λ n m. h n (Memᴰ·append-right (fields-names (c .ct-fields)) m)))
+      (ctors-local (λ i. tag (suc i)) cs (λ n m. h n (Memᴰ·append-right (fields-names (c .ct-fields)) m)))
 
   pub ctor-layouts-local : (d : Dtype) → Alike er er' (dtype-names d) → ctor-layouts er d ≡ ctor-layouts er' d
   unfolding ctor-layouts dtype-names
-  ctor-layouts-local d h = ctors-local (ctors-of (d .dt-name) (d .dt-body)) (λ n m. h n (ctors-own (d .dt-name) (d .dt-body) n m))
+  ctor-layouts-local d h = ctors-local _ (ctors-of (d .dt-name) (d .dt-body)) (λ n m. h n (ctors-own (d .dt-name) (d .dt-body) n m))
 
 -- ---- lists
 -- ---- closing

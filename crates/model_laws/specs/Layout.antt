@@ -15,7 +15,7 @@ use Rattle.sheet.specs.ListLaws.{false-true, same-test}
 use Rattle.model.specs.Cty.{Cty, names-of-cty}
 use Rattle.model.specs.Decl.{table, Field, Ctor, Body, TAbstract, TAbbrev, TRecord, TVariant, Dtype, NoNewtype, Realized, NoUnfold, has-flag, ctors-of, ctors-of-tydef, CtorLayout, NewtypeLayout, Layout, L-erased, L-newtype, L-struct, L-abbrev, L-opaque, Origin, here, imported, Decl, dtype-at, origin-at, position}
 use Rattle.model.specs.Erasure.{marked}
-use Rattle.model.specs.Layout.{Candidate, candidates-of, passes-of, layouts-of-ctors, slots, kept, ctor-layout, ctor-layouts, newtype-of-ctor, newtype-of, candidate, candidates, positions, names-in, type-names, steps, passed, passes, guard-next, dropped, collapse, layout-of-body, layout-of, compute-layouts}
+use Rattle.model.specs.Layout.{Candidate, candidates-of, passes-of, ctor-tag, layouts-of-ctors, slots, kept, ctor-layout, ctor-layouts, newtype-of-ctor, newtype-of, candidate, candidates, positions, names-in, type-names, steps, passed, passes, guard-next, dropped, collapse, layout-of-body, layout-of, compute-layouts}
 use Rattle.model.specs.Resolve.{stays, unfolded, abbreviation-of, unfold-body, unfold-dtype, unfold-of, unfolds}
 use Rattle.model.specs.Run.{unfold-next}
 use Rattle.model_laws.specs.Erasure.{marked-same, ctor-layouts-local}
@@ -171,7 +171,7 @@ module _ (er : ℕ → Bool) (d : Dtype) (e : Bool) (nt : NewtypeLayout) where
           record { ctor = c; field = f; not-erased = p; allowed = q; one-ctor = u; one-kept = v; made = cc }
       on c u (f ∷ g ∷ fs) v z = let y : _≡_ {A = ℕ} 0 1 = cc in absurd (omega arith)
 
-      by : (cs : List Ctor) → ctors-of-tydef d ≡ cs → newtype-of (layouts-of-ctors er cs) ≡ some nt → Candidate er d e nt
+      by : (cs : List Ctor) → ctors-of-tydef d ≡ cs → newtype-of (layouts-of-ctors er (ctor-tag (length cs)) cs) ≡ some nt → Candidate er d e nt
       by [] u z = let y : _≡_ {A = ℕ} 0 1 = cc in absurd (omega arith)
       by (c ∷ []) u z = on c u (kept (slots er (c .ct-fields)) (c .ct-fields)) refl z
       by (c ∷ c₁ ∷ cs) u z = let y : _≡_ {A = ℕ} 0 1 = cc in absurd (omega arith)

@@ -4,7 +4,7 @@ use mathlib.Core.Path.{_≡_, refl, sym, subst}
 use mathlib.Core.List.{List, [], _∷_, _++_, List·Memᴰ, List·Memᴰ·not-nil, Memᴰ·append-left}
 use mathlib.Core.Bool.{Bool, true, false, _||_}
 use mathlib.Core.Option.{Option, none, some}
-use Prim.Native.Nat.{ℕ}
+use Prim.Native.Nat.{ℕ, suc}
 use Rattle.number_columns.specs.Column.{pick}
 use Rattle.model.specs.Cty.{names-of-cty}
 use Rattle.model.specs.Decl.{table, Field, Ctor, Body, TAbstract, TAbbrev, TRecord, TVariant, Dtype, ctors-of-tydef, has-flag, NoNewtype, CtorLayout, NewtypeLayout, Origin, here, imported}
@@ -13,10 +13,10 @@ use Rattle.model.specs.Names.{layout-names, cls-names, fields-names, ctors-name
 use Rattle.model_laws.specs.Cty.{uninline-names}
 use Rattle.model_laws.specs.Names.{among-append, kept-names, ctors-own}
 
-ctors-own-layouts : (er : ℕ → Bool) (cs : List Ctor) → Among (cls-names (layouts-of-ctors er cs)) (ctors-names cs)
+ctors-own-layouts : (er : ℕ → Bool) (tag : ℕ → Option ℕ) (cs : List Ctor) → Among (cls-names (layouts-of-ctors er tag cs)) (ctors-names cs)
 unfolding table cls-names ctors-names ctor-layout
-ctors-own-layouts er [] n m = m
-ctors-own-layouts er (c ∷ cs) n m = among-append _ _ _ _ (kept-names (slots er (c .ct-fields)) (c .ct-fields)) (ctors-own-layouts er cs) n m
+ctors-own-layouts er tag [] n m = m
+ctors-own-layouts er tag (c ∷ cs) n m = among-append _ _ _ _ (kept-names (slots er (c .ct-fields)) (c .ct-fields)) (ctors-own-layouts er (λ i. tag (suc i)) cs) n m
 
 -- the constructors' layouts of a declaration, however the slots were found
 abbrev pub Own : Dtype → List CtorLayout → Type 0
@@ -24,7 +24,7 @@ Own d cls = Among (cls-names cls) (dtype-names d)
 
 pub ctor-layouts-own : (er : ℕ → Bool) (d : Dtype) → Own d (ctor-layouts er d)
 unfolding ctor-layouts dtype-names
-ctor-layouts-own er d n m = ctors-own (d .dt-name) (d .dt-body) n (ctors-own-layouts er (ctors-of-tydef d) n m)
+ctor-layouts-own er d n m = ctors-own (d .dt-name) (d .dt-body) n (ctors-own-layouts er _ (ctors-of-tydef d) n m)
 
 -- ---- newtypes
 abbrev pub OptionNames : List ℕ → Option NewtypeLayout → Type 0

@@ -96,7 +96,7 @@ use Rattle.model.specs.Resolve.{
   checkeds,
   resolve-checked,
 }
-use Rattle.model.specs.Layout.{layouts-of-ctors, slots, kept, ctor-layout, ctor-layouts, first-kept, newtype-of-ctor, newtype-of, candidate, candidates, positions, names-in, type-names, steps, passed, passes, guard-next, dropped, collapse, layout-of-body, layout-of, compute-layouts, candidates-of, passes-of}
+use Rattle.model.specs.Layout.{ctor-tag, layouts-of-ctors, slots, kept, ctor-layout, ctor-layouts, first-kept, newtype-of-ctor, newtype-of, candidate, candidates, positions, names-in, type-names, steps, passed, passes, guard-next, dropped, collapse, layout-of-body, layout-of, compute-layouts, candidates-of, passes-of}
 use Rattle.model.specs.Reach.{cyclic}
 use Rattle.model.specs.Run.{with-body, all-in, collapsed-abbrev, resolved-field, resolved-ctor, struct-body, rw-decl, record-body, record-verdict, record-of, info, layouts-of, Ran, run, unfold-next, returns, field-types, resolves, fault-code, decl-fault, lay, layout-of-decl, left-at, info-at}
 use Rattle.model.specs.Names.{fields-names, ctors-names, body-names, dtype-names, Declared, Agree, Among, cls-names, layout-names, OwnImports}
@@ -161,7 +161,7 @@ module _ (ρ : ℕ → ℕ) where
       record { dt-name = ρ (d .dt-name); dt-flags = d .dt-flags; dt-params = map ρ (d .dt-params); dt-body = rename-body (d .dt-body) }
 
   abbrev pub rename-ctor-layout : CtorLayout → CtorLayout
-  rename-ctor-layout cl = record { cl-name = ρ (cl .cl-name); cl-slots = cl .cl-slots; cl-fields = map rename-field (cl .cl-fields) }
+  rename-ctor-layout cl = record { cl-name = ρ (cl .cl-name); cl-tag = cl .cl-tag; cl-slots = cl .cl-slots; cl-fields = map rename-field (cl .cl-fields) }
 
   abbrev pub rename-newtype : NewtypeLayout → NewtypeLayout
   rename-newtype nt =
@@ -550,20 +550,23 @@ module _ (ρ : ℕ → ℕ) where
     slots-rename [] = refl
     slots-rename (f ∷ fs) = ap₂ _∷_ (ap not (cty-erased-rename ρ er er' e (f .fd-type))) (slots-rename fs)
 
-    ctor-layout-rename : (c : Ctor) → ctor-layout (rename-ctor ρ c) (slots er' (map (rename-field ρ) (c .ct-fields))) ≡ rename-ctor-layout ρ (ctor-layout c (slots er (c .ct-fields)))
+    ctor-layout-rename : (tag : Option ℕ) (c : Ctor) → ctor-layout tag (rename-ctor ρ c) (slots er' (map (rename-field ρ) (c .ct-fields))) ≡ rename-ctor-layout ρ (ctor-layout tag c (slots er (c .ct-fields)))
     unfolding ctor-layout
-    ctor-layout-rename c =
-        ap (ctor-layout (rename-ctor ρ c)) (slots-rename (c .ct-fields))
-        ∙ ap (λ (fs : List Field). record { cl-name = ρ (c .ct-name); cl-slots = slots er (c .ct-fields); cl-fields = fs }) (kept-rename (slots er (c .ct-fields)) (c .ct-fields))
+    ctor-layout-rename tag c =
+        ap (ctor-layout tag (rename-ctor ρ c)) (slots-rename (c .ct-fields))
+        ∙ ap (λ (fs : List Field). record { cl-name = ρ (c .ct-name); cl-tag = tag; cl-slots = slots er (c .ct-fields); cl-fields = fs }) (kept-rename (slots er (c .ct-fields)) (c .ct-fields))
 
-    layouts-of-ctors-rename : (cs : List Ctor) → layouts-of-ctors er' (map (rename-ctor ρ) cs) ≡ map (rename-ctor-layout ρ) (layouts-of-ctors er cs)
+    layouts-of-ctors-rename : (tag : ℕ → Option ℕ) (cs : List Ctor) → layouts-of-ctors er' tag (map (rename-ctor ρ) cs) ≡ map (rename-ctor-layout ρ) (layouts-of-ctors er tag cs)
     unfolding table
-    layouts-of-ctors-rename [] = refl
-    layouts-of-ctors-rename (c ∷ cs) = ap₂ _∷_ (ctor-layout-rename c) (layouts-of-ctors-rename cs)
+    layouts-of-ctors-rename tag [] = refl
+    layouts-of-ctors-rename tag (c ∷ cs) = ap₂ _∷_ (ctor-layout-rename (tag 0) c) (layouts-of-ctors-rename (λ i. tag (suc i)) cs)
 
     pub ctor-layouts-rename : (d : Dtype) → ctor-layouts er' (rename-dtype ρ d) ≡ map (rename-ctor-layout ρ) (ctor-layouts er d)
     unfolding ctor-layouts
-    ctor-layouts-rename d = ap (layouts-of-ctors er') (ctors-rename (d .dt-name) (d .dt-body)) ∙ layouts-of-ctors-rename (ctors-of-tydef d)
+    ctor-layouts-rename d =
+        ap (λ (cs : List Ctor). layouts-of-ctors er' (ctor-tag (length cs)) cs) (ctors-rename (d .dt-name) (d .dt-body))
+        ∙ (ap (λ (n : ℕ). layouts-of-ctors er' (ctor-tag n) (map (rename-ctor ρ) (ctors-of-tydef d))) (length-map (ctors-of-tydef d) (rename-ctor ρ))
+        ∙ layouts-of-ctors-rename (ctor-tag (length (ctors-of-tydef d))) (ctors-of-tydef d))
 
   -- ---- newtypes
   newtype-of-ctor-rename : (n : ℕ) (bs : List Bool) (fs : List Field) → newtype-of-ctor (ρ n) bs (map (rename-field ρ) fs) ≡ rename-candidate ρ (newtype-of-ctor n bs fs)
@@ -990,8 +993,8 @@ module _ (ρ : ℕ → ℕ) where
     where
       go : field-types (map (rename-ctor-layout ρ) cls) ≡ map (rename-cty ρ) (field-types cls)
           → (fs : List Field)
-          → field-types (record { cl-name = ρ (cl .cl-name); cl-slots = cl .cl-slots; cl-fields = map (rename-field ρ) fs } ∷ map (rename-ctor-layout ρ) cls)
-          ≡ map (rename-cty ρ) (field-types (record { cl-name = cl .cl-name; cl-slots = cl .cl-slots; cl-fields = fs } ∷ cls))
+          → field-types (record { cl-name = ρ (cl .cl-name); cl-tag = cl .cl-tag; cl-slots = cl .cl-slots; cl-fields = map (rename-field ρ) fs } ∷ map (rename-ctor-layout ρ) cls)
+          ≡ map (rename-cty ρ) (field-types (record { cl-name = cl .cl-name; cl-tag = cl .cl-tag; cl-slots = cl .cl-slots; cl-fields = fs } ∷ cls))
       go ih [] = ih
       go ih (f ∷ fs) = ap (λ (cs : List Cty). rename-cty ρ (f .fd-type) ∷ cs) (go ih fs)
 

@@ -83,7 +83,7 @@ use Rattle.model.specs.Resolve.{
   resolve-checked,
 }
 use Rattle.model.specs.Decl.{table, Field, Ctor, Body, TAbstract, TAbbrev, TRecord, TVariant, Dtype, ctors-of, CtorLayout, NewtypeLayout, Layout, L-erased, L-newtype, L-struct, L-abbrev, L-opaque, here, Decl, member}
-use Rattle.model.specs.Layout.{layouts-of-ctors, ctor-layouts, collapse, layout-of-body, layout-of}
+use Rattle.model.specs.Layout.{ctor-tag, layouts-of-ctors, ctor-layouts, collapse, layout-of-body, layout-of}
 use Rattle.model.specs.Run.{
   spent-code,
   with-body,
@@ -665,7 +665,7 @@ module _ (Q : Cty → Type 0) where
   field-types-kept (cl ∷ cls) h = go (λ k. field-types-kept cls k) (cl .cl-fields) h
     where
       go : (Every Q (field-types cls) → Kept Q cls) → (fs : List Field)
-          → Every Q (field-types (record { cl-name = cl .cl-name; cl-slots = cl .cl-slots; cl-fields = fs } ∷ cls)) → Fields Q fs × Kept Q cls
+          → Every Q (field-types (record { cl-name = cl .cl-name; cl-tag = cl .cl-tag; cl-slots = cl .cl-slots; cl-fields = fs } ∷ cls)) → Fields Q fs × Kept Q cls
       go ih [] k = (tt, ih k)
       go ih (f ∷ fs) k = ((k .0, go ih fs (k .1) .0), go ih fs (k .1) .1)
 
@@ -675,7 +675,7 @@ module _ (Q : Cty → Type 0) where
   kept-field-types (cl ∷ cls) h = go (kept-field-types cls (h .1)) (cl .cl-fields) (h .0)
     where
       go : Every Q (field-types cls) → (fs : List Field) → Fields Q fs
-          → Every Q (field-types (record { cl-name = cl .cl-name; cl-slots = cl .cl-slots; cl-fields = fs } ∷ cls))
+          → Every Q (field-types (record { cl-name = cl .cl-name; cl-tag = cl .cl-tag; cl-slots = cl .cl-slots; cl-fields = fs } ∷ cls))
       go ih [] k = ih
       go ih (f ∷ fs) k = (k .0, go ih fs (k .1))
 
@@ -924,8 +924,11 @@ unfolding table layout-of layout-of-body ctor-layouts ctors-of
 layout-matches er d true drop cand = tt
 layout-matches er d false drop cand = go (d .dt-body)
   where
-    go : (b : Body) → Matches b (layout-of-body b drop cand (layouts-of-ctors er (ctors-of (d .dt-name) b)))
+    laid : Body → List CtorLayout
+    laid b = layouts-of-ctors er (ctor-tag (length (ctors-of (d .dt-name) b))) (ctors-of (d .dt-name) b)
+
+    go : (b : Body) → Matches b (layout-of-body b drop cand (laid b))
     go TAbstract = tt
     go (TAbbrev c) = tt
-    go (TRecord fs) = collapse-matches (TRecord fs) (layouts-of-ctors er (ctors-of (d .dt-name) (TRecord fs))) tt drop cand
-    go (TVariant cs) = collapse-matches (TVariant cs) (layouts-of-ctors er (ctors-of (d .dt-name) (TVariant cs))) tt drop cand
+    go (TRecord fs) = collapse-matches (TRecord fs) (laid (TRecord fs)) tt drop cand
+    go (TVariant cs) = collapse-matches (TVariant cs) (laid (TVariant cs)) tt drop cand

@@ -22,9 +22,17 @@ unfoldable pub slots-by : List ℕ → ℕ → ℕ → List Bool
 slots-by keep f zero = []
 slots-by keep f (suc n) = eqb (getD keep f 0) 1 ∷ slots-by keep (suc f) n
 
--- the layout of a constructor named n with the k F lines from line f on
+-- a constructor's layout, and an owner, without the tag, which patterns do not look at
+abbrev pub untagged : CtorLayout → CtorLayout
+untagged cl = record { cl-name = cl .cl-name; cl-tag = none; cl-slots = cl .cl-slots; cl-fields = cl .cl-fields }
+
+abbrev pub untagged-owner : Option Owner → Option Owner
+untagged-owner none = none
+untagged-owner (some o) = some (record { layout = o .layout; ctor-layout = untagged (o .ctor-layout) })
+
+-- the layout of a constructor named n with the k F lines from line f on, untagged
 abbrev pub laid : List Line → List ℕ → List ℕ → ℕ → ℕ → ℕ → CtorLayout
-laid ls keep ps n f k = record { cl-name = n; cl-slots = slots-by keep f k; cl-fields = fields-by ls keep ps f k }
+laid ls keep ps n f k = record { cl-name = n; cl-tag = none; cl-slots = slots-by keep f k; cl-fields = fields-by ls keep ps f k }
 
 -- by the first cell
 unfoldable pub fields-told : ℕ → ℕ → Option ℕ

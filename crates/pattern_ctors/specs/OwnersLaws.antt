@@ -2,7 +2,7 @@
 use mathlib.Core.Path.{_≡_, refl, ap, ap₂, sym, _∙_}
 use mathlib.Core.List.{List, [], _∷_, _++_, map}
 use mathlib.Core.Bool.{Bool, true, false}
-use mathlib.Core.Option.{Option, some}
+use mathlib.Core.Option.{Option, none, some}
 use Prim.Native.Nat.{ℕ, zero, suc, _+_, _-_, _*_, _≤_, _<_}
 use native.Mathlib.Omega.{arith}
 use lib.Dec.{eqb}
@@ -15,19 +15,18 @@ use Rattle.sheet.specs.ListLaws.{length-nil}
 use Rattle.model.specs.Cty.{Cty}
 use Rattle.model.specs.Decl.{table, Field, Ctor, TAbstract, TAbbrev, TRecord, TVariant, CtorLayout, L-opaque, TypeInfo, Origin, here, imported, no-decl, dtype-at, origin-at, ctors-of, ctors-of-tydef, close-field, close-body, close-fields, bit}
 use Rattle.model.specs.Erasure.{marked, erasure-fixpoint}
-use Rattle.model.specs.Layout.{slots, ctor-layout, layouts-of-ctors, ctor-layouts}
+use Rattle.model.specs.Layout.{ctor-tag, slots, ctor-layout, layouts-of-ctors, ctor-layouts}
 use Rattle.model.specs.Run.{run, layout-of-decl, info-at}
 use Rattle.model_laws.specs.Rounds.{cases-eq}
 use Rattle.model_laws.specs.Run.{getD-infos, length-infos, local-info, import-info, import-layout}
 use Rattle.model_patterns.specs.Pat.{Owner, find-ctor, owned, ctor-owner}
 use Rattle.meaning.specs.Output.{all-slots}
-use Rattle.meaning.specs.Program.{name-line, ctor-line, field-line, import-line, is, select, before, Group, groups, trees, type-at, field-of, ctor-of, body-of, dtype-of, keeps, keeps-of, ctor-layouts-by, info-of, program}
+use Rattle.meaning.specs.Program.{name-line, ctor-line, field-line, import-line, is, select, before, Group, groups, trees, type-at, field-of, ctor-of, body-of, dtype-of, keeps, keeps-of, tags, ctor-layouts-by, info-of, program}
 use Rattle.meaning.specs.Rows.{count-of}
-use Rattle.meaning_laws.specs.Program.{Whole, AllCounted, length-program}
+use Rattle.meaning_laws.specs.Program.{Whole, AllCounted, length-groups-of, length-program}
 use Rattle.meaning_patterns.specs.Patterns.{fields-among, declared-fields}
 use Rattle.table_declared.specs.Passed.{Passed}
 use Rattle.table_declared.specs.DeclLaws.{nth-in, dtype-is, origin-local, origin-import, whole-at}
-use Rattle.table_declared.specs.BodyLaws.{length-groups-of}
 use Rattle.table_access.specs.Tables.{nth, group, head-line, decls-of, first-of}
 use Rattle.resolve_kids.specs.Params.{params-of}
 use Rattle.keep_fields.specs.Keeps.{slots-at, Slotted}
@@ -35,7 +34,7 @@ use Rattle.keep_layouts.specs.Kept.{ctors-of-decl, ctors-at, kept-ctor, body-ki
 use Rattle.keep_laws.specs.KeptLaws.{slots-are, kept-record, kept-variant, ctors-are}
 use Rattle.pattern_ctors.specs.Sites.{Site, site-at, site-among, site-in, site-after, site-of, Sited}
 use Rattle.pattern_counts.specs.Counts.{field-mark}
-use Rattle.pattern_ctors.specs.Owners.{count-told, CountsTo, slots-by, laid, fields-told, owner-told, site-fields, site-owner}
+use Rattle.pattern_ctors.specs.Owners.{count-told, CountsTo, untagged, untagged-owner, slots-by, laid, fields-told, owner-told, site-fields, site-owner}
 
 drop-none : {A : Type 0} (xs : List A) (n : ℕ) → length xs ≤ n → drop n xs ≡ []
 drop-none xs n h = length-nil (drop n xs) (length-drop n xs ∙ omega arith)
@@ -131,27 +130,27 @@ module _ (ls : List Line) (p : Passed ls) (d : ℕ) (h : d < decls-of ls) where
 
   -- ---- slots
   -- a layout has a slot for each field of its constructor
-  local-shapes : (er : ℕ → Bool) (cs : List Ctor) → map slot-shape (layouts-of-ctors er cs) ≡ map shape-of cs
+  local-shapes : (er : ℕ → Bool) (tag : ℕ → Option ℕ) (cs : List Ctor) → map slot-shape (layouts-of-ctors er tag cs) ≡ map shape-of cs
   unfolding table slots ctor-layout
-  local-shapes er [] = refl
-  local-shapes er (c ∷ cs) =
-      ap₂ (λ (n : ℕ) (r : List Shape). record { name = c .ct-name; width = n } ∷ r) (length-map (c .ct-fields) _) (local-shapes er cs)
+  local-shapes er tag [] = refl
+  local-shapes er tag (c ∷ cs) =
+      ap₂ (λ (n : ℕ) (r : List Shape). record { name = c .ct-name; width = n } ∷ r) (length-map (c .ct-fields) _) (local-shapes er (λ i. tag (suc i)) cs)
 
-  import-shapes : (gs : List Group) → map slot-shape (ctor-layouts-by (map (closed-ctor ps) (map (ctor-of (trees ls)) gs)) (map (λ (g : Group). keeps (g .rest)) gs)) ≡ map shape-of (map (closed-ctor ps) (map (ctor-of (trees ls)) gs))
+  import-shapes : (tag : ℕ → Option ℕ) (gs : List Group) → map slot-shape (ctor-layouts-by tag (map (closed-ctor ps) (map (ctor-of (trees ls)) gs)) (map (λ (g : Group). keeps (g .rest)) gs)) ≡ map shape-of (map (closed-ctor ps) (map (ctor-of (trees ls)) gs))
   unfolding ctor-layouts-by keeps ctor-of ctor-layout
-  import-shapes [] = refl
-  import-shapes (g ∷ gs) =
+  import-shapes tag [] = refl
+  import-shapes tag (g ∷ gs) =
       ap₂ (λ (n : ℕ) (r : List Shape). record { name = number (g .head) 0; width = n } ∷ r)
       (length-map (select field-line (g .rest)) _ ∙ sym (fields-counted (trees ls) ps (g .rest)))
-      (import-shapes gs)
+      (import-shapes (λ i. tag (suc i)) gs)
 
-  import-body : map slot-shape (ctor-layouts-by (ctors-of-tydef (close-fields (dtype-of (trees ls) (group ls d)))) (keeps-of (close-fields (dtype-of (trees ls) (group ls d)) .dt-body) (group ls d .rest)))
+  import-body : map slot-shape (ctor-layouts-by (tags (group ls d .rest)) (ctors-of-tydef (close-fields (dtype-of (trees ls) (group ls d)))) (keeps-of (close-fields (dtype-of (trees ls) (group ls d)) .dt-body) (group ls d .rest)))
       ≡ map shape-of (ctors-of-tydef (close-fields (dtype-of (trees ls) (group ls d))))
   unfolding close-fields dtype-of body-of close-body ctors-of keeps-of ctor-layouts-by ctor-layout keeps ps
   import-body = by (eqb (body-kind ls d) 1) (eqb (body-kind ls d) 2) (eqb (body-kind ls d) 3)
     where
       by : (x y z : Bool)
-          → map slot-shape (ctor-layouts-by (ctors-of (number (head-line ls d) 0) (close-body ps (
+          → map slot-shape (ctor-layouts-by (tags (group ls d .rest)) (ctors-of (number (head-line ls d) 0) (close-body ps (
           x ⇒ TAbbrev (type-at (trees ls) (body-last ls d)) ∥
           y ⇒ TRecord (map (field-of (trees ls)) (select field-line (group ls d .rest))) ∥
           z ⇒ TVariant (map (ctor-of (trees ls)) (groups (is ctor-line) (group ls d .rest))) ∥
@@ -168,7 +167,7 @@ module _ (ls : List Line) (p : Passed ls) (d : ℕ) (h : d < decls-of ls) where
       by true y z = refl
       by false true z =
           ap (λ (n : ℕ). record { name = number (head-line ls d) 0; width = n } ∷ []) (length-map (select field-line (group ls d .rest)) _ ∙ sym (fields-counted (trees ls) ps (group ls d .rest)))
-      by false false true = import-shapes (groups (is ctor-line) (group ls d .rest))
+      by false false true = import-shapes (tags (group ls d .rest)) (groups (is ctor-line) (group ls d .rest))
       by false false false = refl
 
   slots-wide : map slot-shape (ctors-at (program ls) d) ≡ map shape-of (ctors-of-tydef (dtype-at (program ls) d))
@@ -180,7 +179,7 @@ module _ (ls : List Line) (p : Passed ls) (d : ℕ) (h : d < decls-of ls) where
 
       go : (c : Bool) → is import-line (head-line ls d) ≡ c → map slot-shape (ctors-at (program ls) d) ≡ map shape-of (ctors-of-tydef (dtype-at (program ls) d))
       go true e = rw (origin-import ls d h e, dtype-is ls d h) import-body
-      go false e = rw (origin-local ls d h e) (local-shapes er (ctors-of-tydef (dtype-at (program ls) d)))
+      go false e = rw (origin-local ls d h e) (local-shapes er (ctor-tag (length (ctors-of-tydef (dtype-at (program ls) d)))) (ctors-of-tydef (dtype-at (program ls) d)))
 
 -- ---- fields
 -- `fields-among` goes by names and widths
@@ -263,35 +262,35 @@ kept-right keep f a c s = λ j l.
 module _ (ls : List Line) (keep : List ℕ) (d n : ℕ) where
   -- a layout by its name, its kept fields and its slots
   laid-is : (cl : CtorLayout) (f m : ℕ) → kept-ctor cl ≡ record { ct-name = n; ct-fields = fields-by ls keep (params-of ls d) f m } → length (cl .cl-slots) ≡ m → InKeep keep f (cl .cl-slots)
-      → cl ≡ laid ls keep (params-of ls d) n f m
+      → untagged cl ≡ laid ls keep (params-of ls d) n f m
   laid-is cl f m e w s =
       let a : cl .cl-name ≡ n = ap (λ (c : Ctor). c .ct-name) e in
       let g : cl .cl-fields ≡ fields-by ls keep (params-of ls d) f m = ap (λ (c : Ctor). c .ct-fields) e in
       let b : cl .cl-slots ≡ slots-by keep f m = slots-kept keep (cl .cl-slots) f s ∙ ap (slots-by keep f) w in
-      ap₂ (λ (x : ℕ) (y : List Bool). record { cl-name = x; cl-slots = y; cl-fields = cl .cl-fields }) a b ∙ ap (λ (z : List Field). record { cl-name = n; cl-slots = slots-by keep f m; cl-fields = z }) g
+      ap₂ (λ (x : ℕ) (y : List Bool). record { cl-name = x; cl-tag = none; cl-slots = y; cl-fields = cl .cl-fields }) a b ∙ ap (λ (z : List Field). record { cl-name = n; cl-tag = none; cl-slots = slots-by keep f m; cl-fields = z }) g
 
   -- one constructor before others
   owned-step : (cl : CtorLayout) (cls : List CtorLayout) (x f m : ℕ) (o : Option Owner) (s : Site)
       → kept-ctor cl ≡ record { ct-name = x; ct-fields = fields-by ls keep (params-of ls d) f m } → slot-shape cl ≡ record { name = x; width = m } → InKeep keep f (cl .cl-slots)
-      → owned (layout-of-decl (program ls) d) (find-ctor cls n) o ≡ site-owner ls keep n s
-      → owned (layout-of-decl (program ls) d) (find-ctor (cl ∷ cls) n) o ≡ site-owner ls keep n (pick (eqb x n) (site-at d f m) s)
+      → untagged-owner (owned (layout-of-decl (program ls) d) (find-ctor cls n) o) ≡ site-owner ls keep n s
+      → untagged-owner (owned (layout-of-decl (program ls) d) (find-ctor (cl ∷ cls) n) o) ≡ site-owner ls keep n (pick (eqb x n) (site-at d f m) s)
   unfolding owned find-ctor owner-told
   owned-step cl cls x f m o s e w t q = go (eqb x n) refl
     where
-      by-test : (y : Bool) → eqb x n ≡ y → owned (layout-of-decl (program ls) d) (pick (eqb (cl .cl-name) n) (some cl) (find-ctor cls n)) o ≡ owned (layout-of-decl (program ls) d) (pick y (some cl) (find-ctor cls n)) o
-      by-test y a = ap (λ (z : Bool). owned (layout-of-decl (program ls) d) (pick z (some cl) (find-ctor cls n)) o) (ap (λ (c : Ctor). eqb (c .ct-name) n) e ∙ a)
+      by-test : (y : Bool) → eqb x n ≡ y → untagged-owner (owned (layout-of-decl (program ls) d) (pick (eqb (cl .cl-name) n) (some cl) (find-ctor cls n)) o) ≡ untagged-owner (owned (layout-of-decl (program ls) d) (pick y (some cl) (find-ctor cls n)) o)
+      by-test y a = ap (λ (z : Bool). untagged-owner (owned (layout-of-decl (program ls) d) (pick z (some cl) (find-ctor cls n)) o)) (ap (λ (c : Ctor). eqb (c .ct-name) n) e ∙ a)
 
       go : (y : Bool) → eqb x n ≡ y
-          → owned (layout-of-decl (program ls) d) (pick (eqb (cl .cl-name) n) (some cl) (find-ctor cls n)) o ≡ site-owner ls keep n (pick y (site-at d f m) s)
+          → untagged-owner (owned (layout-of-decl (program ls) d) (pick (eqb (cl .cl-name) n) (some cl) (find-ctor cls n)) o) ≡ site-owner ls keep n (pick y (site-at d f m) s)
       go true y =
           let a : x ≡ n = eqb-true x n y in
           let b = laid-is cl f m (e ∙ ap (λ (z : ℕ). record { ct-name = z; ct-fields = fields-by ls keep (params-of ls d) f m }) a) (ap (λ (z : Shape). z .width) w) t in
           by-test true y ∙ ap (λ (z : CtorLayout). some (record { layout = layout-of-decl (program ls) d; ctor-layout = z })) b
       go false y = by-test false y ∙ q
 
-  owned-among : (cls : List CtorLayout) (c f k : ℕ) (o : Option Owner) (s : Site) → o ≡ site-owner ls keep n s
+  owned-among : (cls : List CtorLayout) (c f k : ℕ) (o : Option Owner) (s : Site) → untagged-owner o ≡ site-owner ls keep n s
       → map kept-ctor cls ≡ ctors-by ls keep (params-of ls d) c f k → map slot-shape cls ≡ shapes-by ls c k → InKeep keep f (all-slots cls)
-      → owned (layout-of-decl (program ls) d) (find-ctor cls n) o ≡ site-owner ls keep n (site-among ls d c f k n s)
+      → untagged-owner (owned (layout-of-decl (program ls) d) (find-ctor cls n) o) ≡ site-owner ls keep n (site-among ls d c f k n s)
   unfolding owned find-ctor site-among ctors-by shapes-by all-slots
   owned-among [] c f zero o s q e w t = q
   owned-among [] c f (suc k) o s q e w t = absurd (omega (arith, ap length e))
@@ -302,9 +301,9 @@ module _ (ls : List Line) (keep : List ℕ) (d n : ℕ) where
       let r = owned-among cls (suc c) (f + ctor-fields ls c) k o s q (cc) (cc) (rw m at (kept-right keep f (cl .cl-slots) (all-slots cls) t)) in
       owned-step cl cls (ctor-name ls c) f (ctor-fields ls c) o (site-among ls d (suc c) (f + ctor-fields ls c) k n s) (cc) a (kept-left keep f (cl .cl-slots) (all-slots cls) t) r
 
-  owned-one : (cls : List CtorLayout) (x f m : ℕ) (o : Option Owner) (s : Site) → o ≡ site-owner ls keep n s
+  owned-one : (cls : List CtorLayout) (x f m : ℕ) (o : Option Owner) (s : Site) → untagged-owner o ≡ site-owner ls keep n s
       → map kept-ctor cls ≡ record { ct-name = x; ct-fields = fields-by ls keep (params-of ls d) f m } ∷ [] → map slot-shape cls ≡ record { name = x; width = m } ∷ [] → InKeep keep f (all-slots cls)
-      → owned (layout-of-decl (program ls) d) (find-ctor cls n) o ≡ site-owner ls keep n (pick (eqb x n) (site-at d f m) s)
+      → untagged-owner (owned (layout-of-decl (program ls) d) (find-ctor cls n) o) ≡ site-owner ls keep n (pick (eqb x n) (site-at d f m) s)
   unfolding owned find-ctor all-slots
   owned-one [] x f m o s q e w t = absurd (omega (arith, ap length e))
   owned-one (cl ∷ []) x f m o s q e w t = owned-step cl [] x f m o s (cc) (cc) (kept-left keep f (cl .cl-slots) [] t) q
@@ -343,13 +342,13 @@ module _ (ls : List Line) (p : Passed ls) (keep : List ℕ) (sl : Slotted ls kee
     shapes : map slot-shape (ctors-at (program ls) d) ≡ shapes-at ls d
     shapes = slots-wide ls p d h ∙ shapes-are ls p d h
 
-    owned-site : (o : Option Owner) (s : Site) → o ≡ site-owner ls keep n s
-        → owned (layout-of-decl (program ls) d) (find-ctor (ctors-at (program ls) d) n) o ≡ site-owner ls keep n (site-in ls d n s)
+    owned-site : (o : Option Owner) (s : Site) → untagged-owner o ≡ site-owner ls keep n s
+        → untagged-owner (owned (layout-of-decl (program ls) d) (find-ctor (ctors-at (program ls) d) n) o) ≡ site-owner ls keep n (site-in ls d n s)
     unfolding shapes-at site-in
     owned-site o s q = go (eqb (body-kind ls d) 2) (eqb (body-kind ls d) 3) refl refl
       where
         go : (x y : Bool) → eqb (body-kind ls d) 2 ≡ x → eqb (body-kind ls d) 3 ≡ y
-            → owned (layout-of-decl (program ls) d) (find-ctor (ctors-at (program ls) d) n) o ≡ site-owner ls keep n (
+            → untagged-owner (owned (layout-of-decl (program ls) d) (find-ctor (ctors-at (program ls) d) n) o) ≡ site-owner ls keep n (
             x ⇒ pick (eqb (number (head-line ls d) 0) n) (site-at d (first-of field-line ls d) (body-last ls d)) s ∥
             y ⇒ site-among ls d (first-of ctor-line ls d) (first-of field-line ls d) (body-last ls d) n s ∥
             s)
@@ -363,13 +362,13 @@ module _ (ls : List Line) (p : Passed ls) (keep : List ℕ) (sl : Slotted ls kee
             (ctors-are ls p keep sl d h ∙ kept-variant ls keep d e) (shapes ∙ rw e) slots-in
         go false false a c =
             let e : map slot-shape (ctors-at (program ls) d) ≡ [] = shapes ∙ rw (a, c) in
-            owned-none ls keep d n (ctors-at (program ls) d) o (sym (length-map (ctors-at (program ls) d) slot-shape) ∙ ap length e) ∙ q
+            ap untagged-owner (owned-none ls keep d n (ctors-at (program ls) d) o (sym (length-map (ctors-at (program ls) d) slot-shape) ∙ ap length e)) ∙ q
 
   module _ (fuel : ℕ) where
     no-info : TypeInfo
     no-info = record { ti-erased = false; ti-layout = L-opaque; ti-ctors = []; ti-record = false }
 
-    owner-after : (k d : ℕ) → d + k ≡ decls-of ls → ctor-owner (drop d (run fuel (program ls) .infos)) n ≡ site-owner ls keep n (site-after ls d k n)
+    owner-after : (k d : ℕ) → d + k ≡ decls-of ls → untagged-owner (ctor-owner (drop d (run fuel (program ls) .infos)) n) ≡ site-owner ls keep n (site-after ls d k n)
     unfolding ctor-owner site-after owner-told
     owner-after zero d e = rw (drop-none (run fuel (program ls) .infos) d (omega (arith, length-infos fuel (program ls), length-program ls)))
     owner-after (suc k) d e =
@@ -380,7 +379,7 @@ module _ (ls : List Line) (p : Passed ls) (keep : List ℕ) (sl : Slotted ls kee
         (owned-site d h (ctor-owner (drop (suc d) (run fuel (program ls) .infos)) n) (site-after ls (suc d) k n) (owner-after k (suc d) (omega arith)))
 
     -- The owner of a constructor is what its site says.
-    pub owner-site : ctor-owner (run fuel (program ls) .infos) n ≡ site-owner ls keep n (site-of ls n)
+    pub owner-site : untagged-owner (ctor-owner (run fuel (program ls) .infos) n) ≡ site-owner ls keep n (site-of ls n)
     owner-site = owner-after (decls-of ls) 0 (omega arith)
 
 -- ---- by the cells
@@ -389,7 +388,7 @@ module _ (ls : List Line) (p : Passed ls) (m : List ℕ) (at : Sited ls m) (n : 
   fields-sited = fields-site ls p n ∙ rw (at .holds n h .owned, at .holds n h .counted)
 
   pub owner-sited : (keep : List ℕ) → Slotted ls keep → (fuel : ℕ)
-      → ctor-owner (run fuel (program ls) .infos) n ≡ owner-told ls keep n (getD m (3 * n) 0) (getD m (3 * n + 1) 0) (getD m (3 * n + 2) 0)
+      → untagged-owner (ctor-owner (run fuel (program ls) .infos) n) ≡ owner-told ls keep n (getD m (3 * n) 0) (getD m (3 * n + 1) 0) (getD m (3 * n + 2) 0)
   owner-sited keep sl fuel = owner-site ls p keep sl n fuel ∙ rw (at .holds n h .owned, at .holds n h .begun, at .holds n h .counted)
 
 -- ---- counts

@@ -1,5 +1,5 @@
 -- The constructors of newtypes and of types with one constructor, by the lines and the keep table. Assumes nothing.
-use mathlib.Core.Path.{_≡_, refl, ap, sym, _∙_}
+use mathlib.Core.Path.{_≡_, refl, ap, sym, _∙_, subst}
 use mathlib.Core.List.{List, [], _∷_, map}
 use mathlib.Core.Bool.{Bool, true, false, _&&_, _||_}
 use mathlib.Core.Option.{Option, none, some}
@@ -30,7 +30,7 @@ use Rattle.keep_fields.specs.Keeps.{Slotted}
 use Rattle.keep_layouts.specs.Kept.{ctors-of-decl, ctors-at, kept-ctor, body-kind, body-last, field-at, ctor-fields, fields-by, ctors-by}
 use Rattle.keep_laws.specs.KeptLaws.{fields-in, kept-record, kept-variant, ctors-are, count-bare, count-variant, total-record, total-variant}
 use Rattle.collapse_newtypes.specs.Newtypes.{one-ctor}
-use Rattle.pattern_ctors.specs.Owners.{slots-by}
+use Rattle.pattern_ctors.specs.Owners.{untagged, untagged-owner, slots-by}
 use Rattle.pattern_ctors.specs.OwnersLaws.{verdict-at}
 use Rattle.pattern_records.specs.Records.{keeps-name, names-kept}
 
@@ -120,7 +120,7 @@ one-kept n bs (f ∷ []) nt e =
     record { field = f; only = refl; index = ap (λ (x : NewtypeLayout). x .nt-index) q; name = ap (λ (x : NewtypeLayout). x .nt-field) q }
 one-kept n bs (f ∷ g ∷ fs) nt e = none-some e
 
-pub owner-only : (ls : List Line) (fuel n : ℕ) (o : Owner) → ctor-owner (run fuel (program ls) .infos) n ≡ some o → Only (o .layout) (o .ctor-layout)
+owner-only : (ls : List Line) (fuel n : ℕ) (o : Owner) → ctor-owner (run fuel (program ls) .infos) n ≡ some o → Only (o .layout) (o .ctor-layout)
 owner-only ls fuel n =
     owner-has n Only (run fuel (program ls) .infos)
     (at-every (λ ti. Every (Named n Only (ti .ti-layout)) (ti .ti-ctors)) no-info (run fuel (program ls) .infos) (λ i l. at i (rw (length-infos fuel (program ls), length-program ls) at l)))
@@ -132,6 +132,22 @@ owner-only ls fuel n =
     at i h =
         let v = verdict-at ls fuel i h in
         rw (getD-infos fuel (program ls) i no-info (rw (length-program ls) h), v .0, v .1) (every-only n (layout-of-decl (program ls) i) (ctors-at (program ls) i) (newtype-made ls i h))
+
+only-untagged : (l : Layout) (cl : CtorLayout) → Only l cl → Only l (untagged cl)
+only-untagged L-erased cl h = h
+only-untagged (L-newtype nt) cl h = h
+only-untagged (L-struct cls) cl h = h
+only-untagged (L-abbrev c) cl h = h
+only-untagged L-opaque cl h = h
+
+pub untagged-only : (ls : List Line) (fuel n : ℕ) (o : Owner) → untagged-owner (ctor-owner (run fuel (program ls) .infos) n) ≡ some o → Only (o .layout) (o .ctor-layout)
+untagged-only ls fuel n o e = go (ctor-owner (run fuel (program ls) .infos) n) refl e
+  where
+    go : (x : Option Owner) → ctor-owner (run fuel (program ls) .infos) n ≡ x → untagged-owner x ≡ some o → Only (o .layout) (o .ctor-layout)
+    go none q z = let y : _≡_ {A = ℕ} 0 1 = cc in absurd (omega arith)
+    go (some x) q z =
+        let y : record { layout = x .layout; ctor-layout = untagged (x .ctor-layout) } ≡ o = cc in
+        subst (λ (w : Owner). Only (w .layout) (w .ctor-layout)) y (only-untagged (x .layout) (x .ctor-layout) (owner-only ls fuel n x q))
 
 -- ---- the kept fields by the keep table
 eqb-suc : (a c : ℕ) → eqb (suc a) (suc c) ≡ eqb a c

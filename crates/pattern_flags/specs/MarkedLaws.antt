@@ -38,12 +38,12 @@ use Rattle.pattern_owners.specs.Places.{Placed}
 use Rattle.pattern_owners.specs.PlacesLaws.{owners-low, owners-long}
 use Rattle.pattern_ctors.specs.Sites.{Sited}
 use Rattle.pattern_ctors.specs.SitesLaws.{inside-sited}
-use Rattle.pattern_ctors.specs.Owners.{slots-by, laid, owner-told}
+use Rattle.pattern_ctors.specs.Owners.{untagged, untagged-owner, slots-by, laid, owner-told}
 use Rattle.pattern_ctors.specs.OwnersLaws.{verdict-at, owner-sited}
 use Rattle.pattern_flags.specs.Flags.{Owners, slot-flag, ctor-flag, part-flag, flag-at, FlagsTo}
 use Rattle.pattern_marks.specs.Tables.{state-mark, ctor-mark, mark-at, MarksTo}
 use Rattle.pattern_records.specs.Records.{decl-names, newtype-flag, struct-flag, record-flag}
-use Rattle.pattern_flags.specs.LayoutsLaws.{none-some, newtype-made, Only, one-kept, owner-only, names-by, slot-index, slot-at, One, one-is, one-not}
+use Rattle.pattern_flags.specs.LayoutsLaws.{none-some, newtype-made, Only, one-kept, untagged-only, names-by, slot-index, slot-at, One, one-is, one-not}
 use Rattle.pattern_laws.specs.Marks as marks
 
 module _ (ls : List Line) (p : Passed ls) (keep u m : List ℕ) (slotted : Slotted ls keep) (settled : Settled ls u) (sited : Sited ls m) (fuel : ℕ) where
@@ -69,9 +69,14 @@ module _ (ls : List Line) (p : Passed ls) (keep u m : List ℕ) (slotted : Slott
   ctor-marks : (n : ℕ) → n < count-of name-line ls → marks.ctor-mark (owner n) ≡ ctor-mark u m n
   unfolding marks.ctor-mark ctor-mark owner-told
   ctor-marks n h =
-      ap marks.ctor-mark (owner-sited ls p m sited n h keep slotted fuel)
+      untagged-mark (owner n)
+      ∙ ap marks.ctor-mark (owner-sited ls p m sited n h keep slotted fuel)
       ∙ go (getD m (3 * n) 0) (inside-sited ls p n m sited h .0)
     where
+      untagged-mark : (o : Option Owner) → marks.ctor-mark o ≡ marks.ctor-mark (untagged-owner o)
+      untagged-mark none = refl
+      untagged-mark (some o) = refl
+
       go : (a : ℕ) → a ≤ decls-of ls → marks.ctor-mark (owner-told ls keep n a (getD m (3 * n + 1) 0) (getD m (3 * n + 2) 0)) ≡ (eqb a 0 ⇒ 1 ∥ state-mark (state u (a - 1)))
       go zero l = refl
       go (suc d) l =
@@ -123,18 +128,29 @@ module _ (ls : List Line) (p : Passed ls) (keep u m : List ℕ) (slotted : Slott
   ctor-flags : (n : ℕ) → n < count-of name-line ls → (gs : List ℕ) → marks.ctor-flag (owner n) gs ≡ ctor-flag keep u m n (length gs)
   unfolding marks.ctor-flag ctor-flag owner-told
   ctor-flags n h gs =
-      ap (λ (o : Option Owner). marks.ctor-flag o gs) q ∙ go (getD m (3 * n) 0) (inside-sited ls p n m sited h .0) q
+      untagged-flag (owner n) ∙ ap (λ (o : Option Owner). marks.ctor-flag o gs) q ∙ go (getD m (3 * n) 0) (inside-sited ls p n m sited h .0) q
     where
-      q : owner n ≡ owner-told ls keep n (getD m (3 * n) 0) (getD m (3 * n + 1) 0) (getD m (3 * n + 2) 0)
+      untagged-layout : (l : Layout) (cl : CtorLayout) → layout-flag l cl gs ≡ layout-flag l (untagged cl) gs
+      untagged-layout L-erased cl = refl
+      untagged-layout (L-newtype nt) cl = refl
+      untagged-layout (L-struct cls) cl = refl
+      untagged-layout (L-abbrev c) cl = refl
+      untagged-layout L-opaque cl = refl
+
+      untagged-flag : (o : Option Owner) → marks.ctor-flag o gs ≡ marks.ctor-flag (untagged-owner o) gs
+      untagged-flag none = refl
+      untagged-flag (some o) = untagged-layout (o .layout) (o .ctor-layout)
+
+      q : untagged-owner (owner n) ≡ owner-told ls keep n (getD m (3 * n) 0) (getD m (3 * n + 1) 0) (getD m (3 * n + 2) 0)
       q = owner-sited ls p m sited n h keep slotted fuel
 
-      go : (a : ℕ) → a ≤ decls-of ls → owner n ≡ owner-told ls keep n a (getD m (3 * n + 1) 0) (getD m (3 * n + 2) 0)
+      go : (a : ℕ) → a ≤ decls-of ls → untagged-owner (owner n) ≡ owner-told ls keep n a (getD m (3 * n + 1) 0) (getD m (3 * n + 2) 0)
           → marks.ctor-flag (owner-told ls keep n a (getD m (3 * n + 1) 0) (getD m (3 * n + 2) 0)) gs
           ≡ (eqb a 0 ⇒ 1 ∥ slot-flag keep (state u (a - 1)) (getD m (3 * n + 1) 0) (getD m (3 * n + 2) 0) (length gs))
       go zero l e = refl
       go (suc d) l e =
           let z : suc d - 1 ≡ d = omega arith in
-          rw (ne-eqb (suc d) 0 (λ y. omega arith), z) (slot-flags d l n (getD m (3 * n + 1) 0) (getD m (3 * n + 2) 0) gs (owner-only ls fuel n _ e))
+          rw (ne-eqb (suc d) 0 (λ y. omega arith), z) (slot-flags d l n (getD m (3 * n + 1) 0) (getD m (3 * n + 2) 0) gs (untagged-only ls fuel n _ e))
 
   -- ---- flags of a record's parts
   module _ (d : ℕ) (h : d < decls-of ls) where

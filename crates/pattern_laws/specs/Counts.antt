@@ -159,10 +159,10 @@ aligned-fields (d ∷ ds) (ti ∷ tis) a n =
     by (some cl) = refl
 
 -- what a declaration's own layouts are
-layouts-matching : (er : ℕ → Bool) (cs : List Ctor) → Matching cs (layouts-of-ctors er cs)
+layouts-matching : (er : ℕ → Bool) (tag : ℕ → Option ℕ) (cs : List Ctor) → Matching cs (layouts-of-ctors er tag cs)
 unfolding table ctor-layout slots
-layouts-matching er [] = tt
-layouts-matching er (c ∷ cs) = (refl, (length-map (c .ct-fields) _, layouts-matching er cs))
+layouts-matching er tag [] = tt
+layouts-matching er tag (c ∷ cs) = (refl, (length-map (c .ct-fields) _, layouts-matching er (λ i. tag (suc i)) cs))
 
 abbrev no-info : TypeInfo
 no-info = record { ti-erased = false; ti-layout = L-opaque; ti-ctors = []; ti-record = false }
@@ -184,4 +184,4 @@ run-fielded fuel ds h =
   where
     by : (i : ℕ) → i < length ds → (o : Origin) → origin-at ds i ≡ o → Matching (ctors-of-tydef (dtype-at ds i)) (info-at fuel ds i .ti-ctors)
     by i l (imported ti) e = rw (import-info fuel ds i ti e) (h i ti l e)
-    by i l here e = rw (local-info fuel ds i e) (layouts-matching (marked ds (erasure-fixpoint ds .marks)) (ctors-of-tydef (dtype-at ds i)))
+    by i l here e = rw (local-info fuel ds i e) (layouts-matching (marked ds (erasure-fixpoint ds .marks)) _ (ctors-of-tydef (dtype-at ds i)))

@@ -13,7 +13,8 @@ use Rattle.sheet.specs.SheetLaws.{length-lines}
 use Rattle.meaning.specs.Program.{name-line, arg-line, type-line, local-line, import-line, param-line, ctor-line, field-line, is, is-head}
 use Rattle.meaning.specs.Rows.{some-below, line-at, is-ctor, same-decl, same-ctor}
 use Rattle.walk_cells.specs.Cells.{lines-of, bare}
-use Rattle.meaning_bares.specs.RowLaws.{at-bare, before-bare}
+use Rattle.meaning_bares.specs.ProgramLaws.{at-bare}
+use Rattle.meaning_bares.specs.RowLaws.{before-bare}
 use Rattle.meaning_bares.specs.RowLaws as rows
 use Rattle.meaning_bares.specs.PlaceLaws.{count-bare, place3, place4, place5}
 use Rattle.rows_header.specs.Header.{header}

@@ -12,7 +12,7 @@ use borrow.Author.Tests.{ltb-true, ltb-false}
 use Rattle.sheet.specs.Line.{Line, letter, number}
 use Rattle.walk_cells.specs.CellsLaws.{lines-cells, length-cells, letter-cell, number-cell, number-bare}
 use Rattle.walk_cells.specs.Cells.{cells}
-use Rattle.meaning_bares.specs.RowLaws.{at-bare}
+use Rattle.meaning_bares.specs.ProgramLaws.{at-bare}
 use Rattle.model.specs.Decl.{position}
 use Rattle.meaning.specs.Program.{name-line, arg-line, type-line, param-line, ctor-line, field-line, verdict-line, program}
 use Rattle.meaning.specs.Rows.{line-at, count-of}

@@ -17,7 +17,8 @@ use Rattle.meaning.specs.Program.{local-line, import-line, is, is-head, Group, 
 use Rattle.meaning.specs.Rows.{line-at, heads-before}
 use Rattle.answer.specs.Answer.{at-head, row8, fault-at, row9-10}
 use Rattle.meaning_bares.specs.ProgramLaws.{bare-group, groups-bare}
-use Rattle.meaning_bares.specs.RowLaws.{at-bare, count-bare, before-bare}
+use Rattle.meaning_bares.specs.ProgramLaws.{at-bare}
+use Rattle.meaning_bares.specs.RowLaws.{count-bare, before-bare}
 use Rattle.row4_limits.specs.Limits.{start}
 use Rattle.table_declared.specs.Lines.{no-group, head-line, decls-of, first-of}
 

@@ -77,15 +77,6 @@ module _ (er : ℕ → Bool) (ps : List ℕ) where
         go false = refl
 
 -- ---- constructors
-pub length-groups-of : (x : ℕ) (ls : List Line) → length (groups (is x) ls) ≡ count-of x ls
-unfolding groups select
-length-groups-of x [] = refl
-length-groups-of x (l ∷ ls) = go (is x l) (length-groups-of x ls)
-  where
-    go : (c : Bool) → length (groups (is x) ls) ≡ count-of x ls → length (pick c (record { head = l; rest = before (is x) ls } ∷ groups (is x) ls) (groups (is x) ls)) ≡ length (pick c (l ∷ select x ls) (select x ls))
-    go true e = ap suc e
-    go false e = e
-
 -- the F lines of each group, one after the other
 unfoldable pub fields-of : List Group → List Line
 fields-of [] = []

@@ -39,7 +39,7 @@ use Rattle.model.specs.Decl.{
   position,
 }
 use Rattle.model.specs.Erasure.{marked, erasure-fixpoint}
-use Rattle.model.specs.Layout.{slots, kept, ctor-layout, layouts-of-ctors, ctor-layouts, candidates-of, passes-of, dropped, collapse, layout-of-body, layout-of}
+use Rattle.model.specs.Layout.{slots, kept, ctor-layout, ctor-tag, layouts-of-ctors, ctor-layouts, candidates-of, passes-of, dropped, collapse, layout-of-body, layout-of}
 use Rattle.model.specs.Run.{run, layouts-of, layout-of-decl, info-at}
 use Rattle.model.specs.Names.{Declared}
 use Rattle.model_laws.specs.Lists.{trues}
@@ -186,9 +186,9 @@ kept-count (b ∷ bs) [] e = absurd (omega arith)
 kept-count (true ∷ bs) (f ∷ fs) e = omega (arith, kept-count bs fs (omega arith))
 kept-count (false ∷ bs) (f ∷ fs) e = omega (arith, kept-count bs fs (omega arith))
 
-pub ctor-layout-slotted : (c : Ctor) (bs : List Bool) → length bs ≡ length (c .ct-fields) → Slotted (ctor-layout c bs)
+pub ctor-layout-slotted : (tag : Option ℕ) (c : Ctor) (bs : List Bool) → length bs ≡ length (c .ct-fields) → Slotted (ctor-layout tag c bs)
 unfolding ctor-layout
-ctor-layout-slotted c bs e = kept-count bs (c .ct-fields) e
+ctor-layout-slotted tag c bs e = kept-count bs (c .ct-fields) e
 
 every-table : {A : Type 0} (P : A → Type 0) (f : ℕ → A) (n : ℕ) → ((i : ℕ) → P (f i)) → Every P (table f n)
 unfolding table
@@ -196,10 +196,10 @@ every-table P f zero h = tt
 every-table P f (suc n) h = (h 0, every-table P (λ i. f (suc i)) n (λ i. h (suc i)))
 
 -- by the types of the fields
-pub layouts-slotted : (er : ℕ → Bool) (cs : List Ctor) → Every Slotted (layouts-of-ctors er cs)
+pub layouts-slotted : (er : ℕ → Bool) (tag : ℕ → Option ℕ) (cs : List Ctor) → Every Slotted (layouts-of-ctors er tag cs)
 unfolding slots
-layouts-slotted er cs =
-    every-table Slotted _ (length cs) (λ i. ctor-layout-slotted (getD cs i no-ctor) (slots er (getD cs i no-ctor .ct-fields)) (length-map (getD cs i no-ctor .ct-fields) _))
+layouts-slotted er tag cs =
+    every-table Slotted _ (length cs) (λ i. ctor-layout-slotted (tag i) (getD cs i no-ctor) (slots er (getD cs i no-ctor .ct-fields)) (length-map (getD cs i no-ctor .ct-fields) _))
 
 -- ---- of a program
 collapse-constructed : (drop : Bool) (cand : Option NewtypeLayout) (cls : List CtorLayout) → Constructed (collapse drop cand cls)
@@ -208,24 +208,24 @@ collapse-constructed true cand cls = tt
 collapse-constructed false none cls = tt
 collapse-constructed false (some nt) cls = tt
 
-with-layout : (l : Layout) → Constructed l → (er : ℕ → Bool) (cs : List Ctor) → Every (λ cl. Constructed l × Slotted cl) (layouts-of-ctors er cs)
-with-layout l c er cs =
-    every-map Slotted (λ cl. Constructed l × Slotted cl) (λ cl x. (c, x)) (layouts-of-ctors er cs) (layouts-slotted er cs)
+with-layout : (l : Layout) → Constructed l → (er : ℕ → Bool) (tag : ℕ → Option ℕ) (cs : List Ctor) → Every (λ cl. Constructed l × Slotted cl) (layouts-of-ctors er tag cs)
+with-layout l c er tag cs =
+    every-map Slotted (λ cl. Constructed l × Slotted cl) (λ cl x. (c, x)) (layouts-of-ctors er tag cs) (layouts-slotted er tag cs)
 
 -- a type with constructors that is here is erased, a newtype or a struct
 body-sound : (er : ℕ → Bool) (n : ℕ) (b : Body) (drop : Bool) (cand : Option NewtypeLayout) (cls : List CtorLayout)
-    → Every (λ cl. Constructed (layout-of-body b drop cand cls) × Slotted cl) (layouts-of-ctors er (ctors-of n b))
+    → Every (λ cl. Constructed (layout-of-body b drop cand cls) × Slotted cl) (layouts-of-ctors er (ctor-tag (length (ctors-of n b))) (ctors-of n b))
 unfolding layout-of-body ctors-of table
 body-sound er n TAbstract drop cand cls = tt
 body-sound er n (TAbbrev c) drop cand cls = tt
 body-sound er n (TRecord fs) drop cand cls =
-    with-layout (collapse drop cand cls) (collapse-constructed drop cand cls) er (record { ct-name = n; ct-fields = fs } ∷ [])
-body-sound er n (TVariant cs) drop cand cls = with-layout (collapse drop cand cls) (collapse-constructed drop cand cls) er cs
+    with-layout (collapse drop cand cls) (collapse-constructed drop cand cls) er (ctor-tag 1) (record { ct-name = n; ct-fields = fs } ∷ [])
+body-sound er n (TVariant cs) drop cand cls = with-layout (collapse drop cand cls) (collapse-constructed drop cand cls) er (ctor-tag (length cs)) cs
 
 here-sound : (er : ℕ → Bool) (d : Dtype) (e drop : Bool) (cand : Option NewtypeLayout) (cls : List CtorLayout)
     → Every (λ cl. Constructed (layout-of d here e drop cand cls) × Slotted cl) (ctor-layouts er d)
 unfolding layout-of ctor-layouts
-here-sound er d true drop cand cls = with-layout L-erased tt er (ctors-of-tydef d)
+here-sound er d true drop cand cls = with-layout L-erased tt er (ctor-tag (length (ctors-of-tydef d))) (ctors-of-tydef d)
 here-sound er d false drop cand cls = body-sound er (d .dt-name) (d .dt-body) drop cand cls
 
 local-layout : (ds : List Decl) (i : ℕ) → i < length ds → origin-at ds i ≡ here
