@@ -9,7 +9,7 @@ use Rattle.sheet.specs.Line.{Line, number}
 abbrev pub good-last : ℕ → ℕ → ℕ → Bool
 good-last kind last types = eqb kind 0 ⇒ eqb last 0 ∥ eqb kind 1 ⇒ ltb last types ∥ true
 
--- an F line, or a C line: the number that is tested is its type, or its first unused number
+-- an F line, whose type is tested besides, or a C line
 abbrev pub good-member : Bool → ℕ → ℕ → Line → Bool
 good-member field names types l =
-    ltb (pick field (number l 1) (number l 2)) (pick field types 1) && (ltb (number l 0) names && (eqb (number l 3) 0 && eqb (number l 4) 0))
+    ltb (pick field (number l 1) 0) (pick field types 1) && (ltb (number l 0) names && (eqb (number l 3) 0 && eqb (number l 4) 0))

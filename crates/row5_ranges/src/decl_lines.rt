@@ -58,8 +58,7 @@ fn good_member(t: &[u32], i: usize, field: bool, names: usize, types: usize) -> 
 {
     let name = walk_cells::number(t, i, 0) as usize;
     let second = walk_cells::number(t, i, 1) as usize;
-    let third = walk_cells::number(t, i, 2) as usize;
-    let tested = picked(field, second, third);
+    let tested = picked(field, second, 0);
     let end = picked(field, types, 1);
     if tested >= end {
         return false;

@@ -9,18 +9,20 @@ ghost use Rattle.number_columns.specs.Column.{pick};
 ghost use Rattle.walk_cells.specs.Cells.{lines-of};
 ghost use Rattle.sheet.specs.Sheet as sheet;
 ghost use Rattle.meaning.specs.Rows as rows;
-ghost use Rattle.rows_header.specs.Header.{Headed};
+ghost use Rattle.rows_header.specs.Header.{Headed, Lettered};
 ghost use Rattle.row7_verdicts.specs.Verdicts as verdicts;
 
-// The declaration that a line is in: the line at which it begins, the largest keep number in it, and how many of its fields up to
-// that line are kept.
+// The declaration that a line is in: the line at which it begins, the largest keep number in it, how many of its fields up to that
+// line are kept, the tag number that its next C line is to have, and how much that grows with each C line.
 pub struct Decl {
     pub head: usize,
-    pub most: u32,
+    pub most: usize,
     pub kept: usize,
+    pub tag: usize,
+    pub step: usize,
 }
 
-fn picked(b: bool, x: u32, y: u32) -> u32
+fn picked(b: bool, x: usize, y: usize) -> usize
     ensures { λ r. ⌜ r ≡ pick b x y ⌝ }
 {
     if b { x } else { y }
@@ -41,10 +43,11 @@ fn declared_verdict(t: &[u32], head: usize, kept: usize, i: usize) -> bool
     }
 }
 
-// Line i, where the line before it is in d.
+// Line i, where the line before it is in d. What a C or F line is to have is picked, and not jumped to: which of the two comes next
+// cannot be foreseen. The largest keep number is 0 or 1, so its bit is all that a keep number may have.
 fn good_line(t: &[u32], d: Decl, i: usize) -> bool
-    requires { ⌜ i < length (now t) / 6 ⌝ }
-    ensures { λ r. ⌜ r ≡ verdicts.good-with (d .most) (rows.line-at (lines-of (now (t .entry))) (d .head)) (d .kept) (rows.line-at (lines-of (now (t .entry))) i) ⌝ }
+    requires { ⌜ (i < length (now t) / 6) × (d .most ≤ 1) × Lettered (rows.line-at (lines-of (now t)) i) ⌝ }
+    ensures { λ r. ⌜ r ≡ verdicts.good-with (d .tag) (d .most) (rows.line-at (lines-of (now (t .entry))) (d .head)) (d .kept) (rows.line-at (lines-of (now (t .entry))) i) ⌝ }
 {
     let letter = walk_cells::letter(t, i);
     if letter > 70 {
@@ -56,25 +59,27 @@ fn good_line(t: &[u32], d: Decl, i: usize) -> bool
     if letter == 68 {
         return true;
     }
-    if walk_cells::number(t, i, 2) > d.most {
-        return letter != 70;
-    }
-    true
+    let third = walk_cells::number(t, i, 2) as usize;
+    third == picked(letter == 70, third & d.most, d.tag)
 }
 
 // The declaration that line i is in, where the line before it is in d, and line i is as it should be. The keep number of an F line
-// is then its count of kept fields.
+// is then its count of kept fields, and the tag number of a C line the one that it was to have.
 fn decl_at(t: &[u32], d: Decl, i: usize) -> Decl
-    requires { ⌜ (i < length (now t) / 6) × (d .kept ≤ i) × verdicts.Bit (rows.line-at (lines-of (now t)) i) ⌝ }
+    requires { ⌜ (i < length (now t) / 6) × (d .kept ≤ i) × (d .step ≤ 1) ⌝ }
+    requires { ⌜ Lettered (rows.line-at (lines-of (now t)) i) × verdicts.Third (d .tag) (rows.line-at (lines-of (now t)) i) ⌝ }
     ensures { λ r. ⌜ r ≡ verdicts.decl-at d i (rows.line-at (lines-of (now (t .entry))) i) ⌝ }
 {
     let letter = walk_cells::letter(t, i);
     if letter > 70 {
         if letter == 73 {
+            let step = picked(walk_cells::number(t, i, 4) == 1, 0, 1);
             return Decl {
                 head: i,
                 most: 1,
                 kept: 0,
+                tag: step,
+                step,
             };
         }
         return d;
@@ -84,13 +89,19 @@ fn decl_at(t: &[u32], d: Decl, i: usize) -> Decl
             head: i,
             most: 0,
             kept: 0,
+            tag: 0,
+            step: 0,
         };
     }
-    let more = picked(letter == 70, walk_cells::number(t, i, 2), 0);
+    let third = walk_cells::number(t, i, 2) as usize;
+    let keep = picked(letter == 70, third, 0);
+    let tag = picked(letter == 70, d.tag, third + d.step);
     Decl {
         head: d.head,
         most: d.most,
-        kept: d.kept + more as usize,
+        kept: d.kept + keep,
+        tag,
+        step: d.step,
     }
 }
 
@@ -104,6 +115,8 @@ pub fn row7(t: &[u32], from: usize) -> usize
         head: n,
         most: 0,
         kept: 0,
+        tag: 0,
+        step: 0,
     };
     let mut i = from;
     while i < n {

@@ -21,7 +21,7 @@ use Rattle.model.specs.Layout.{collapse, newtype-of, dropped, candidates-of, pa
 use Rattle.model.specs.Run.{layouts-of, layout-of-decl}
 use Rattle.model_laws.specs.Layout.{getD-layouts}
 use Rattle.meaning.specs.Program.{import-line, verdict-line, is, is-head, select, before, Group, groups, trees, dtype-of, abbreviated, layout-by, info-of, verdict-of, program}
-use Rattle.meaning.specs.Rows.{line-at, heads-before, last-head, kept-after, one-ctor, good-verdict, row7}
+use Rattle.meaning.specs.Rows.{line-at, heads-before, last-head, kept-after, ctors-after, one-ctor, good-verdict, row7}
 use Rattle.meaning_laws.specs.Program.{none-before, select-append, select-none, select-yes, flat, before-flat, length-program, body-number, Whole}
 use Rattle.meaning_laws.specs.Rows.{last-head-append, last-head-none}
 use Rattle.row4_limits.specs.Limits.{start}
@@ -157,16 +157,16 @@ module _ (ls : List Line) (p : Passed ls) (d : ℕ) (h : d < decls-of ls) where
   judged e =
       let n : ℕ = kept-after 0 (take place ls) in
       let s : head-line ls d ≡ line-at ls (start ls d) = ap (λ (g : Group). g .head) (group-is ls d h) in
-      let r : good-line (line-at ls (start ls d)) n (line-at ls place) ≡ true = not-false _ (sym (row7-line ls place inside (start ls d) n head-of-last refl) ∙ none-first (row7 ls) (length ls) (p .in-verdict) place (omega (arith, inside))) in
+      let r : good-line (line-at ls (start ls d)) n (ctors-after 0 (take place ls)) (line-at ls place) ≡ true = not-false _ (sym (row7-line ls place inside (start ls d) n head-of-last refl) ∙ none-first (row7 ls) (length ls) (p .in-verdict) place (omega (arith, inside))) in
       record {
         kept = n;
         good =
             ap₂ (λ (x y : Line). good-verdict x n y) s (verdict-last ∙ sym last-is)
-            ∙ chosen (line-at ls (start ls d)) n (line-at ls place) (eqb-true (letter (line-at ls place)) verdict-line (ap (is verdict-line) last-is ∙ w .is-last)) (ap (is import-line) (sym s) ∙ e) r;
+            ∙ chosen (line-at ls (start ls d)) n (ctors-after 0 (take place ls)) (line-at ls place) (eqb-true (letter (line-at ls place)) verdict-line (ap (is verdict-line) last-is ∙ w .is-last)) (ap (is import-line) (sym s) ∙ e) r;
       }
     where
-      chosen : (x : Line) (n : ℕ) (y : Line) → letter y ≡ 86 → is import-line x ≡ true → good-line x n y ≡ true → good-verdict x n y ≡ true
-      chosen x n y u m g = rw (u, m) at g
+      chosen : (x : Line) (n k : ℕ) (y : Line) → letter y ≡ 86 → is import-line x ≡ true → good-line x n k y ≡ true → good-verdict x n y ≡ true
+      chosen x n k y u m g = rw (u, m) at g
 
   -- ---- every declaration
   imported-fits : Judged ls d → (t : Dtype) (e drop : Bool) (cand : Option NewtypeLayout) (cls : List CtorLayout)

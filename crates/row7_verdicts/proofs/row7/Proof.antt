@@ -1,6 +1,6 @@
 -- `row7_verdicts::row7` meets its contract: every line passed is as it should be, and `d` is the declaration of the last of them.
 -- Assumes nothing.
-use mathlib.Core.Path.{_≡_, refl, sym, ap, _∙_}
+use mathlib.Core.Path.{_≡_, sym, ap, _∙_}
 use mathlib.Core.Bool.{not}
 use Prim.Native.Nat.{_≤_, _-_, _<_}
 use native.Mathlib.Omega.{arith}
@@ -13,12 +13,13 @@ use Rattle.walk_cells.specs.CellsLaws.{length-lines-of}
 use Rattle.sheet.specs.FirstLaws.{first-more, first-found}
 use Rattle.meaning.specs.Rows.{row7}
 use Rattle.rows_header.specs.OrderLaws.{from-le}
-use Rattle.row7_verdicts.specs.VerdictsLaws.{In, in-next, in-test, in-bit, in-header, header-passes}
+use Rattle.rows_header.specs.LettersLaws.{lettered}
+use Rattle.row7_verdicts.specs.VerdictsLaws.{In, in-next, in-test, in-most, in-step, in-third, in-header, header-passes}
 use Rattle.row7_verdicts.proofs.row7.Statement.{statement}
 use Rattle.row7_verdicts.proofs.row7.Tie as tie
 
 abbrev Inv-loop : tie.InvT-loop
-Inv-loop t from n d₀ i₀ d i = (i ≤ n) × In (lines-of t) i d × (first (row7 (lines-of t)) i ≡ i)
+Inv-loop t from n d₀ i₀ d i = (i ≤ n) × In (lines-of t) i d × (first (row7 (lines-of t)) i ≡ i) × (from ≤ i)
 
 abbrev μ-loop : tie.MeasureT-loop
 μ-loop t from n d₀ i₀ d i = n - i
@@ -28,7 +29,15 @@ loop-holds c =
     let a = c .before in
     let s = lines-of (a .args .t .now) in
     let n = length-lines-of (a .args .t .now) in
-    (omega (arith, n, from-le s (a .args .from) (a .pre)), in-header s (a .args .from) (a .pre) _ (sym n) refl refl (a .args .from) (omega arith), header-passes s (a .args .from) (a .pre) (record { head = length s; most = 0; kept = 0 }) refl refl refl)
+    (omega (arith, n, from-le s (a .args .from) (a .pre)), in-header s (a .args .from) (a .pre) _ (sym n) (a .args .from) (omega arith), header-passes s (a .args .from) (a .pre) _ (sym n), omega arith)
+
+good-line-requires : tie.Need-good-line-requires Inv-loop μ-loop
+good-line-requires c κs =
+    let a = c .before .before .before in
+    let s = lines-of (a .args .t .now) in
+    let o = c .before .loop in
+    let w : o .i < length s = omega (arith, length-lines-of (a .args .t .now)) in
+    (omega arith, in-most s (o .i) w (o .d) (o .inv .1), lettered s (a .pre .in-order) (o .i) (omega (arith, a .pre .from-is, o .inv .3)) w)
 
 -- row 7 applies at line i exactly if the line is not as it should be
 tested : (c : tie.After-good-line Inv-loop μ-loop) → c .before .before .loop .i < length (lines-of (c .before .before .before .before .args .t .now))
@@ -47,10 +56,12 @@ returns c =
 
 decl-at-requires : tie.Need-decl-at-requires Inv-loop μ-loop
 decl-at-requires c κs =
-    let t = c .before .before .before .before .before .args .t .now in
+    let a = c .before .before .before .before .before in
+    let s = lines-of (a .args .t .now) in
     let o = c .before .before .before .loop in
-    let w : o .i < length (lines-of t) = omega (arith, length-lines-of t) in
-    (omega arith, o .inv .1 .0, in-bit (lines-of t) (o .i) w (o .d) (o .inv .1) (sym (c .before .good-line .ensures) ∙ not-false (c .before .good-line .result) (c .if1 .left)))
+    let w : o .i < length s = omega (arith, length-lines-of (a .args .t .now)) in
+    let g = sym (c .before .good-line .ensures) ∙ not-false (c .before .good-line .result) (c .if1 .left) in
+    ((omega arith, o .inv .1 .kept-le, in-step s (o .i) w (o .d) (o .inv .1)), (lettered s (a .pre .in-order) (o .i) (omega (arith, a .pre .from-is, o .inv .3)) w, in-third s (o .i) w (o .d) (o .inv .1) g))
 
 loop-again : tie.Need-loop-again Inv-loop μ-loop
 loop-again c =
@@ -58,7 +69,7 @@ loop-again c =
     let s = lines-of t in
     let o = c .before .before .before .before .loop in
     let w : o .i < length s = omega (arith, length-lines-of t) in
-    (omega arith, in-next s (o .i) w (o .d) (o .inv .1) (c .decl-at .result) (c .decl-at .ensures), first-more (row7 s) (o .i) (o .inv .2) (tested (c .before .before) w ∙ c .before .if1 .left))
+    (omega arith, in-next s (o .i) w (o .d) (o .inv .1) (c .decl-at .result) (c .decl-at .ensures), first-more (row7 s) (o .i) (o .inv .2) (tested (c .before .before) w ∙ c .before .if1 .left), omega (arith, o .inv .3))
 
 returns-2 : tie.Need-returns-2 Inv-loop μ-loop
 returns-2 c =
@@ -73,7 +84,7 @@ row7-spec =
     Inv-loop
     μ-loop
     loop-holds
-    (λ c κs. search needs)
+    good-line-requires
     returns
     decl-at-requires
     (λ c. search needs)

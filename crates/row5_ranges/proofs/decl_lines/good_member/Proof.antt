@@ -16,12 +16,6 @@ number-requires-2 c κs = search needs
 cast-second : tie.Need-cast-second
 cast-second c = search needs
 
-number-requires-3 : tie.Need-number-requires-3
-number-requires-3 c κs = search needs
-
-cast-third : tie.Need-cast-third
-cast-third c = search needs
-
 picked-requires : tie.Need-picked-requires
 picked-requires c κs = search needs
 
@@ -31,13 +25,13 @@ picked-requires-2 c κs = search needs
 returns : tie.Need-returns
 returns c =
     let m = c .before .before .before in
-    rw (← (m .number3 .ensures), ← (m .before .number2 .ensures), ← (c .before .before .picked .ensures), ← (c .before .picked2 .ensures), le-ltb (c .before .before .picked .result) (c .before .picked2 .result) (c .if1 .taken))
+    rw (← (m .number2 .ensures), ← (c .before .before .picked .ensures), ← (c .before .picked2 .ensures), le-ltb (c .before .before .picked .result) (c .before .picked2 .result) (c .if1 .taken))
+
+number-requires-3 : tie.Need-number-requires-3
+number-requires-3 c κs = search needs
 
 number-requires-4 : tie.Need-number-requires-4
 number-requires-4 c κs = search needs
-
-number-requires-5 : tie.Need-number-requires-5
-number-requires-5 c κs = search needs
 
 both-requires : tie.Need-both-requires
 both-requires c κs = search needs
@@ -52,11 +46,10 @@ returns-2 c =
     rw (
       c .both2 .ensures,
       c .before .both .ensures,
-      c .before .before .number5 .ensures,
-      c .before .before .before .number4 .ensures,
-      ← (m .number3 .ensures),
-      ← (m .before .number2 .ensures),
-      ← (m .before .before .number .ensures),
+      c .before .before .number4 .ensures,
+      c .before .before .before .number3 .ensures,
+      ← (m .number2 .ensures),
+      ← (m .before .number .ensures),
       ← (q .before .picked .ensures),
       ← (q .picked2 .ensures),
       lt-ltb (q .before .picked .result) (q .picked2 .result) (c .before .before .before .before .if1 .left),
@@ -70,13 +63,11 @@ good-member-spec =
     cast-name
     number-requires-2
     cast-second
-    number-requires-3
-    cast-third
     picked-requires
     picked-requires-2
     returns
+    number-requires-3
     number-requires-4
-    number-requires-5
     both-requires
     both-requires-2
     returns-2)
