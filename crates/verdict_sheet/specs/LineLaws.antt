@@ -1,26 +1,31 @@
 -- What each line of the verdict sheet is, by the declaration that it stands in. Assumes nothing.
+use mathlib.Core.Logic.{⊎-elim}
 use mathlib.Core.Path.{_≡_, refl, ap, sym, _∙_}
 use mathlib.Core.List.{List, [], _∷_}
 use mathlib.Core.Bool.{Bool, true, false, _&&_, not}
 use Prim.Native.Nat.{ℕ, zero, suc, _+_, _-_, _≤_, _<_}
 use native.Mathlib.Omega.{arith}
 use lib.Dec.{eqb, leb, ltb}
-use lib.ListN.{length, getD}
-use lib.Seq.{take-length}
-use borrow.Author.Tests.{eqb-true, leb-true, ltb-false, le-leb, ne-eqb, not-true, not-false}
+use lib.ListN.{length, getD, take}
+use lib.Seq.{take-length, take-suc}
+use borrow.Author.Tests.{eqb-true, eqb-false, leb-true, ltb-false, le-leb, ne-eqb, not-true, not-false}
+use Rattle.number_columns.specs.Column.{pick}
 use Rattle.sheet.specs.Line.{Line, named, row, bad, letter, number}
 use Rattle.sheet.specs.LineLaws.{Fits, five-numbers}
 use Rattle.sheet.specs.Sheet.{lines}
 use Rattle.sheet.specs.SheetLaws.{AllFit, fit-lines, line-good}
 use Rattle.sheet.specs.FirstLaws.{first-before, none-first, first-le}
 use Rattle.sheet.specs.ListLaws.{contrary, both, false-true, every-at}
-use Rattle.model.specs.Decl.{bit, layout-number}
+use Rattle.model.specs.Decl.{bit, tag-number, layout-number}
 use Rattle.model.specs.Erasure.{cty-erased, marked, erasure-fixpoint}
+use Rattle.model.specs.Layout.{ctor-tag}
 use Rattle.model.specs.Run.{info-at, layout-of-decl, left-at, record-of}
 use Rattle.model_laws.specs.Run.{local-info}
-use Rattle.meaning.specs.Program.{local-line, import-line, field-line, is, is-head, select, type-at, trees, program}
-use Rattle.meaning.specs.Rows.{line-at, count-of, count-before, heads-before, some-below, zeros-from, good-numbers, last-head, head-of, good-verdicts, row7}
+use Rattle.meaning.specs.Program.{local-line, import-line, ctor-line, field-line, is, is-head, select, type-at, trees, program}
+use Rattle.meaning.specs.Rows.{line-at, count-of, count-before, heads-before, some-below, zeros-from, good-numbers, last-head, head-of, ctors-after, good-verdicts, row7}
 use Rattle.meaning.specs.Output.{verdict-line-of}
+use Rattle.meaning_laws.specs.Program.{head-cases}
+use Rattle.meaning_laws.specs.Rows.{ctors-after-append}
 use Rattle.meaning_laws.specs.Verdict.{verdict-line-at}
 use Rattle.row3_order.specs.StepLaws.{heads-before-suc, heads-before-mono, count-before-mono, count-before-suc, last-head-suc}
 use Rattle.row4_limits.specs.Limits.{start}
@@ -52,6 +57,12 @@ module _ (ls : List Line) where
   unfolding start
   heads-most d i h = ltb-false d (heads-before ls (suc i)) (first-before (λ j. ltb d (heads-before ls (suc j))) (length ls) i h)
 
+  -- the C lines of a declaration, one line more
+  ctors-suc : (i : ℕ) → i < length ls → ctors-after 0 (take (suc i) ls)
+      ≡ pick (is-head (line-at ls i)) 0 (pick (is ctor-line (line-at ls i)) (suc (ctors-after 0 (take i ls))) (ctors-after 0 (take i ls)))
+  unfolding ctors-after
+  ctors-suc i h = rw (take-suc ls i bad, ctors-after-append)
+
   -- line i is one of declaration d
   module _ (d : ℕ) (h : d < decls-of ls) where
     starts : heads-before ls (start ls d) ≡ d
@@ -67,6 +78,12 @@ module _ (ls : List Line) where
     head-is : line-at ls (start ls d) ≡ head-line ls d
     head-is = sym (ap (λ g. g .head) (group-is ls d h))
 
+    -- no declaration begins past the first line
+    none-from : (k : ℕ) → start ls d + suc k < start ls (suc d) → is-head (line-at ls (suc (start ls d + k))) ≡ false
+    none-from k l =
+        not-head (suc (start ls d + k)) (omega (arith, start-le (suc d)))
+        (omega (arith, heads-here (start ls d + k) (omega arith) (omega arith), heads-here (suc (start ls d + k)) (omega arith) (omega arith)))
+
     head-from : (k : ℕ) → start ls d + k < start ls (suc d) → head-of ls (start ls d + k) ≡ head-line ls d
     head-from zero l =
         let e : start ls d + 0 ≡ start ls d = omega arith in
@@ -74,12 +91,37 @@ module _ (ls : List Line) where
     head-from (suc k) l =
         let e : start ls d + suc k ≡ suc (start ls d + k) = omega arith in
         let n : suc (start ls d + k) < length ls = omega (arith, start-le (suc d)) in
-        let q : heads-before ls (suc (suc (start ls d + k))) ≡ heads-before ls (suc (start ls d + k)) =
-        omega (arith, heads-here (start ls d + k) (omega arith) (omega arith), heads-here (suc (start ls d + k)) (omega arith) (omega arith)) in
-        rw (e, last-head-suc ls (suc (start ls d + k)) n bad, not-head (suc (start ls d + k)) n q) (head-from k (omega arith))
+        rw (e, last-head-suc ls (suc (start ls d + k)) n bad, none-from k l) (head-from k (omega arith))
 
     pub head-here : (i : ℕ) → start ls d ≤ i → i < start ls (suc d) → head-of ls i ≡ head-line ls d
     head-here i a e = let k : start ls d + (i - start ls d) ≡ i = omega arith in rw k at (head-from (i - start ls d) (omega arith))
+
+    -- the C lines up to a line of the declaration are those before it and its own
+    ctors-from : (k : ℕ) → start ls d + k < start ls (suc d)
+        → count-before ctor-line ls (suc (start ls d + k)) ≡ first-of ctor-line ls d + ctors-after 0 (take (suc (start ls d + k)) ls)
+    ctors-from zero l =
+        let e : start ls d + 0 ≡ start ls d = omega arith in
+        let c : is ctor-line (line-at ls (start ls d)) ≡ false = ⊎-elim (λ q. rw q) (λ q. rw q) (head-cases (line-at ls (start ls d)) (line-of-head ls d h)) in
+        rw (e, count-before-suc ls (start ls d) (line-inside ls d h) ctor-line, ctors-suc (start ls d) (line-inside ls d h), line-of-head ls d h, c)
+    ctors-from (suc k) l =
+        let e : start ls d + suc k ≡ suc (start ls d + k) = omega arith in
+        let n : suc (start ls d + k) < length ls = omega (arith, start-le (suc d)) in
+        rw (e, count-before-suc ls (suc (start ls d + k)) n ctor-line, ctors-suc (suc (start ls d + k)) n, none-from k l)
+        (go (is ctor-line (line-at ls (suc (start ls d + k)))) _ _ _ (ctors-from k (omega arith)))
+      where
+        go : (c : Bool) (x y z : ℕ) → x ≡ y + z → x + pick c 1 0 ≡ y + pick c (suc z) z
+        go true x y z q = omega arith
+        go false x y z q = omega arith
+
+    ctors-here : (i : ℕ) → start ls d ≤ i → i < start ls (suc d) → is-head (line-at ls i) ≡ false → count-before ctor-line ls i ≡ first-of ctor-line ls d + ctors-after 0 (take i ls)
+    ctors-here i a e n = go (eqb (start ls d) i) refl
+      where
+        go : (c : Bool) → eqb (start ls d) i ≡ c → count-before ctor-line ls i ≡ first-of ctor-line ls d + ctors-after 0 (take i ls)
+        go true q = let z : start ls d ≡ i = eqb-true (start ls d) i q in contrary (is-head (line-at ls i)) (rw z at (line-of-head ls d h)) n
+        go false q =
+            let z : start ls d ≡ i → ⊥ = eqb-false (start ls d) i q in
+            let k : suc (start ls d + (i - start ls d - 1)) ≡ i = omega arith in
+            rw k at (ctors-from (i - start ls d - 1) (omega arith))
 
   -- before the first declaration
   pub head-before : (i : ℕ) → i < start ls 0 → head-of ls i ≡ bad
@@ -121,7 +163,7 @@ module _ (b : List ℕ) (p : Sheet b) where
   -- line i of the verdict sheet
   told : (d i : ℕ) → i < length (lines 6 b) → heads-before (lines 6 b) (suc i) ≡ suc d
       → line-at (verdicts (lines 6 b)) i
-      ≡ verdict-line-of (marked (program (lines 6 b)) (erasure-fixpoint (program (lines 6 b)) .marks)) (trees (lines 6 b)) (info-at 100 (program (lines 6 b)) d) (head-of (lines 6 b) i) (line-at (lines 6 b) i)
+      ≡ verdict-line-of (marked (program (lines 6 b)) (erasure-fixpoint (program (lines 6 b)) .marks)) (trees (lines 6 b)) (info-at 100 (program (lines 6 b)) d) (head-of (lines 6 b) i) (ctors-after 0 (take i (lines 6 b))) (line-at (lines 6 b) i)
   told d i h e =
       let n : heads-before (lines 6 b) (suc i) - 1 ≡ d = omega arith in
       rw n at (verdict-line-at 100 (lines 6 b) (wholes (lines 6 b) (p .passed)) i h)
@@ -158,13 +200,36 @@ module _ (b : List ℕ) (p : Sheet b) where
         go false q m = false-true (rw (q, e) at m)
 
     here-told : line-at (verdicts (lines 6 b)) i
-        ≡ verdict-line-of (marked (program (lines 6 b)) (erasure-fixpoint (program (lines 6 b)) .marks)) (trees (lines 6 b)) (info-at 100 (program (lines 6 b)) d) (head-line (lines 6 b) d) at
+        ≡ verdict-line-of (marked (program (lines 6 b)) (erasure-fixpoint (program (lines 6 b)) .marks)) (trees (lines 6 b)) (info-at 100 (program (lines 6 b)) d) (head-line (lines 6 b) d) (ctors-after 0 (take i (lines 6 b))) at
     here-told = rw (head-here (lines 6 b) d h i a o) at (told d i inside (heads-here (lines 6 b) d h i a o))
 
     pub local-head : letter at ≡ 68 → (at ≡ row 68 (number at 0 ∷ number at 1 ∷ number at 2 ∷ number at 3 ∷ number at 4 ∷ []))
         × (line-at (verdicts (lines 6 b)) i ≡ row 73 (number at 0 ∷ number at 1 ∷ number at 2 ∷ number at 3 ∷ number at 4 ∷ []))
     unfolding verdict-line-of
     local-head q = (as-row at 68 (fits-at i inside) q (λ z. omega arith), here-told ∙ rw (is-local, q))
+
+    zero-tag : letter at ≡ 67 → number at 2 ≡ 0
+    unfolding good-verdicts
+    zero-tag q = eqb-true (number at 2) 0 (rw (head-here (lines 6 b) d h i a o, q, e) at (good7 i inside))
+
+    zero-ctor : letter at ≡ 67 → (j : ℕ) → 3 ≤ j → j < 5 → number at j ≡ 0
+    unfolding good-numbers
+    zero-ctor q j =
+        let g : (ltb (number at 0) (count-of 78 (lines 6 b)) && zeros-from 3 at) ≡ true = rw q at (good-line (lines 6 b) (p .passed) i inside) in
+        unused 3 at (both (ltb (number at 0) (count-of 78 (lines 6 b))) (zeros-from 3 at) g .1) j
+
+    -- a C line's place among those of its declaration
+    pub local-place : letter at ≡ 67 → count-before ctor-line (lines 6 b) i ≡ first-of ctor-line (lines 6 b) d + ctors-after 0 (take i (lines 6 b))
+    local-place q = ctors-here (lines 6 b) d h i a o (rw q)
+
+    pub local-ctor : letter at ≡ 67
+        → (at ≡ row 67 (number at 0 ∷ number at 1 ∷ 0 ∷ 0 ∷ 0 ∷ []))
+        × (line-at (verdicts (lines 6 b)) i ≡ row 67 (number at 0 ∷ number at 1 ∷ tag-number (ctor-tag (number (head-line (lines 6 b) d) 4) (ctors-after 0 (take i (lines 6 b)))) ∷ 0 ∷ 0 ∷ []))
+    unfolding verdict-line-of
+    local-ctor q = (
+      as-row at 67 (fits-at i inside) q (λ z. omega arith) ∙ rw (zero-tag q, zero-ctor q 3 (omega arith) (omega arith), zero-ctor q 4 (omega arith) (omega arith)),
+      here-told ∙ rw (is-local, q),
+    )
 
     zero-keep : letter at ≡ 70 → number at 2 ≡ 0
     unfolding good-verdicts
@@ -239,6 +304,6 @@ module _ (b : List ℕ) (p : Sheet b) where
             contrary (is import-line at) q (ap (is import-line) (sym y ∙ head-here (lines 6 b) d h i a o) ∙ e)
         go false q = q
 
-    pub local-other : (letter at ≡ 68 → ⊥) → (letter at ≡ 70 → ⊥) → (letter at ≡ 86 → ⊥) → line-at (verdicts (lines 6 b)) i ≡ at
+    pub local-other : (letter at ≡ 70 → ⊥) → (letter at ≡ 67 → ⊥) → (letter at ≡ 68 → ⊥) → (letter at ≡ 86 → ⊥) → line-at (verdicts (lines 6 b)) i ≡ at
     unfolding verdict-line-of
-    local-other x y z = here-told ∙ rw (is-local, ne-eqb (letter at) 68 x, no-import, ne-eqb (letter at) 70 y, ne-eqb (letter at) 86 z)
+    local-other w x y z = here-told ∙ rw (is-local, ne-eqb (letter at) 70 w, ne-eqb (letter at) 67 x, ne-eqb (letter at) 68 y, no-import, ne-eqb (letter at) 86 z)

@@ -1,10 +1,11 @@
--- Single bytes of a line that are changed in an output: its letter, and a number of one digit in the place of a 0. Assumes nothing.
-use mathlib.Core.Path.{_≡_, ap, _∙_}
+-- What is changed of a line in an output: its letter, a number of one digit in the place of a 0, or the columns of its third number.
+-- Assumes nothing.
+use mathlib.Core.Path.{_≡_, ap, sym, _∙_}
 use mathlib.Core.List.{List, [], _∷_, _++_, append-assoc}
 use Prim.Native.Nat.{ℕ, zero, suc, _+_, _*_, _/_, _%_, _<_}
 use native.Mathlib.Omega.{arith}
-use lib.ListN.{length, getD, set}
-use lib.Seq.{set-append-left}
+use lib.ListN.{length, getD, set, take, drop, length-append}
+use lib.Seq.{set-append-left, take-at, drop-at}
 use Rattle.number_columns.specs.Column.{shown, write}
 use Rattle.number_columns.specs.ColumnLaws.{write-length}
 use Rattle.sheet.specs.Line.{row, writes, encode}
@@ -61,3 +62,27 @@ module _ (p q : List ℕ) (i : ℕ) (sized : length p ≡ i * 32) where
       rw e
       (set-part p (encode 6 (row x ns)) q (i * 32) (6 * m + 6) (48 + k) sized (omega (arith, row-length 6 x ns n))
       ∙ ap (λ (r : List ℕ). p ++ (r ++ q)) (digit-line x ns m k (omega arith) z l))
+
+  -- a third number in the columns of another
+  pub put-third : (x m n z k : ℕ) (r out : List ℕ) → out ≡ p ++ (encode 6 (row x (m ∷ n ∷ z ∷ r)) ++ q)
+      → take (i * 32 + 13) out ++ (write 6 k ++ drop (i * 32 + 13 + 6) out) ≡ p ++ (encode 6 (row x (m ∷ n ∷ k ∷ r)) ++ q)
+  unfolding encode writes
+  put-third x m n z k r out e =
+      let at : ℕ = i * 32 + 13 in
+      let f : out ≡ lead ++ (write 6 z ++ rest) = e ∙ shape z in
+      let g : out ≡ (lead ++ write 6 z) ++ rest = f ∙ sym (append-assoc lead (write 6 z) rest) in
+      let t : take at out ≡ lead = ap (take at) f ∙ take-at lead (write 6 z ++ rest) at length-lead in
+      let d : drop (at + 6) out ≡ rest = ap (drop (at + 6)) g ∙ drop-at (lead ++ write 6 z) rest (at + 6) (length-append lead (write 6 z) ∙ omega (arith, length-lead, write-length 6 z)) in
+      rw (t, d) (sym (shape k))
+    where
+      lead : List ℕ
+      lead = p ++ (x ∷ (write 6 m ++ write 6 n))
+
+      rest : List ℕ
+      rest = writes 6 r ++ ((10 ∷ []) ++ q)
+
+      length-lead : length lead ≡ i * 32 + 13
+      length-lead = length-append p (x ∷ (write 6 m ++ write 6 n)) ∙ omega (arith, sized, length-append (write 6 m) (write 6 n), write-length 6 m, write-length 6 n)
+
+      shape : (j : ℕ) → p ++ (encode 6 (row x (m ∷ n ∷ j ∷ r)) ++ q) ≡ lead ++ (write 6 j ++ rest)
+      shape j = simp append-assoc

@@ -6,10 +6,10 @@ use mathlib.Core.Option.{Option, none, some}
 use Prim.Native.Nat.{ℕ, suc, _+_, _-_, _*_, _≤_, _<_}
 use native.Mathlib.Omega.{arith}
 use lib.Dec.{eqb}
-use lib.ListN.{length, getD, set, drop}
+use lib.ListN.{length, getD, set, take, drop}
 use lib.Seq.{take-length}
 use borrow.Author.Tests.{ne-eqb}
-use Rattle.number_columns.specs.Column.{pick, _⇒_∥_}
+use Rattle.number_columns.specs.Column.{pick, _⇒_∥_, write}
 use Rattle.sheet.specs.Line.{Line, letter, number}
 use Rattle.sheet.specs.Sheet.{lines}
 use Rattle.sheet.specs.Format.{base}
@@ -19,23 +19,26 @@ use Rattle.model.specs.Erasure.{cty-erased, marked, erasure-fixpoint}
 use Rattle.model.specs.Layout.{collapse, layout-of-body, layout-of}
 use Rattle.model.specs.Run.{layouts-of, layout-of-decl, left-at, record-of}
 use Rattle.model_laws.specs.Layout.{getD-layouts}
-use Rattle.meaning.specs.Program.{field-line, import-line, is, type-at, trees, program}
-use Rattle.meaning.specs.Rows.{line-at, count-of, count-before}
+use Rattle.meaning.specs.Program.{ctor-line, field-line, import-line, is, type-at, trees, program}
+use Rattle.meaning.specs.Rows.{line-at, count-of, count-before, ctors-after}
 use Rattle.meaning_laws.specs.Program.{length-program}
 use Rattle.answer.specs.Answer.{verdict-sheet, after}
-use Rattle.row3_order.specs.StepLaws.{count-before-suc}
+use Rattle.row3_order.specs.StepLaws.{count-before-step}
 use Rattle.row4_limits.specs.Limits.{start}
 use Rattle.row4_limits.specs.LimitsLaws.{start-past, start-rises}
-use Rattle.table_access.specs.Tables.{head-line, decls-of, lines-in}
+use Rattle.table_access.specs.Tables.{head-line, decls-of, first-of, lines-in}
+use Rattle.table_declared.specs.BareLaws.{head-bare}
 use Rattle.table_declared.specs.LineLaws.{nth-at}
 use Rattle.table_declared.specs.DeclLaws.{origin-local}
+use Rattle.table_declared.specs.PassedLaws.{ctors-few}
 use Rattle.keep_fields.specs.Keeps.{Slotted}
 use Rattle.keep_layouts.specs.Kept.{body-kind}
 use Rattle.keep_layouts.specs.States.{state, Shape, Settled}
 use Rattle.left_laws.specs.Lefts.{Recorded}
-use Rattle.verdict_sheet.specs.Upto.{upto, number-by, Sheet, Next, Moved}
-use Rattle.verdict_sheet.specs.LineLaws.{start-le, inside, header-stays, import-stays, local-head, local-entry, local-field, local-verdict, local-other}
-use Rattle.verdict_sheet.specs.UptoLaws.{bytes, upto-none, upto-all, upto-again, upto-same, upto-letter, upto-keep, upto-three, upto-run, letter-byte}
+use Rattle.verdict_sheet.specs.declared.Counts.{Counts}
+use Rattle.verdict_sheet.specs.Upto.{upto, number-by, Sheet, Next, counts-before, Moved}
+use Rattle.verdict_sheet.specs.LineLaws.{start-le, inside, header-stays, import-stays, local-head, local-place, local-ctor, local-entry, local-field, local-verdict, local-other}
+use Rattle.verdict_sheet.specs.UptoLaws.{bytes, upto-none, upto-all, upto-again, upto-same, upto-letter, upto-keep, upto-tag, upto-three, upto-run, letter-byte}
 use Rattle.table_access.specs.OfSheet.{decls-same, OfSheet, program-same, sheet-passed, first-same}
 
 -- ---- numbers of a verdict
@@ -123,16 +126,17 @@ module _ (b out : List ℕ) (p : Sheet b) (d i : ℕ) (n : Next b out d i) where
   pub here-room : i * 32 + 32 ≤ length b
   here-room = omega (arith, here-inside, bytes b p)
 
-  -- as many F lines up to a line that is none
-  fields-same : (f : ℕ) → f ≡ count-before field-line (lines 6 b) i → (letter (line-at (lines 6 b) i) ≡ 70 → ⊥) → f ≡ count-before field-line (lines 6 b) (suc i)
-  fields-same f e z = e ∙ sym (rw (ne-eqb (letter (line-at (lines 6 b) i)) 70 z) at (count-before-suc (lines 6 b) i here-inside field-line) ∙ omega arith)
+  -- the line counted, by whether it is an F or a C line
+  counted : (c : Counts) → c ≡ counts-before (lines 6 b) i → (f k : Bool) → is field-line (line-at (lines 6 b) i) ≡ f → is ctor-line (line-at (lines 6 b) i) ≡ k
+      → record { fields = pick f (c .fields + 1) (c .fields); ctors = pick k (c .ctors + 1) (c .ctors) } ≡ counts-before (lines 6 b) (suc i)
+  counted c g f k ef ek = rw (g, count-before-step (lines 6 b) i here-inside field-line, count-before-step (lines 6 b) i here-inside ctor-line, ef, ek)
 
-  pub step-head : (f : ℕ) → f ≡ count-before field-line (lines 6 b) i → getD b (i * 32) 0 ≡ 68 → Moved b out (set out (i * 32) 73) i f
-  step-head f g e =
+  pub step-head : (c : Counts) → c ≡ counts-before (lines 6 b) i → getD b (i * 32) 0 ≡ 68 → Moved b out (set out (i * 32) 73) i c
+  step-head c g e =
       let q : letter (line-at (lines 6 b) i) ≡ 68 = sym here-letter ∙ e in
       let r = local-head b p d i (n .declared) (n .local) (n .from) (n .to) q in
       record {
-        fields = fields-same f g (λ z. omega arith);
+        counts = counted c g false false (rw q) (rw q);
         written = ap (λ (x : List ℕ). set x (i * 32) 73) (n .written) ∙ upto-letter b p i here-inside out 68 73 _ (r .0) (r .1);
       }
 
@@ -146,15 +150,46 @@ module _ (b out : List ℕ) (p : Sheet b) (d i : ℕ) (n : Next b out d i) where
       (bit-small (getD keep (count-before field-line (lines 6 b) i) 0) (not (cty-erased (marked (program (lines 6 b)) (erasure-fixpoint (program (lines 6 b)) .marks)) (type-at (trees (lines 6 b)) (number (line-at (lines 6 b) i) 1))))
       (local-entry b p d i (n .declared) (n .local) (n .from) (n .to) keep s q))
 
-  pub step-field : (keep : List ℕ) → Slotted (lines 6 b) keep → (f : ℕ) → f ≡ count-before field-line (lines 6 b) i → getD b (i * 32) 0 ≡ 70
-      → Moved b out (set out (i * 32 + 18) (48 + getD keep f 0)) i (f + 1)
-  step-field keep s f g e =
+  pub step-field : (keep : List ℕ) → Slotted (lines 6 b) keep → (c : Counts) → c ≡ counts-before (lines 6 b) i → getD b (i * 32) 0 ≡ 70
+      → Moved b out (set out (i * 32 + 18) (48 + getD keep (c .fields) 0)) i (record { fields = c .fields + 1; ctors = c .ctors })
+  step-field keep s c v e =
+      let f : ℕ = c .fields in
+      let g : f ≡ count-before field-line (lines 6 b) i = ap (λ (x : Counts). x .fields) v in
       let q : letter (line-at (lines 6 b) i) ≡ 70 = sym here-letter ∙ e in
       let r = local-field b p d i (n .declared) (n .local) (n .from) (n .to) keep s q in
       record {
-        fields = omega (arith, g, rw q at (count-before-suc (lines 6 b) i here-inside field-line));
+        counts = counted c v true false (rw q) (rw q);
         written = ap (λ (x : List ℕ). set x (i * 32 + 18) (48 + getD keep f 0)) (n .written) ∙ upto-keep b p i here-inside out 70 _ _ (getD keep f 0) (field-small keep s f g e) (r .0) (rw g (r .1));
       }
+
+  -- a C line, before which there are c in the sheet
+  pub ctor-past : (f c : ℕ) → f ≡ first-of ctor-line (lines 6 b) d → c ≡ count-before ctor-line (lines 6 b) i → getD b (i * 32) 0 ≡ 67 → f ≤ c
+  ctor-past f c u g e = omega (arith, local-place b p d i (n .declared) (n .local) (n .from) (n .to) (sym here-letter ∙ e))
+
+  pub ctor-few : (c : ℕ) → c ≡ count-before ctor-line (lines 6 b) i → getD b (i * 32) 0 ≡ 67 → c < 1024
+  ctor-few c g e =
+      let q : letter (line-at (lines 6 b) i) ≡ 67 = sym here-letter ∙ e in
+      omega (arith, nth-at ctor-line (lines 6 b) i here-inside (rw q) .0, ctors-few (lines 6 b) (p .passed))
+
+  -- the only constructor has no tag
+  pub step-only : (m : ℕ) → m ≡ number (head-line (lines 6 b) d) 4 → m ≡ 1 → getD b (i * 32) 0 ≡ 67 → out ≡ upto b (suc i) out
+  step-only m h o e =
+      let r = local-ctor b p d i (n .declared) (n .local) (n .from) (n .to) (sym here-letter ∙ e) in
+      n .written ∙ sym (upto-same b p i here-inside out (r .1 ∙ rw (← h, o) (sym (r .0))))
+
+  pub step-tag : (m f c : ℕ) → m ≡ number (head-line (lines 6 b) d) 4 → (m ≡ 1 → ⊥) → f ≡ first-of ctor-line (lines 6 b) d → c ≡ count-before ctor-line (lines 6 b) i → getD b (i * 32) 0 ≡ 67
+      → take (i * 32 + 13) out ++ (write 6 (c - f + 1) ++ drop (i * 32 + 13 + 6) out) ≡ upto b (suc i) out
+  step-tag m f c h o u g e =
+      let q : letter (line-at (lines 6 b) i) ≡ 67 = sym here-letter ∙ e in
+      let r = local-ctor b p d i (n .declared) (n .local) (n .from) (n .to) q in
+      let k : c - f + 1 ≡ suc (ctors-after 0 (take i (lines 6 b))) = omega (arith, local-place b p d i (n .declared) (n .local) (n .from) (n .to) q) in
+      rw k
+      (ap (λ (x : List ℕ). take (i * 32 + 13) x ++ (write 6 (suc (ctors-after 0 (take i (lines 6 b)))) ++ drop (i * 32 + 13 + 6) x)) (n .written)
+      ∙ upto-tag b p i here-inside out 67 _ _ 0 (suc (ctors-after 0 (take i (lines 6 b)))) _ (r .0) (r .1 ∙ rw (← h, ne-eqb m 1 o)))
+
+  pub ctor-moved : (out' : List ℕ) (c : Counts) → c ≡ counts-before (lines 6 b) i → getD b (i * 32) 0 ≡ 67 → out' ≡ upto b (suc i) out
+      → Moved b out out' i (record { fields = c .fields; ctors = c .ctors + 1 })
+  ctor-moved out' c g e w = let q : letter (line-at (lines 6 b) i) ≡ 67 = sym here-letter ∙ e in record { counts = counted c g false true (rw q) (rw q); written = w }
 
   pub step-verdict : (m l r : ℕ) → getD b (i * 32) 0 ≡ 86 → l ≡ layout-number (layout-of-decl (program (lines 6 b)) d) → m ≡ pick (eqb l 0) 1 0
       → r ≡ bit (record-of (left-at 100 (program (lines 6 b)) d))
@@ -168,14 +203,17 @@ module _ (b out : List ℕ) (p : Sheet b) (d i : ℕ) (n : Next b out d i) where
       ap (λ (y : List ℕ). set (set (set y (i * 32 + 6) (48 + m)) (i * 32 + 12) (48 + l)) (i * 32 + 18) (48 + r)) (n .written)
       ∙ upto-three b p i here-inside out 86 m l r (bit-small m (getD (erasure-fixpoint (program (lines 6 b)) .marks) d false) x) sl (bit-small r (record-of (left-at 100 (program (lines 6 b)) d)) hr) (v .0) (rw (x, hl, hr) (v .1))
 
-  pub verdict-moved : (out' : List ℕ) (f : ℕ) → f ≡ count-before field-line (lines 6 b) i → getD b (i * 32) 0 ≡ 86 → out' ≡ upto b (suc i) out → Moved b out out' i f
-  verdict-moved out' f g e w = let q : letter (line-at (lines 6 b) i) ≡ 86 = sym here-letter ∙ e in record { fields = fields-same f g (λ z. omega arith); written = w }
+  pub verdict-moved : (out' : List ℕ) (c : Counts) → c ≡ counts-before (lines 6 b) i → getD b (i * 32) 0 ≡ 86 → out' ≡ upto b (suc i) out → Moved b out out' i c
+  verdict-moved out' c g e w = let q : letter (line-at (lines 6 b) i) ≡ 86 = sym here-letter ∙ e in record { counts = counted c g false false (rw q) (rw q); written = w }
 
-  pub step-other : (f : ℕ) → f ≡ count-before field-line (lines 6 b) i → (getD b (i * 32) 0 ≡ 68 → ⊥) → (getD b (i * 32) 0 ≡ 70 → ⊥) → (getD b (i * 32) 0 ≡ 86 → ⊥) → Moved b out out i f
-  step-other f g x y z =
+  pub step-other : (c : Counts) → c ≡ counts-before (lines 6 b) i → (getD b (i * 32) 0 ≡ 70 → ⊥) → (getD b (i * 32) 0 ≡ 67 → ⊥) → (getD b (i * 32) 0 ≡ 68 → ⊥) → (getD b (i * 32) 0 ≡ 86 → ⊥) → Moved b out out i c
+  step-other c g w x y z =
+      let l : Line = line-at (lines 6 b) i in
+      let not-field : letter l ≡ 70 → ⊥ = λ q. w (here-letter ∙ q) in
+      let not-ctor : letter l ≡ 67 → ⊥ = λ q. x (here-letter ∙ q) in
       record {
-        fields = fields-same f g (λ q. y (here-letter ∙ q));
-        written = n .written ∙ sym (upto-same b p i here-inside out (local-other b p d i (n .declared) (n .local) (n .from) (n .to) (λ q. x (here-letter ∙ q)) (λ q. y (here-letter ∙ q)) (λ q. z (here-letter ∙ q))));
+        counts = counted c g false false (ne-eqb (letter l) 70 not-field) (ne-eqb (letter l) 67 not-ctor);
+        written = n .written ∙ sym (upto-same b p i here-inside out (local-other b p d i (n .declared) (n .local) (n .from) (n .to) not-field not-ctor (λ q. y (here-letter ∙ q)) (λ q. z (here-letter ∙ q))));
       }
 
 -- ---- a declaration
@@ -218,6 +256,10 @@ ended b p old copy out d h e w =
 module _ (b t : List ℕ) (of : OfSheet b t) where
   pub sheet-of : Sheet b
   sheet-of = record { short = of .short; no-bad = of .no-bad; passed = sheet-passed b t of }
+
+  -- a declaration's last number is that of the line with its text
+  pub last-same : (d : ℕ) → number (head-line (lines-in t) d) 4 ≡ number (head-line (lines 6 b) d) 4
+  last-same d = ap (λ (ls : List Line). number (head-line ls d) 4) (of .lines-are) ∙ head-bare (lines 6 b) (λ l. number l 4) (λ l. refl) d
 
   -- the keep table and the record numbers are of the lines with their texts as well
   pub slotted-of : (keep : List ℕ) → Slotted (lines-in t) keep → Slotted (lines 6 b) keep

@@ -10,7 +10,7 @@ use Rattle.sheet.specs.Line.{Line}
 use Rattle.sheet.specs.Format.{base}
 use Rattle.sheet.specs.Sheet.{count, lines, encodes, row1, row2}
 use Rattle.model.specs.Run.{run}
-use Rattle.meaning.specs.Program.{field-line, import-line, is, program}
+use Rattle.meaning.specs.Program.{ctor-line, field-line, import-line, is, program}
 use Rattle.meaning.specs.Rows.{count-of, count-before}
 use Rattle.meaning.specs.Output.{verdict-lines}
 use Rattle.row4_limits.specs.Limits.{start}
@@ -20,6 +20,7 @@ use Rattle.table_access.specs.OfSheet.{OfSheet}
 use Rattle.keep_fields.specs.Keeps.{Slotted}
 use Rattle.keep_layouts.specs.States.{Settled}
 use Rattle.left_laws.specs.Lefts.{Recorded}
+use Rattle.verdict_sheet.specs.declared.Counts.{Counts}
 
 -- a layout's number, by the cell that says how the name is replaced, and by the body kind
 unfoldable pub number-by : ℕ → ℕ → ℕ
@@ -56,7 +57,11 @@ pub record Next (b out : List ℕ) (d i : ℕ) : Type 0 where
   pub room : length b ≤ length out
   pub written : out ≡ upto b i out
 
--- line i is written, and there are r F lines up to it
-pub record Moved (b out out' : List ℕ) (i r : ℕ) : Type 0 where
-  pub fields : r ≡ count-before field-line (lines 6 b) (suc i)
+-- how many F and C lines stand before line i
+abbrev pub counts-before : List Line → ℕ → Counts
+counts-before ls i = record { fields = count-before field-line ls i; ctors = count-before ctor-line ls i }
+
+-- line i is written, and r counts the lines up to it
+pub record Moved (b out out' : List ℕ) (i : ℕ) (r : Counts) : Type 0 where
+  pub counts : r ≡ counts-before (lines 6 b) (suc i)
   pub written : out' ≡ upto b (suc i) out

@@ -8,6 +8,7 @@ use lib.Dec.{eqb, ltb}
 use lib.ListN.{length, getD, set, take, drop, length-append, length-drop, take-append-drop, drop-of-length-le}
 use lib.Seq.{take-all, take-suc, drop-cons, drop-append-seam, getD-take, getD-drop, length-take-le}
 use borrow.Author.Tests.{eqb-true, not-false}
+use Rattle.number_columns.specs.Column.{write}
 use Rattle.sheet.specs.Format.{base}
 use Rattle.sheet.specs.Line.{Line, row, bad, letter, encode}
 use Rattle.sheet.specs.LineLaws.{Fits}
@@ -20,9 +21,10 @@ use Rattle.meaning.specs.Rows.{line-at}
 use Rattle.meaning_laws.specs.Program.{length-verdict-lines, told-groups, run-told}
 use Rattle.meaning_laws.specs.Output.{ten, verdict-fits}
 use Rattle.answer.specs.Answer.{verdict-sheet, after}
+use Rattle.table_declared.specs.DeclLaws.{wholes}
 use Rattle.verdict_sheet.specs.Upto.{verdicts, upto, Sheet}
 use Rattle.verdict_sheet.specs.LineLaws.{fits}
-use Rattle.verdict_sheet.specs.PatchLaws.{put-letter, put-digit}
+use Rattle.verdict_sheet.specs.PatchLaws.{put-letter, put-digit, put-third}
 
 module _ (b : List ℕ) (p : Sheet b) where
   -- ---- sizes
@@ -30,7 +32,7 @@ module _ (b : List ℕ) (p : Sheet b) where
   verdicts-length = length-verdict-lines (lines 6 b) (run 100 (program (lines 6 b)) .infos) (told-groups (lines 6 b) (run 100 (program (lines 6 b)) .infos) (run-told 100 (program (lines 6 b))))
 
   verdicts-fit : AllFit 6 (verdicts (lines 6 b))
-  verdicts-fit = verdict-fits 6 (ten 6 (omega arith)) (lines 6 b) (run 100 (program (lines 6 b)) .infos) (fits b p)
+  verdicts-fit = verdict-fits 6 (ten 6 (omega arith)) (lines 6 b) (run 100 (program (lines 6 b)) .infos) (wholes (lines 6 b) (p .passed)) (run-told 100 (program (lines 6 b))) (fits b p)
 
   whole : length b % 32 ≡ 0
   unfolding row1
@@ -113,6 +115,11 @@ module _ (b : List ℕ) (p : Sheet b) where
         → set (upto b i old) (i * 32 + 18) (48 + k) ≡ upto b (suc i) old
     upto-keep x m n k l e f =
         rw (upto-here, upto-next, e, f) (put-digit (front i) (back i old) i (front-length i (omega arith)) x (m ∷ n ∷ 0 ∷ 0 ∷ 0 ∷ []) 2 k (i * 32 + 18) refl (omega arith) refl l (omega arith))
+
+    -- number 2, with all its columns
+    pub upto-tag : (x m n z k : ℕ) (r : List ℕ) → line-at (lines 6 b) i ≡ row x (m ∷ n ∷ z ∷ r) → line-at (verdicts (lines 6 b)) i ≡ row x (m ∷ n ∷ k ∷ r)
+        → take (i * 32 + 13) (upto b i old) ++ (write 6 k ++ drop (i * 32 + 13 + 6) (upto b i old)) ≡ upto b (suc i) old
+    upto-tag x m n z k r e f = put-third (front i) (back i old) i (front-length i (omega arith)) x m n z k r (upto b i old) (rw e at upto-here) ∙ sym (rw f at upto-next)
 
     -- the first three numbers, which were 0
     pub upto-three : (x m n k : ℕ) → m < 10 → n < 10 → k < 10 → line-at (lines 6 b) i ≡ row x (0 ∷ 0 ∷ 0 ∷ 0 ∷ 0 ∷ []) → line-at (verdicts (lines 6 b)) i ≡ row x (m ∷ n ∷ k ∷ 0 ∷ 0 ∷ [])

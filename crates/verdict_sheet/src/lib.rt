@@ -1,4 +1,4 @@
-// The verdict sheet: a copy of the sheet, in which single bytes of local declarations' D, F and V lines are changed.
+// The verdict sheet: a copy of the sheet, in which local declarations' D, F and V lines have single bytes changed, and their C lines get tags.
 mod overlay;
 
 use overlay::THIRD;
@@ -9,7 +9,7 @@ ghost use lib.ListN.{length};
 ghost use Rattle.sheet.specs.Format.{base};
 ghost use Rattle.sheet.specs.Sheet.{lines};
 ghost use Rattle.meaning.specs.Program.{field-line};
-ghost use Rattle.meaning.specs.Rows.{count-of, count-before};
+ghost use Rattle.meaning.specs.Rows.{count-of};
 ghost use Rattle.answer.specs.Answer.{verdict-sheet, after};
 ghost use Rattle.row4_limits.specs.Limits.{start};
 ghost use Rattle.table_access.specs.Tables.{decls-of, lines-in};
@@ -17,9 +17,15 @@ ghost use Rattle.table_access.specs.OfSheet.{OfSheet};
 ghost use Rattle.keep_fields.specs.Keeps.{Slotted};
 ghost use Rattle.keep_layouts.specs.States.{Settled};
 ghost use Rattle.left_laws.specs.Lefts.{Recorded};
-ghost use Rattle.verdict_sheet.specs.Upto.{Known, Next, Moved, upto};
+ghost use Rattle.verdict_sheet.specs.Upto.{Known, Next, counts-before, Moved, upto};
 
-// Line i of a local declaration d, before which there are f F lines; and how many there are after it.
+// How many F and C lines of the sheet stand before a line.
+struct Counts {
+    fields: usize,
+    ctors: usize,
+}
+
+// Line i of a local declaration d, with the lines before it counted; and the counts with it. F is tested first: most lines are F lines.
 fn put_line(
     s: &[u8],
     t: &[u32],
@@ -29,27 +35,41 @@ fn put_line(
     out: &mut [u8],
     d: usize,
     i: usize,
-    f: usize,
-) -> usize
+    c: Counts,
+) -> Counts
     requires { ⌜ Known (now s) (now t) (now u) (now keep) (now records) ⌝ }
-    requires { ⌜ Next (now s) (now out) d i × (f ≡ count-before field-line (lines 6 (now s)) i) ⌝ }
+    requires { ⌜ Next (now s) (now out) d i × (c ≡ counts-before (lines 6 (now s)) i) ⌝ }
     ensures { λ r. ⌜ Moved (now (s .entry)) (now (out .entry)) (now (out .exit)) i r ⌝ }
 {
     let at = i * LINE;
     let letter = s[at];
+    if letter == b'F' {
+        let f = c.fields;
+        out[at + THIRD] = b'0' + keep[f];
+        let fields = f + 1;
+        return Counts {
+            fields,
+            ctors: c.ctors,
+        };
+    }
+    if letter == b'C' {
+        let k = c.ctors;
+        let ctors = k + 1;
+        overlay::put_tag(s, t, out, d, i, k);
+        return Counts {
+            fields: c.fields,
+            ctors,
+        };
+    }
     if letter == b'D' {
         out[at] = b'I';
-        return f;
-    }
-    if letter == b'F' {
-        out[at + THIRD] = b'0' + keep[f];
-        return f + 1;
+        return c;
     }
     if letter == b'V' {
         overlay::put_verdict(s, t, u, records, out, d, i);
-        return f;
+        return c;
     }
-    f
+    c
 }
 
 // The lines of declaration d; an import's stay.
@@ -63,9 +83,12 @@ fn put_decl(s: &[u8], t: &[u32], u: &[u16], keep: &[u8], records: &[u8], out: &m
     }
     let end = table_access::line_of(t, d + 1);
     let mut i = table_access::line_of(t, d);
-    let mut f = table_access::first_field(t, d);
+    let mut c = Counts {
+        fields: table_access::first_field(t, d),
+        ctors: table_access::first_ctor(t, d),
+    };
     while i < end {
-        f = put_line(s, t, u, keep, records, out, d, i, f);
+        c = put_line(s, t, u, keep, records, out, d, i, c);
         i += 1;
     }
 }

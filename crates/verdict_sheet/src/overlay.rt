@@ -1,4 +1,5 @@
-// The verdict sheet over a copy of the sheet: the copy, and a V line. `upto` says what stands in the output when some lines are written.
+// The verdict sheet over a copy of the sheet: the copy, a C line and a V line. `upto` says what stands in the output when some lines are written.
+use sheet_parts::COLUMNS;
 use sheet_parts::LINE;
 ghost use mathlib.Core.Path.{_≡_};
 ghost use mathlib.Core.List.{_++_};
@@ -9,7 +10,8 @@ ghost use Rattle.number_columns.specs.Column.{pick};
 ghost use Rattle.sheet.specs.Sheet.{lines};
 ghost use Rattle.model.specs.Decl as decl;
 ghost use Rattle.model.specs.Run.{layout-of-decl};
-ghost use Rattle.meaning.specs.Program.{program};
+ghost use Rattle.meaning.specs.Program.{ctor-line, program};
+ghost use Rattle.meaning.specs.Rows.{count-before};
 ghost use Rattle.table_access.specs.Tables.{decls-of, lines-in, Tabled};
 ghost use Rattle.table_access.specs.OfSheet.{OfSheet};
 ghost use Rattle.keep_layouts.specs.States.{Settled};
@@ -31,6 +33,25 @@ pub const FIRST: usize = 6;
 pub const SECOND: usize = 12;
 
 pub const THIRD: usize = 18;
+
+// Where the columns of the third begin.
+const TAG: usize = 13;
+
+// The C line i of a local declaration d, before which c C lines stand in the sheet: its tag number, which is one more than its place
+// among the declaration's constructors. An only constructor has no tag.
+pub fn put_tag(s: &[u8], t: &[u32], out: &mut [u8], d: usize, i: usize, c: usize)
+    requires { ⌜ OfSheet (now s) (now t) × Next (now s) (now out) d i ⌝ }
+    requires { ⌜ (getD (now s) (i * 32) 0 ≡ 67) × (c ≡ count-before ctor-line (lines 6 (now s)) i) ⌝ }
+    ensures { λ _. ⌜ now (out .exit) ≡ upto (now (s .entry)) (suc i) (now (out .entry)) ⌝ }
+{
+    if table_access::decl_number(t, d, 4) == 1 {
+        return;
+    }
+    let first = table_access::first_ctor(t, d);
+    let tag = (c - first + 1) as u32;
+    let at = i * LINE + TAG;
+    sheet_digits::write_six(&mut out[at..at + COLUMNS], tag);
+}
 
 // The layout's number of declaration d: by its cell, and by its body kind where its name is left or abbreviates.
 fn layout_number(t: &[u32], u: &[u16], d: usize) -> u8

@@ -1,18 +1,17 @@
 -- `verdict_sheet::put_decl` meets its contract, line after line. Assumes nothing.
 use mathlib.Core.Bool.{false}
-use mathlib.Core.Path.{_≡_, refl, sym, _∙_}
-use Prim.Native.Nat.{suc, _-_, _≤_}
+use mathlib.Core.Path.{_≡_, refl, ap₂, sym, _∙_}
+use Prim.Native.Nat.{ℕ, suc, _-_, _≤_}
 use native.Mathlib.Omega.{arith}
 use native.Mathlib.Numerals.{add-one}
 use lib.ListN.{length}
 use borrow.Author.Needs.{needs}
 use Rattle.sheet.specs.Sheet.{lines}
-use Rattle.meaning.specs.Program.{field-line, import-line, is}
-use Rattle.meaning.specs.Rows.{count-before}
+use Rattle.meaning.specs.Program.{ctor-line, field-line, import-line, is}
 use Rattle.row4_limits.specs.Limits.{start}
 use Rattle.table_declared.specs.PassedLaws.{decls-few}
 use Rattle.table_access.specs.Tables.{head-line, lines-in}
-use Rattle.verdict_sheet.specs.Upto.{upto}
+use Rattle.verdict_sheet.specs.Upto.{upto, counts-before}
 use Rattle.verdict_sheet.specs.LineLaws.{start-le}
 use Rattle.verdict_sheet.specs.StepLaws.{starts-rise, import-whole, local-next, upto-self, sheet-of}
 use Rattle.verdict_sheet.proofs.put_decl.Statement.{statement}
@@ -20,17 +19,17 @@ use Rattle.table_access.specs.OfSheet.{head-same, decls-same, start-same, first
 use Rattle.verdict_sheet.proofs.put_decl.Tie as tie
 
 abbrev Inv-loop : tie.InvT-loop
-Inv-loop s t u keep records out₀ d end i₀ f₀ out i f =
+Inv-loop s t u keep records out₀ d end i₀ c₀ out i c =
     (start (lines 6 s) d ≤ i)
     × (i ≤ end)
     × (end ≡ start (lines 6 s) (suc d))
     × (is import-line (head-line (lines 6 s) d) ≡ false)
-    × (f ≡ count-before field-line (lines 6 s) i)
+    × (c ≡ counts-before (lines 6 s) i)
     × (out ≡ upto s i out₀)
     × (length out ≡ length out₀)
 
 abbrev μ-loop : tie.MeasureT-loop
-μ-loop s t u keep records out₀ d end i₀ f₀ out i f = end - i
+μ-loop s t u keep records out₀ d end i₀ c₀ out i c = end - i
 
 is-import-requires : tie.Need-is-import-requires Inv-loop μ-loop
 is-import-requires c κs = let a = c .before .before .before .before .before .before in (a .pre .0 .0 .of .tabled, rw (decls-same (a .args .s .now) (a .args .t .now) (a .pre .0 .0 .of)) (a .pre .0 .1))
@@ -52,23 +51,28 @@ line-of-requires-2 c κs = let a = c .before .before .before .before .before .be
 first-field-requires : tie.Need-first-field-requires Inv-loop μ-loop
 first-field-requires c κs = let a = c .before .before .before .before .before .before .before .before .before .before in (a .pre .0 .0 .of .tabled, omega (arith, a .pre .0 .1, decls-same (a .args .s .now) (a .args .t .now) (a .pre .0 .0 .of)))
 
+first-ctor-requires : tie.Need-first-ctor-requires Inv-loop μ-loop
+first-ctor-requires c κs = let a = c .before .before .before .before .before .before .before .before .before .before .before in (a .pre .0 .0 .of .tabled, omega (arith, a .pre .0 .1, decls-same (a .args .s .now) (a .args .t .now) (a .pre .0 .0 .of)))
+
 loop-holds : tie.Need-loop-holds Inv-loop μ-loop
 loop-holds c =
-    let a = c .before .before .before .before .before .before .before .before .before .before .before in
-    let e : c .before .before .line-of .result ≡ start (lines 6 (a .args .s .now)) (suc (a .args .d)) = c .before .before .line-of .ensures ∙ rw add-one (start-same (a .args .s .now) (a .args .t .now) (a .pre .0 .0 .of) (suc (a .args .d))) in
-    let g = c .before .line-of2 .ensures ∙ start-same (a .args .s .now) (a .args .t .now) (a .pre .0 .0 .of) (a .args .d) in (
+    let a = c .before .before .before .before .before .before .before .before .before .before .before .before in
+    let e : c .before .before .before .line-of .result ≡ start (lines 6 (a .args .s .now)) (suc (a .args .d)) = c .before .before .before .line-of .ensures ∙ rw add-one (start-same (a .args .s .now) (a .args .t .now) (a .pre .0 .0 .of) (suc (a .args .d))) in
+    let g = c .before .before .line-of2 .ensures ∙ start-same (a .args .s .now) (a .args .t .now) (a .pre .0 .0 .of) (a .args .d) in
+    let f = c .before .first-field .ensures ∙ first-same (a .args .s .now) (a .args .t .now) (a .pre .0 .0 .of) field-line (a .args .d) in
+    let k = c .first-ctor .ensures ∙ first-same (a .args .s .now) (a .args .t .now) (a .pre .0 .0 .of) ctor-line (a .args .d) in (
       omega (arith, g),
       omega (arith, g, e, starts-rise (a .args .s .now) (sheet-of (a .args .s .now) (a .args .t .now) (a .pre .0 .0 .of)) (a .args .d) (a .pre .0 .1)),
       e,
-      sym (head-same (a .args .s .now) (a .args .t .now) (a .pre .0 .0 .of) import-line (a .args .d)) ∙ sym (c .before .before .before .before .is-import .ensures) ∙ c .before .before .before .if1 .left,
-      rw g (c .first-field .ensures ∙ first-same (a .args .s .now) (a .args .t .now) (a .pre .0 .0 .of) field-line (a .args .d)),
+      sym (head-same (a .args .s .now) (a .args .t .now) (a .pre .0 .0 .of) import-line (a .args .d)) ∙ sym (c .before .before .before .before .before .is-import .ensures) ∙ c .before .before .before .before .if1 .left,
+      rw g (ap₂ (λ (x y : ℕ). record { fields = x; ctors = y }) f k),
       rw g (a .pre .1 .1),
       refl,
     )
 
 put-line-requires : tie.Need-put-line-requires Inv-loop μ-loop
 put-line-requires c κs =
-    let a = c .before .before .before .before .before .before .before .before .before .before .before .before .before .before in
+    let a = c .before .before .before .before .before .before .before .before .before .before .before .before .before .before .before in
     let l = c .before .before .loop in
     let z = c .before .loop-test .taken in
     let p = sheet-of (a .args .s .now) (a .args .t .now) (a .pre .0 .0 .of) in (
@@ -88,7 +92,7 @@ put-line-requires c κs =
 
 loop-again : tie.Need-loop-again Inv-loop μ-loop
 loop-again c =
-    let a = c .before .before .before .before .before .before .before .before .before .before .before .before .before .before .before .before .before in
+    let a = c .before .before .before .before .before .before .before .before .before .before .before .before .before .before .before .before .before .before in
     let l = c .before .before .before .before .before .loop in
     let z = c .before .before .before .before .loop-test .taken in
     let k = c .before .before .put-line in
@@ -97,7 +101,7 @@ loop-again c =
       omega arith,
       l .inv .2,
       l .inv .3,
-      rw add-one (k .ensures .fields),
+      rw add-one (k .ensures .counts),
       rw add-one (local-next (a .args .s .now) p (a .args .d) (a .pre .0 .1) (a .args .out .now) (l .out) _ (l .i) (omega (arith, l .inv .2)) (l .inv .5) (k .ensures .written)),
       k .kept .1 .1 .1 .1 .1 .0 ∙ l .inv .6,
     )
@@ -107,7 +111,7 @@ same-length c = c .before .loop .inv .6
 
 returns-2 : tie.Need-returns-2 Inv-loop μ-loop
 returns-2 c =
-    let a = c .before .before .before .before .before .before .before .before .before .before .before .before .before in
+    let a = c .before .before .before .before .before .before .before .before .before .before .before .before .before .before in
     let l = c .before .loop in
     let e : l .i ≡ start (lines 6 (a .args .s .now)) (suc (a .args .d)) = omega (arith, l .inv .1, l .inv .2, c .loop-test .left) in
     rw e at (l .inv .5)
@@ -124,6 +128,7 @@ put-decl-spec =
     line-of-requires
     line-of-requires-2
     first-field-requires
+    first-ctor-requires
     loop-holds
     put-line-requires
     (λ c. search needs)
