@@ -10,19 +10,19 @@ use mathlib.Core.Bool.{Bool, true, false}
 use mathlib.Core.Option.{none, some}
 use Prim.Native.Nat.{ℕ, suc, _+_, _*_, _^_, _-_, _≤_, _<_}
 use native.Mathlib.Omega.{arith}
-use lib.ListN.{length, getD}
+use lib.ListN.{length, getD, take}
 use Rattle.sheet.specs.Format.{base}
 use Rattle.sheet.specs.Line.{Line, row, letter, number}
 use Rattle.sheet.specs.Sheet.{count, lines}
 use Rattle.model.specs.Cty.{Cty}
-use Rattle.model.specs.Decl.{NewtypeLayout, L-newtype, TypeInfo, here, imported, dtype-at, origin-at}
+use Rattle.model.specs.Decl.{CtorLayout, NewtypeLayout, L-newtype, TypeInfo, here, imported, dtype-at, origin-at}
 use Rattle.model.specs.Reach.{Reach}
 use Rattle.model.specs.Layout.{guard-next, passes-of, source-layouts, Candidate}
 use Rattle.model.specs.Resolve.{stays, abbreviation-of, unfolds}
 use Rattle.model.specs.Run.{run, info-at, lay, layouts-of, layout-of-decl, resolves}
 use Rattle.model.specs.Names.{Declared, Agree}
-use Rattle.meaning.specs.Program.{type-line, trees}
-use Rattle.meaning.specs.Rows.{line-at, heads-before, head-of}
+use Rattle.meaning.specs.Program.{type-line, ctor-line, trees}
+use Rattle.meaning.specs.Rows.{line-at, heads-before, head-of, ctors-after}
 use Rattle.meaning.specs.Output.{verdict-line-of}
 use Rattle.model_patterns.specs.Pat.{pat-vars, ctor-owner, type-layout, occurrences, Once, Fitting}
 use Rattle.meaning_patterns.specs.Patterns.{pattern-line, pattern, pat-lines}
@@ -38,7 +38,7 @@ use Rattle.answer_reach.specs.Given.{input-refusal, declared, Indexes}
 use Rattle.set_bits.specs.Bits.{has}
 use Rattle.sheet.specs.FormatLaws.{base-ample}
 use Rattle.answer_laws.specs.Pass.{own-imports}
-use Rattle.claims.specs.Claims.{Accepts, decl-lines, pattern-lines, decls, marks, erased, Least, Rounds, LocalVerdict, GuardMore, LoopsLeft, Unspent, OfSource, Unchanged, Holds, Same, FirstUnits, ReachSet, ReachCount, sheet-pattern, sheet-rewritten, PatternOfSource}
+use Rattle.claims.specs.Claims.{Accepts, decl-lines, pattern-lines, decls, marks, erased, Least, Rounds, LocalVerdict, Tags, TagLine, GuardMore, LoopsLeft, Unspent, OfSource, Unchanged, Holds, Same, FirstUnits, ReachSet, ReachCount, sheet-pattern, sheet-rewritten, PatternOfSource}
 use Rattle.claims.specs.Claims as claims
 
 -- ---- demand 1: refusals
@@ -71,6 +71,15 @@ rounds = claims.rounds base
 pub kept-fields : (b : List ℕ) (v l : ℕ) → Accepts base b v l → (i : ℕ) → i < length (decls base b) → origin-at (decls base b) i ≡ here
     → (d : TypeInfo) → LocalVerdict 100 (decls base b) i (getD (run 100 (decls base b) .infos) i d)
 kept-fields = claims.kept-fields base
+
+-- the tags of a declaration's constructors: none of a single one, else 0, 1, .. in order
+pub tags : (b : List ℕ) (v l : ℕ) → Accepts base b v l → (i : ℕ) → i < length (decls base b) → (d : TypeInfo) → Tags (dtype-at (decls base b) i) (getD (run 100 (decls base b) .infos) i d .ti-ctors)
+tags = claims.tags base
+
+-- so those of two constructors differ
+pub tags-apart : (b : List ℕ) (v l : ℕ) → Accepts base b v l → (i : ℕ) → i < length (decls base b) → (d : TypeInfo) → let cls = getD (run 100 (decls base b) .infos) i d .ti-ctors in
+    (j k : ℕ) (x : CtorLayout) → j < length cls → k < length cls → getD cls j x .cl-tag ≡ getD cls k x .cl-tag → j ≡ k
+tags-apart = claims.tags-apart base
 
 -- a constructor collapses exactly where the guards allow
 pub collapsed : (b : List ℕ) (v l : ℕ) → Accepts base b v l → (i : ℕ) → i < length (decls base b) → origin-at (decls base b) i ≡ here → (nt : NewtypeLayout)
@@ -143,11 +152,16 @@ cut-calls v l b header u us z = claims.cut-calls base v l b header u us z (omega
 pub verdict-length : (b : List ℕ) (v l : ℕ) → Accepts base b v l → length (answer base b v l .verdict) ≡ length b
 verdict-length b v l = claims.verdict-length base b v l (omega arith)
 
--- line by line: D has become I, and local declarations have their keep and V numbers
+-- line by line: D has become I, and local declarations have their tags, keep and V numbers
 pub verdict-lines-told : (b : List ℕ) (v l : ℕ) → Accepts base b v l → (i : ℕ) → i < count 6 (front 6 b)
     → line-at (lines 6 (answer base b v l .verdict)) i
-    ≡ verdict-line-of (erased (decls base b)) (trees (decl-lines base b)) (info-at 100 (decls base b) (heads-before (decl-lines base b) (suc i) - 1)) (head-of (decl-lines base b) i) (line-at (decl-lines base b) i)
+    ≡ verdict-line-of (erased (decls base b)) (trees (decl-lines base b)) (info-at 100 (decls base b) (heads-before (decl-lines base b) (suc i) - 1)) (head-of (decl-lines base b) i) (ctors-after 0 (take i (decl-lines base b))) (line-at (decl-lines base b) i)
 verdict-lines-told b v l = claims.verdict-lines-told base b v l (omega arith)
+
+-- the third number of a C line of the verdict sheet: 0 of a single constructor, else its place in its declaration plus one
+pub tag-lines : (b : List ℕ) (v l : ℕ) → Accepts base b v l → (i : ℕ) → i < count 6 (front 6 b) → letter (line-at (decl-lines base b) i) ≡ ctor-line
+    → TagLine (number (head-of (decl-lines base b) i) 4) (ctors-after 0 (take i (decl-lines base b))) (number (line-at (lines 6 (answer base b v l .verdict)) i) 2)
+tag-lines b v l = claims.tag-lines base b v l (omega arith)
 
 -- Q lines stay
 pub verdict-patterns-stay : (b : List ℕ) (v l : ℕ) → Accepts base b v l → (i : ℕ) → line-at (lines 6 (answer base b v l .verdict)) (count 6 (front 6 b) + i) ≡ line-at (pattern-lines base b) i

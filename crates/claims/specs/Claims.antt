@@ -14,10 +14,10 @@ use mathlib.Core.Bool.{Bool, true, false, not}
 use mathlib.Core.Option.{Option, none, some}
 use Prim.Native.Nat.{_+_, _*_, _^_, _-_, ℕ, suc, _≤_, _<_}
 use native.Mathlib.Omega.{arith}
-use lib.Dec.{T}
-use lib.ListN.{length, getD, drop, List·getD-append}
+use lib.Dec.{T, eqb}
+use lib.ListN.{length, getD, take, drop, List·getD-append}
 use lib.Seq.{getD-append-add}
-use borrow.Author.Tests.{not-false}
+use borrow.Author.Tests.{eqb-true, eqb-false, ne-eqb, not-false}
 use Rattle.sheet.specs.Format.{Format, Ample, lineBytes}
 use Rattle.sheet.specs.Line.{Line, row, bad, letter, number}
 use Rattle.sheet.specs.SheetLaws.{length-lines, lines-append}
@@ -26,6 +26,8 @@ use Rattle.sheet.specs.Sheet.{count, lines, encodes}
 use Rattle.model.specs.Cty.{Cty}
 use Rattle.model.specs.Decl.{
   Dtype,
+  CtorLayout,
+  tag-number,
   NewtypeLayout,
   L-newtype,
   TypeInfo,
@@ -40,7 +42,7 @@ use Rattle.model.specs.Decl.{
 }
 use Rattle.model.specs.Erasure.{cty-erased, marked, rule, start, erasure-fixpoint, Made, locals}
 use Rattle.model.specs.Reach.{Reach, nodes}
-use Rattle.model.specs.Layout.{ctor-layouts, guard-next, source-guard-next, Candidate, candidates-of, passes-of, source-layouts}
+use Rattle.model.specs.Layout.{ctor-tag, ctor-layouts, guard-next, source-guard-next, Candidate, candidates-of, passes-of, source-layouts}
 use Rattle.model.specs.Resolve.{stays, abbreviation-of, unfolds, resolve, ok, resolve-checked}
 use Rattle.model.specs.Run.{record-of, left-program, run, layouts-of, resolves, decl-fault, unfold-next, returns, Abbreviates, ImportedNewtype, lay, layout-of-decl, left-at, info-at}
 use Rattle.model.specs.Names.{Declared, Agree, OwnImports}
@@ -57,10 +59,11 @@ use Rattle.model_laws.specs.Rename.{Injective, rename-decls, SameRenamed, local
 use Rattle.model_patterns.specs.Pat.{Pat, pat-vars, ctor-owner, type-layout, Rewritten, rewritten, occurrences, Once, Fitting}
 use Rattle.model_patterns.specs.Laws.Accounted as accounted
 use Rattle.model_patterns.specs.Laws.Fields as fields
-use Rattle.meaning.specs.Program.{name-line, type-line, trees, program}
-use Rattle.meaning.specs.Rows.{line-at, count-of, heads-before, head-of}
+use Rattle.meaning.specs.Program.{name-line, type-line, ctor-line, is, trees, program}
+use Rattle.meaning.specs.Rows.{line-at, count-of, heads-before, head-of, ctors-after}
 use Rattle.meaning.specs.Output.{verdict-lines, verdict-line-of, left-lines}
 use Rattle.meaning_laws.specs.Verdict.{verdict-line-at}
+use Rattle.meaning_laws.specs.Rows.{ctor-declared}
 use Rattle.meaning_patterns.specs.Patterns.{pattern-line, pattern, good-pattern, pat-lines, rewritten-lines}
 use Rattle.pattern_laws.specs.Linked.{AllGood}
 use Rattle.pattern_laws.specs.ReadBack as back
@@ -72,7 +75,7 @@ use Rattle.answer.specs.Cut as old-cut
 use Rattle.answer_laws.specs.Answer.{Nothing, after-length, after-past}
 use Rattle.answer_laws.specs.Answer as old-laws
 use Rattle.answer_laws.specs.Left.{pass-no-return, pass-resolved, few-decls, left-sheet-names, pass-fit}
-use Rattle.answer_laws.specs.Build.{passes-whole, whole-append}
+use Rattle.answer_laws.specs.Build.{passes-ends, passes-whole, whole-append}
 use Rattle.answer_patterns.specs.Whole.{front, tail, rows, following, left-sheet, answer}
 use Rattle.answer_patterns.specs.Passes.{Passes}
 use Rattle.answer_patterns.specs.Cut.{build, builds, Cut, Call, Over, InTurn, last-call, AllAccept, Wrote}
@@ -82,7 +85,7 @@ use Rattle.answer_pattern_laws.specs.Sheets.{left-sheet-tail}
 use Rattle.answer_pattern_laws.specs.PassesLaws as passes
 use Rattle.answer_pattern_laws.specs.Calls as calls
 use Rattle.answer_pattern_laws.specs.CutLaws as cuts
-use Rattle.answer_pattern_laws.specs.Owners.{slots-counted, program-sound}
+use Rattle.answer_pattern_laws.specs.Owners.{slots-counted, program-sound, program-laid}
 use Rattle.answer_pattern_laws.specs.Counted.{pattern-counted}
 use Rattle.answer_pattern_laws.specs.Following.{following-letters, following-few}
 use Rattle.answer_reach.specs.Index.{decl-next, reaches, reached-count, x-line}
@@ -90,8 +93,8 @@ use Rattle.answer_reach.specs.Given.{input-refusal, IndexOf}
 use Rattle.set_bits.specs.Bits.{has}
 use Rattle.set_closure.specs.Ones.{ones-of}
 use Rattle.reach_laws.specs.IndexLaws as reach
-use Rattle.claims.specs.Unerased.{unerased}
-use Rattle.claims.specs.ClaimsLaws.{true-of, answer-rounds, answer-verdict, answer-left, front-passes, map-ctors, left-length, verdicts, length-verdicts, told-lines, first-builds, first-verdict, first-lefts}
+use Rattle.claims.specs.Unerased.{unerased-ctor, kept-ctor}
+use Rattle.claims.specs.ClaimsLaws.{true-of, answer-rounds, answer-verdict, answer-left, front-passes, kept-ctors, kept-slots, laid-at, tag-placed, tag-line, row7-tag, left-length, verdicts, length-verdicts, told-lines, first-builds, first-verdict, first-lefts}
 
 -- ---- words
 -- accepted: the refusal line shows code 0
@@ -145,15 +148,14 @@ rounds f b v l a =
     let e : answer f b v l .rounds ≡ erasure-fixpoint ds .rounds = answer-rounds f b v l a in
     record { reported = e; made = erasure-made ds; few = rw e (erasure-rounds ds) }
 
--- KEPT. A local type keeps exactly the fields whose types are not erased, in order. Its verdict says
--- whether it is erased, its layout is the computed one, and its record number is read off what is left of
--- it (no where nothing is).
+-- KEPT. A local type keeps exactly the fields whose types are not erased, in order, and has a slot for each field, which says
+-- whether it is kept. Its verdict says whether it is erased, its layout is the computed one, and its record number is read off
+-- what is left of it (no where nothing is).
 pub record LocalVerdict (fuel : ℕ) (ds : List Decl) (i : ℕ) (ti : TypeInfo) : Type 0 where
   pub is-erased : ti .ti-erased ≡ getD (marks ds) i false
   pub layout : ti .ti-layout ≡ layout-of-decl ds i
-  pub fields :
-      ti .ti-ctors
-      ≡ map (λ c. record { cl-name = c .ct-name; cl-slots = map (λ x. not (cty-erased (erased ds) (x .fd-type))) (c .ct-fields); cl-fields = unerased (erased ds) (c .ct-fields) }) (ctors-of-tydef (dtype-at ds i))
+  pub fields : map kept-ctor (ti .ti-ctors) ≡ map (unerased-ctor (erased ds)) (ctors-of-tydef (dtype-at ds i))
+  pub slots : map (λ cl. cl .cl-slots) (ti .ti-ctors) ≡ map (λ c. map (λ x. not (cty-erased (erased ds) (x .fd-type))) (c .ct-fields)) (ctors-of-tydef (dtype-at ds i))
   pub record-number : ti .ti-record ≡ record-of (left-at fuel ds i)
 
 pub kept-fields : (f : Format) (b : List ℕ) (v l : ℕ) → Accepts f b v l → (i : ℕ) → i < length (decls f b) → origin-at (decls f b) i ≡ here
@@ -162,7 +164,44 @@ unfolding ctor-layouts
 kept-fields f b v l a i h o d =
     let ds : List Decl = decls f b in
     rw (getD-infos (f .fuel) ds i d h, local-info (f .fuel) ds i o)
-    (record { is-erased = refl; layout = refl; fields = map-ctors (erased ds) (ctors-of-tydef (dtype-at ds i)); record-number = refl })
+    (record { is-erased = refl; layout = refl; fields = kept-ctors (erased ds) _ (ctors-of-tydef (dtype-at ds i)); slots = kept-slots (erased ds) _ (ctors-of-tydef (dtype-at ds i)); record-number = refl })
+
+-- TAGS. Of every declaration, local or imported, a constructor's layout is stored with its tag: none where it is the only one, else
+-- 0, 1, .. in the order of the constructors. So two constructors of one type have different tags.
+pub record Tags (d : Dtype) (cls : List CtorLayout) : Type 0 where
+  pub as-many : length cls ≡ length (ctors-of-tydef d)
+  pub single : length cls ≡ 1 → (x : CtorLayout) → getD cls 0 x .cl-tag ≡ none
+  pub several : (length cls ≡ 1 → ⊥) → (k : ℕ) → k < length cls → (x : CtorLayout) → getD cls k x .cl-tag ≡ some k
+
+pub tags : (f : Format) (b : List ℕ) (v l : ℕ) → Accepts f b v l → (i : ℕ) → i < length (decls f b) → (d : TypeInfo)
+    → Tags (dtype-at (decls f b) i) (getD (run (f .fuel) (decls f b) .infos) i d .ti-ctors)
+tags f b v l a i h d =
+    let p : alone.Passes f (front (f .columns) b) v l = front-passes f b v l a in
+    let ls : List Line = decl-lines f b in
+    let cls : List CtorLayout = getD (run (f .fuel) (decls f b) .infos) i d .ti-ctors in
+    let t = tag-placed (f .fuel) ls (passes-whole f (front (f .columns) b) v l p) (λ j k. p .pass7 j (omega (arith, length-lines (f .columns) (front (f .columns) b)))) i h d in
+    record {
+      as-many = laid-at (decls f b) (run (f .fuel) (decls f b) .infos) (program-laid (f .fuel) ls) i d h;
+      single = λ e x. t 0 x (omega arith) ∙ ap (λ (n : ℕ). ctor-tag n 0) e;
+      several = λ n k q x. t k x q ∙ rw (ne-eqb (length cls) 1 n);
+    }
+
+pub tags-apart : (f : Format) (b : List ℕ) (v l : ℕ) → Accepts f b v l → (i : ℕ) → i < length (decls f b) → (d : TypeInfo) → let cls = getD (run (f .fuel) (decls f b) .infos) i d .ti-ctors in
+    (j k : ℕ) (x : CtorLayout) → j < length cls → k < length cls → getD cls j x .cl-tag ≡ getD cls k x .cl-tag → j ≡ k
+tags-apart f b v l a i h d j k x p q e = go (eqb n 1) refl
+  where
+    n : ℕ
+    n = length (getD (run (f .fuel) (decls f b) .infos) i d .ti-ctors)
+
+    t : Tags (dtype-at (decls f b) i) (getD (run (f .fuel) (decls f b) .infos) i d .ti-ctors)
+    t = tags f b v l a i h d
+
+    go : (c : Bool) → eqb n 1 ≡ c → j ≡ k
+    go true m = omega (arith, eqb-true n 1 m)
+    go false m = some-injective (sym (t .several (eqb-false n 1 m) j p x) ∙ (e ∙ t .several (eqb-false n 1 m) k q x))
+      where
+        some-injective : {c d : ℕ} → some c ≡ some d → c ≡ d
+        some-injective y = cc
 
 -- IMPORTS. An import keeps what its lines say: erasure, layout, kept fields and record; and the layout that
 -- its lines say is the one that resolution goes by.
@@ -275,18 +314,50 @@ verdict-length f b v l pos a =
     let p : Passes f b v l = passes.accepted-passes f b v l a in
     ap length (answer-verdict f b v l a ∙ sym (calls.verdict-parts f b v l p)) ∙ calls.verdict-length f b v l p pos
 
--- VERDICT LINES. Line i of the verdict sheet is line i of the sheet, but for D lines and the F and V lines of
--- D declarations (`verdict-line-of`): there D has become I, the keep number is 1 exactly where the field's
--- type is not erased, and V has the verdict's numbers. Q lines stay.
+-- VERDICT LINES. Line i of the verdict sheet is line i of the sheet, but for D lines and the C, F and V lines of
+-- D declarations (`verdict-line-of`): there D has become I, a C line has its tag's number, the keep number is 1 exactly
+-- where the field's type is not erased, and V has the verdict's numbers. Q lines stay.
 pub verdict-lines-told : (f : Format) (b : List ℕ) (v l : ℕ) → 0 < f .columns → Accepts f b v l → (i : ℕ) → i < count (f .columns) (front (f .columns) b)
     → line-at (lines (f .columns) (answer f b v l .verdict)) i
-    ≡ verdict-line-of (erased (decls f b)) (trees (decl-lines f b)) (info-at (f .fuel) (decls f b) (heads-before (decl-lines f b) (suc i) - 1)) (head-of (decl-lines f b) i) (line-at (decl-lines f b) i)
+    ≡ verdict-line-of (erased (decls f b)) (trees (decl-lines f b)) (info-at (f .fuel) (decls f b) (heads-before (decl-lines f b) (suc i) - 1)) (head-of (decl-lines f b) i) (ctors-after 0 (take i (decl-lines f b))) (line-at (decl-lines f b) i)
 verdict-lines-told f b v l pos a i h =
     let p : alone.Passes f (front (f .columns) b) v l = front-passes f b v l a in
     let n : i < length (verdicts f (decl-lines f b)) = omega (arith, length-verdicts f (decl-lines f b), length-lines (f .columns) (front (f .columns) b)) in
     ap (λ (ls : List Line). line-at ls i) (told-lines f b v l a pos)
     ∙ (List·getD-append (verdicts f (decl-lines f b)) (pattern-lines f b) bad i n
     ∙ verdict-line-at (f .fuel) (decl-lines f b) (passes-whole f (front (f .columns) b) v l p) i (omega (arith, length-lines (f .columns) (front (f .columns) b))))
+
+-- TAG LINES. In the verdict sheet the third number of a C line, of a local or an imported declaration, is 0 where the declaration
+-- has one constructor, else one more than there are C lines of the declaration before it.
+pub record TagLine (ctors before third : ℕ) : Type 0 where
+  pub single : ctors ≡ 1 → third ≡ 0
+  pub several : (ctors ≡ 1 → ⊥) → third ≡ suc before
+
+pub tag-lines : (f : Format) (b : List ℕ) (v l : ℕ) → 0 < f .columns → Accepts f b v l → (i : ℕ) → i < count (f .columns) (front (f .columns) b) → letter (line-at (decl-lines f b) i) ≡ ctor-line
+    → TagLine (number (head-of (decl-lines f b) i) 4) (ctors-after 0 (take i (decl-lines f b))) (number (line-at (lines (f .columns) (answer f b v l .verdict)) i) 2)
+tag-lines f b v l pos a i h e =
+    record {
+      single = λ n. t ∙ ap (λ (m : ℕ). tag-number (ctor-tag m k)) n;
+      several = λ n. t ∙ rw (ne-eqb (number (head-of ls i) 4) 1 n);
+    }
+  where
+    ls : List Line
+    ls = decl-lines f b
+
+    k : ℕ
+    k = ctors-after 0 (take i ls)
+
+    p : alone.Passes f (front (f .columns) b) v l
+    p = front-passes f b v l a
+
+    c : is ctor-line (line-at ls i) ≡ true
+    c = rw e
+
+    t : number (line-at (lines (f .columns) (answer f b v l .verdict)) i) 2 ≡ tag-number (ctor-tag (number (head-of ls i) 4) k)
+    t =
+        ap (λ (x : Line). number x 2) (verdict-lines-told f b v l pos a i h)
+        ∙ tag-line (erased (decls f b)) (trees ls) (info-at (f .fuel) (decls f b) (heads-before ls (suc i) - 1)) (head-of ls i) k (line-at ls i)
+        (ctor-declared ls (passes-ends f (front (f .columns) b) v l p) i (omega (arith, length-lines (f .columns) (front (f .columns) b))) c) c (row7-tag ls i (p .pass7 i h) c)
 
 pub verdict-patterns-stay : (f : Format) (b : List ℕ) (v l : ℕ) → 0 < f .columns → Accepts f b v l → (i : ℕ)
     → line-at (lines (f .columns) (answer f b v l .verdict)) (count (f .columns) (front (f .columns) b) + i) ≡ line-at (pattern-lines f b) i
