@@ -14,9 +14,9 @@ pub fn damage(random: &mut Random, sheet: &mut Vec<u8>) {
     }
     let mut at = random.below(lines) * LINE;
     if random.percent(30) {
-        // fields, verdicts and patterns more often
+        // constructors, fields, verdicts and patterns more often
         let these: Vec<usize> =
-            (0..lines).map(|i| i * LINE).filter(|&i| matches!(sheet[i], b'F' | b'V' | b'Q')).collect();
+            (0..lines).map(|i| i * LINE).filter(|&i| matches!(sheet[i], b'C' | b'F' | b'V' | b'Q')).collect();
         if !these.is_empty() {
             at = *random.pick(&these);
         }
@@ -185,9 +185,11 @@ pub fn limit(random: &mut Random) -> Vec<u8> {
         }
         5 => {
             lines.extend(names(256));
-            lines.push(row('D', [0, 0, 3, 0, 256 + over]));
-            lines.extend((0..256 + over).map(|i| row('C', [i, 0, 0, 0, 0])));
-            lines.push(row('V', [0; 5]));
+            // the largest tag, in an import
+            let import = random.below(2);
+            lines.push(row(['D', 'I'][import], [0, 0, 3, 0, 256 + over]));
+            lines.extend((0..256 + over).map(|i| row('C', [i, 0, import * (i + 1), 0, 0])));
+            lines.push(row('V', [0, import * 2, 0, 0, 0]));
         }
         6 => {
             // as deep, or as wide, as can be

@@ -2,6 +2,7 @@
 //! surplus arguments, types near the limit, and now and then a wrong count or a loop.
 
 use crate::random::Random;
+use crate::tags;
 use reference::line::Line;
 pub use reference::output::bytes;
 
@@ -90,6 +91,7 @@ pub fn generate(random: &mut Random, plan: Plan) -> Vec<Line> {
     lines.extend(draft.args.iter().map(|&t| Line::row(b'A', [t, 0, 0, 0, 0])));
     lines.extend(draft.ys.iter().map(|&y| Line::row(b'Y', y)));
     lines.extend(decls);
+    tags::put(&mut lines);
     lines
 }
 

@@ -11,6 +11,7 @@ pub mod reach;
 pub mod ring;
 pub mod run;
 pub mod shrink;
+pub mod tags;
 
 use reference::line::Line;
 use reference::pass::Way;
@@ -254,6 +255,10 @@ pub fn sheet(seed: u64, index: u64) -> Vec<u8> {
                 damage::damage(&mut random, &mut sheet);
             }
             sheet
+        }
+        482..=511 => {
+            let lines = tags::tagging(&mut random);
+            ending(&mut random, lines)
         }
         _ => {
             let plan = generate::Plan::any(&mut random);

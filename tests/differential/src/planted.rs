@@ -2,14 +2,17 @@
 //! a slip in the product would change it. This tests the comparison and needs no product; tests/planted
 //! plants faults in the product itself.
 
+use crate::tags::ctors;
 use crate::{Answer, Build, Said};
+use reference::line::{raw_line, write_number, Line};
 use reference::pass::Way;
 use reference::reach::{reach_in, SET_WORDS, WORDS};
 
 /// The faults, by name.
 pub const FAULTS: &[&str] = &[
     "record", "rounds", "keep", "place12", "code10", "spill", "import", "list", "code9", "refusal", "code13", "freed",
-    "twice", "field", "node", "itself", "second", "absent", "words",
+    "twice", "field", "node", "itself", "second", "absent", "words", "tags", "single", "over", "left", "code7",
+    "place7",
 ];
 
 pub struct Planted {
@@ -20,6 +23,11 @@ pub struct Planted {
 fn written(out: &[u8], old: &[u8], letter: u8) -> Vec<usize> {
     let end = out.iter().zip(old).rposition(|(a, b)| a != b).map_or(0, |i| i + 1);
     (0..end / 32).map(|i| i * 32).filter(|&i| out[i] == letter).collect()
+}
+
+/// Another tag number in the line at a place.
+fn put_tag(out: &mut [u8], at: usize, number: u32) {
+    out[at + 13..][..6].copy_from_slice(&write_number(number));
 }
 
 impl Build for Planted {
@@ -107,6 +115,31 @@ impl Build for Planted {
                 for (q, new) in lines(verdict, b'Q').into_iter().zip(written(left, &old_left, b'Q')) {
                     verdict[q..q + 32].copy_from_slice(&left[new..new + 32]);
                 }
+            }
+            // in local declarations tags begin at 1, a single constructor has one, they are counted over the sheet
+            fault @ ("tags" | "single" | "over") if accepted => {
+                let lines: Vec<Line> = sheet.chunks_exact(32).map(raw_line).collect();
+                for (i, c) in ctors(&lines).into_iter().enumerate().filter(|(_, c)| !c.import) {
+                    let number = match fault {
+                        "tags" if c.count > 1 => c.k + 2,
+                        "single" => c.k + 1,
+                        "over" if c.count > 1 => i as u32 + 1,
+                        _ => continue,
+                    };
+                    put_tag(verdict, c.at * 32, number);
+                }
+            }
+            // the left sheet has them
+            "left" if accepted => {
+                let end = written(left, &old_left, b'V').last().map_or(0, |v| v + 32);
+                let lines: Vec<Line> = left[..end].chunks_exact(32).map(raw_line).collect();
+                ctors(&lines).iter().for_each(|c| put_tag(left, c.at * 32, c.stored()));
+            }
+            // a wrong tag is a number out of its range, or is found at the V line
+            "code7" if answer.code == 7 && sheet[answer.place as usize * 32] == b'C' => answer.code = 5,
+            "place7" if answer.code == 7 => {
+                let place = answer.place as usize * 32;
+                answer.place = *lines(sheet, b'V').iter().find(|&&v| v >= place).unwrap() as u64 / 32;
             }
             // outputs are touched before the sheet is refused
             "refusal" if answer.code == 12 && !verdict.is_empty() => {

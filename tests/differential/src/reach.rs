@@ -4,6 +4,7 @@
 
 use crate::family::Draft;
 use crate::random::Random;
+use crate::tags;
 use reference::line::Line;
 
 /// The names that every sheet has, before those of its declarations.
@@ -40,7 +41,9 @@ pub fn reaching(random: &mut Random) -> Vec<Line> {
         let held: Vec<u32> = named[i].iter().map(|&j| around(random, &mut d, &leaves, types[j])).collect();
         declare(random, &mut d, &leaves, FIRST + i as u32, held, &mut last);
     }
-    d.lines(last)
+    let mut lines = d.lines(last);
+    tags::put(&mut lines);
+    lines
 }
 
 /// Which declarations each one names.

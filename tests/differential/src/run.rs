@@ -8,12 +8,14 @@ use std::process::{Command, Stdio};
 use std::sync::atomic::{AtomicU64, Ordering};
 
 /// What was counted: sheets by code, sheets that end in a Q line, sheets in which one declaration reaches another or
-/// itself, and sheets that were cut.
+/// itself, sheets with a tag in their verdict sheet, sheets refused at a C line by row 7, and sheets that were cut.
 #[derive(Default)]
 pub struct Counts {
     pub codes: [AtomicU64; 14],
     pub patterns: AtomicU64,
     pub reaching: AtomicU64,
+    pub tags: AtomicU64,
+    pub wrong_tags: AtomicU64,
     pub cut: AtomicU64,
     pub units: AtomicU64,
 }
@@ -26,6 +28,8 @@ impl Counts {
         }
         sheets("pattern", &self.patterns);
         sheets("reach", &self.reaching);
+        sheets("tags", &self.tags);
+        sheets("bad tags", &self.wrong_tags);
         sheets("cut", &self.cut);
         println!("units    {:8}", self.units.load(Ordering::Relaxed));
     }
@@ -61,6 +65,12 @@ pub fn compare(build: &dyn Build, seed: u64, index: u64, counts: &Counts) -> Opt
     counts.patterns.fetch_add(u64::from(ends), Ordering::Relaxed);
     let reaching = said.as_ref().is_ok_and(|given| given.index.iter().any(|&word| word != 0));
     counts.reaching.fetch_add(u64::from(reaching), Ordering::Relaxed);
+    let (tags, wrong_tags) = match &said {
+        Ok(given) => (given.sheets.verdict.chunks_exact(32).any(|l| l[0] == b'C' && l[13..19] != *b"     0"), false),
+        Err(refusal) => (false, refusal.code == 7 && one.sheet[refusal.place as usize * 32] == b'C'),
+    };
+    counts.tags.fetch_add(u64::from(tags), Ordering::Relaxed);
+    counts.wrong_tags.fetch_add(u64::from(wrong_tags), Ordering::Relaxed);
     if let Some(words) = one.difference(build, &said) {
         return Some(Found { index, words, small: smaller(build, seed, index, &one), bytes: one.sheet.len() });
     }

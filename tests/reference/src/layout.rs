@@ -32,7 +32,17 @@ impl Layout {
 /// For each constructor of a declaration and each of its fields, whether it is kept.
 pub type Kept = Vec<Vec<bool>>;
 
-/// `ctor_layouts`.
+/// `cl_tag`: none of a single constructor, else its place among the constructors of its type.
+pub fn tag(k: u32, ctors: u32) -> Option<u32> {
+    (ctors != 1).then_some(k)
+}
+
+/// A tag as a number in a C line.
+pub fn tag_number(tag: Option<u32>) -> u32 {
+    tag.map_or(0, |tag| tag + 1)
+}
+
+/// `ctor_layouts`, without the tags.
 pub fn ctor_layouts(d: &Decl, erasure: &Erasure) -> Kept {
     let keep = |f: &Field| if d.import.is_some() { f.keep } else { !erasure.types[f.ty] };
     d.ctors().iter().map(|c| c.fields.iter().map(keep).collect()).collect()

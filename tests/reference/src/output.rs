@@ -1,7 +1,7 @@
 //! The two sheets: FORMAT, section 8.
 
 use crate::cty::{Cty, Name, Ty, Types};
-use crate::layout::{Kept, Layout};
+use crate::layout::{tag, tag_number, Kept, Layout};
 use crate::line::{write_line, Line};
 use crate::pattern::{written, Pat};
 use crate::program::{Body, Decl, Field};
@@ -19,8 +19,11 @@ pub fn verdict_sheet(lines: &[Line], decls: &[Decl], layouts: &[Layout], kept: &
         }
         lines[d.line].letter = b'I';
         let mut keeps = kept[i].iter().flatten();
+        let ctors = kept[i].len() as u32;
+        let mut tags = (0..ctors).map(|k| tag_number(tag(k, ctors)));
         for line in &mut lines[d.line..] {
             match line.letter {
+                b'C' => line.numbers[2] = tags.next().unwrap(),
                 b'F' => line.numbers[2] = u32::from(*keeps.next().unwrap()),
                 b'V' => {
                     let erased = u32::from(layouts[i] == Layout::Erased);

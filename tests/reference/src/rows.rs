@@ -1,6 +1,7 @@
 //! Rows 1 to 7, one function each: FORMAT, section 5. Each answers the place of the first offending
 //! line, and may rely on the rows before it.
 
+use crate::layout::{tag, tag_number};
 use crate::line::{read_line, Line, LINE};
 use crate::pattern::q_lines;
 use std::collections::HashSet;
@@ -128,7 +129,7 @@ pub fn row5(lines: &[Line]) -> Option<usize> {
                 n[0] < names && n[1] <= 31 && last
             }
             b'P' => n[0] < names && unused(1),
-            b'C' => n[0] < names && unused(2),
+            b'C' => n[0] < names && unused(3),
             b'F' => n[0] < names && n[1] < types && unused(3),
             b'Q' => {
                 q += 1;
@@ -223,17 +224,21 @@ pub fn row6(lines: &[Line]) -> Option<usize> {
     })
 }
 
-/// Row 7: a keep number or a verdict that cannot be.
+/// Row 7: a tag number, a keep number or a verdict that cannot be.
 pub fn row7(lines: &[Line]) -> Option<usize> {
     let mut head = None;
-    let mut kept = 0;
+    let (mut ctors, mut kept) = (0, 0);
     lines.iter().position(|line| {
         let n = &line.numbers;
         match line.letter {
             b'D' | b'I' => {
                 head = Some(line);
-                kept = 0;
+                (ctors, kept) = (0, 0);
                 false
+            }
+            b'C' => {
+                ctors += 1;
+                n[2] != good_tag(head.unwrap(), ctors - 1)
             }
             b'F' => {
                 kept += usize::from(n[2] != 0);
@@ -250,6 +255,14 @@ pub fn row7(lines: &[Line]) -> Option<usize> {
             _ => false,
         }
     })
+}
+
+/// The tag number of the k-th C line of a declaration, by its D or I line.
+fn good_tag(head: &Line, k: u32) -> u32 {
+    match head.letter {
+        b'I' => tag_number(tag(k, head.numbers[4])),
+        _ => 0,
+    }
 }
 
 /// An import's V line, by its D or I line and its count of kept fields.

@@ -1,6 +1,6 @@
 //! The examples of docs/FORMAT.md, read from the page itself.
 
-use reference::line::LINE;
+use reference::line::{write_number, LINE};
 
 /// The blocks of lines of a section of the page, each line filled up to 32 bytes.
 fn blocks(section: usize) -> Vec<Vec<u8>> {
@@ -27,6 +27,28 @@ fn the_example_is_a_file_too() {
 }
 
 #[test]
+fn the_tags_of_the_page() {
+    let [sheet, verdict] = &blocks(8)[..] else { panic!("two blocks") };
+    let header = sheet.chunks(LINE).take_while(|l| l[0] != b'D').count() * LINE;
+    let stored = [&sheet[..header], verdict].concat();
+    // what is left is the sheet itself
+    let printed = [&b"R     0     0     1     0     0\n"[..], &stored, sheet].concat();
+    assert_eq!(String::from_utf8(reference::program(sheet)).unwrap(), String::from_utf8(printed.clone()).unwrap());
+    assert_eq!(reference::program(&stored), printed);
+    let with = |sheet: &[u8], tags: [u32; 2]| {
+        let mut sheet = sheet.to_vec();
+        let ctors: Vec<usize> = (0..sheet.len()).step_by(LINE).filter(|&at| sheet[at] == b'C').collect();
+        ctors.iter().zip(tags).for_each(|(at, tag)| sheet[at + 13..][..6].copy_from_slice(&write_number(tag)));
+        String::from_utf8(reference::program(&sheet)).unwrap()
+    };
+    for other in [0, 1, 3, 256, 999_999] {
+        assert_eq!(with(&stored, [1, other]), "R     7     7     0     0     0\n");
+    }
+    assert_eq!(with(&stored, [0, 0]), "R     7     6     0     0     0\n");
+    assert_eq!(with(sheet, [1, 2]), "R     7     6     0     0     0\n");
+}
+
+#[test]
 fn the_pattern_of_the_page() {
     let [sheet, tail] = &blocks(12)[..] else { panic!("two blocks") };
     let printed = reference::program(sheet);
@@ -35,6 +57,8 @@ fn the_pattern_of_the_page() {
     assert!(left.ends_with(&[&b"V     0     0     0     0     0\n"[..], tail].concat()), "the left sheet's end");
     let q_lines = |sheet: &[u8]| sheet.chunks(LINE).filter(|l| l[0] == b'Q').flatten().copied().collect::<Vec<u8>>();
     assert!(q_lines(&printed[LINE..][..sheet.len()]) == q_lines(sheet), "the verdict sheet's Q lines");
+    let tags = |l: &[u8]| (l[0] == b'C').then_some(l[18]);
+    assert_eq!(printed[LINE..][..sheet.len()].chunks(LINE).filter_map(tags).collect::<Vec<u8>>(), b"0012");
     let cross = String::from_utf8(sheet.clone()).unwrap().replace("Q     3     8 ", "Q     3    10 ");
     assert_eq!(reference::program(cross.as_bytes()), b"R    13    42     0     0     0\n");
     let file = std::fs::read(concat!(env!("CARGO_MANIFEST_DIR"), "/../pattern.sheet")).unwrap();
