@@ -20,7 +20,7 @@ static const char *const MEANING[14] = {
     "too many lines of this letter",
     "a number out of its range",
     "a name used twice",
-    "a verdict that cannot be",
+    "a tag, keep or verdict that cannot be",
     "a name that leads back to itself",
     "a wrong count of type arguments",
     "a type of more than 1,024 nodes",
@@ -103,8 +103,12 @@ int main(int argc, char **argv)
     if (answer[0] != LAYOUT_ACCEPTED) {
         printf("refused: code %" PRIu64 ", place %" PRIu64 ": %s\n", answer[0], answer[1], MEANING[answer[0]]);
         int line = (answer[0] >= LAYOUT_FORM && answer[0] <= LAYOUT_SIZE) || answer[0] == LAYOUT_PARTS;
-        if (line && (answer[1] + 1) * LAYOUT_LINE_BYTES <= length)
-            printf("%.31s\n", (const char *)sheet + answer[1] * LAYOUT_LINE_BYTES);
+        if (line && (answer[1] + 1) * LAYOUT_LINE_BYTES <= length) {
+            const char *at = (const char *)sheet + answer[1] * LAYOUT_LINE_BYTES;
+            printf("%.31s\n", at);
+            if (answer[0] == LAYOUT_VERDICT && at[0] == 'C' && memcmp(at + 13, "     0", 6) == 0)
+                printf("no tag, as in verdict sheets from before there were tags: build the earlier units again\n");
+        }
         free(left);
         return 1;
     }

@@ -38,7 +38,7 @@ enum layout_code {
     LAYOUT_LIMIT = 4,           /* line: one more than allowed of its letter */
     LAYOUT_RANGE = 5,           /* line: a number out of its range */
     LAYOUT_REPEATED = 6,        /* line: a name that stands on an earlier line where it may not */
-    LAYOUT_VERDICT = 7,         /* line: a keep or verdict number that cannot be */
+    LAYOUT_VERDICT = 7,         /* line: a tag (C), keep (F) or verdict number (V) that cannot be; see below */
     LAYOUT_LOOP = 8,            /* D or I line: unfolding this name leads back to it */
     LAYOUT_ARGUMENTS = 9,       /* D or I line: a wrong count of type arguments */
     LAYOUT_SIZE = 10,           /* D or I line: a type of more than 1,024 nodes */
@@ -46,6 +46,12 @@ enum layout_code {
     LAYOUT_LEFT_SHORT = 12,     /* the left output is too short; place: the length needed */
     LAYOUT_PARTS = 13           /* Q line: a constructor's pattern has not a part for each field */
 };
+
+/* A C line's third number is the constructor's tag plus one, and 0 for no tag: a constructor has one where
+ * its type has others, its place among them from 0. Tags stand in I declarations and in the verdict sheet,
+ * and in neither D declarations nor the left sheet [2, 8]. LAYOUT_VERDICT at a C line is a wrong tag. At
+ * one of an I declaration whose tag is 0 the sheet may be a verdict sheet from before there were tags: build
+ * the earlier units again, and this one from what they give [10]. */
 
 /* Builds a sheet [9]. `answer` gets three numbers: code, place, rounds (0 on a refusal).
  *

@@ -106,6 +106,17 @@ pub struct Place {
     pub bytes: Option<[u8; LINE_BYTES]>,
 }
 
+impl Place {
+    /// Whether it is a C line, and one with tag number 0.
+    fn is_ctor(&self) -> bool {
+        self.bytes.is_some_and(|line| line[0] == b'C')
+    }
+
+    fn has_no_tag(&self) -> bool {
+        self.is_ctor() && self.bytes.is_some_and(|line| line[13..19] == *b"     0")
+    }
+}
+
 /// Why a sheet is refused, one case for each code from 1 to 13.
 #[derive(Clone, Copy, Debug, PartialEq, Eq)]
 pub enum Refusal {
@@ -121,7 +132,8 @@ pub enum Refusal {
     Range(Place),
     /// 6: a name of an earlier line where it may not stand again.
     Repeated(Place),
-    /// 7: a keep or verdict number that cannot be.
+    /// 7: a tag, keep or verdict number that cannot be. At a C line of an I declaration without a tag the sheet may be a
+    /// verdict sheet from before there were tags: the earlier units are to be built again.
     Verdict(Place),
     /// 8: a name whose unfolding leads back to it.
     Loop(Place),
@@ -213,6 +225,10 @@ impl fmt::Display for Refusal {
             Refusal::Limit(_) => "is one more than a sheet may have of its letter",
             Refusal::Range(_) => "has a number out of its range",
             Refusal::Repeated(_) => "repeats a name of an earlier line",
+            Refusal::Verdict(p) if p.has_no_tag() => {
+                "has no tag, as in verdict sheets from before there were tags: build the earlier units again"
+            }
+            Refusal::Verdict(p) if p.is_ctor() => "has a tag that its declaration does not allow",
             Refusal::Verdict(_) => "has a keep or verdict number that its declaration does not allow",
             Refusal::Loop(_) => "declares a name that leads back to itself when it is unfolded",
             Refusal::Arguments(_) => "declares a type in which a name has a wrong count of arguments",
@@ -231,7 +247,8 @@ impl fmt::Display for Refusal {
 impl std::error::Error for Refusal {}
 
 /// Builds a sheet. On acceptance `verdict` begins with the verdict sheet and `left` with the left
-/// sheet, and every byte after those is as it was. On a refusal both outputs are as they were. The left
+/// sheet, and every byte after those is as it was. On a refusal both outputs are as they were. In the verdict
+/// sheet a C line's third number is the constructor's tag plus one, 0 where its type has no other. The left
 /// sheet of a sheet with a pattern ends in the new pattern's Q lines and a U line for each freed name.
 /// Outputs may have any length: one that is too short is a refusal that says how many bytes it needs.
 pub fn build(sheet: &[u8], verdict: &mut [u8], left: &mut [u8]) -> Answer {
@@ -356,6 +373,27 @@ mod tests {
         let refusal = build(short.as_bytes(), &mut verdict, &mut left).unwrap_err();
         let words = "line 42 is a constructor's pattern without a part for each of its fields: ";
         assert_eq!(refusal.to_string(), format!("{words}Q     3    10     4     0     0"));
+    }
+
+    #[test]
+    fn tags_and_verdict_sheets_without() {
+        let sheet = include_bytes!("../../../tests/pattern.sheet");
+        let (mut verdict, mut left) = (vec![0; sheet.len()], vec![0; SHEET_BYTES]);
+        let built = build(sheet, &mut verdict, &mut left).unwrap();
+        let tags = |out: &[u8]| -> Vec<u8> { out.chunks(LINE_BYTES).filter(|l| l[0] == b'C').map(|l| l[18]).collect() };
+        // `Proof` and `Ms` alone, `Start` and `Cross` together
+        assert_eq!((&tags(&verdict)[..], &tags(&left[..built.left])[..]), (&b"0012"[..], &b"00"[..]));
+
+        let verdict = String::from_utf8(verdict).unwrap();
+        let refused = |sheet: String| build(sheet.as_bytes(), &mut [], &mut []).unwrap_err();
+        let older = refused(verdict.replace("C     8     1     1 ", "C     8     1     0 "));
+        let words =
+            "line 31 has no tag, as in verdict sheets from before there were tags: build the earlier units again";
+        assert_eq!(older.to_string(), format!("{words}: C     8     1     0     0     0"));
+        let other = refused(verdict.replace("C    10     3     2 ", "C    10     3     3 "));
+        let words = "line 33 has a tag that its declaration does not allow";
+        assert_eq!(other.to_string(), format!("{words}: C    10     3     3     0     0"));
+        assert_eq!((older.code(), other.code()), (7, 7));
     }
 
     #[test]
