@@ -42,7 +42,7 @@ use Rattle.model.specs.Decl.{
 }
 use Rattle.model.specs.Erasure.{cty-erased, marked, rule, start, erasure-fixpoint, Made, locals}
 use Rattle.model.specs.Reach.{Reach, nodes}
-use Rattle.model.specs.Layout.{ctor-tag, ctor-layouts, guard-next, source-guard-next, Candidate, candidates-of, passes-of, source-layouts}
+use Rattle.model.specs.Layout.{kept-ctor, ctor-tag, ctor-layouts, guard-next, source-guard-next, Candidate, candidates-of, passes-of, source-layouts}
 use Rattle.model.specs.Resolve.{stays, abbreviation-of, unfolds, resolve, ok, resolve-checked}
 use Rattle.model.specs.Run.{record-of, left-program, run, layouts-of, resolves, decl-fault, unfold-next, returns, Abbreviates, ImportedNewtype, lay, layout-of-decl, left-at, info-at}
 use Rattle.model.specs.Names.{Declared, Agree, OwnImports}
@@ -93,7 +93,7 @@ use Rattle.answer_reach.specs.Given.{input-refusal, IndexOf}
 use Rattle.set_bits.specs.Bits.{has}
 use Rattle.set_closure.specs.Ones.{ones-of}
 use Rattle.reach_laws.specs.IndexLaws as reach
-use Rattle.claims.specs.Unerased.{unerased-ctor, kept-ctor}
+use Rattle.claims.specs.Unerased.{unerased-ctor}
 use Rattle.claims.specs.ClaimsLaws.{true-of, answer-rounds, answer-verdict, answer-left, front-passes, kept-ctors, kept-slots, laid-at, tag-placed, tag-line, row7-tag, left-length, verdicts, length-verdicts, told-lines, first-builds, first-verdict, first-lefts}
 
 -- ---- words

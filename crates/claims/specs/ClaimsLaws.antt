@@ -18,7 +18,7 @@ use Rattle.sheet.specs.ListLaws.{every-map, false-true}
 use Rattle.model.specs.Cty.{Cty}
 use Rattle.model.specs.Decl.{table, Field, Ctor, CtorLayout, Dtype, ctors-of-tydef, TypeInfo, Origin, here, imported, Decl, dtype-at, origin-at, tag-number}
 use Rattle.model.specs.Erasure.{cty-erased, marked, erasure-fixpoint}
-use Rattle.model.specs.Layout.{layouts-of-ctors, slots, kept, ctor-tag, ctor-layout, ctor-layouts}
+use Rattle.model.specs.Layout.{layouts-of-ctors, slots, kept, kept-ctor, ctor-tag, ctor-layout, ctor-layouts}
 use Rattle.model.specs.Run.{run, info-at, left-program}
 use Rattle.model_laws.specs.Run.{getD-infos, local-info, import-info}
 use Rattle.meaning.specs.Program.{local-line, import-line, ctor-line, is, is-head, groups, program}
@@ -40,7 +40,7 @@ use Rattle.answer_patterns.specs.Whole.{front, tail, left-sheet, answered, answ
 use Rattle.answer_pattern_laws.specs.PassesLaws.{sheets, accepted-passes, passes-answer, passes-front}
 use Rattle.answer_pattern_laws.specs.Calls.{verdict-parts}
 use Rattle.answer_pattern_laws.specs.Owners.{Laid, AllLaid, program-laid}
-use Rattle.claims.specs.Unerased.{unerased, unerased-ctor, kept-ctor}
+use Rattle.claims.specs.Unerased.{unerased, unerased-ctor}
 
 pub true-of : (b : Bool) → T b → b ≡ true
 true-of true h = refl

@@ -3,7 +3,7 @@ use mathlib.Core.List.{List, [], _∷_}
 use mathlib.Core.Bool.{Bool}
 use Prim.Native.Nat.{ℕ}
 use Rattle.number_columns.specs.Column.{pick}
-use Rattle.model.specs.Decl.{Field, Ctor, CtorLayout}
+use Rattle.model.specs.Decl.{Field, Ctor}
 use Rattle.model.specs.Erasure.{cty-erased}
 
 -- the fields whose types are not erased, in order
@@ -14,7 +14,3 @@ unerased er (f ∷ fs) = let gs : List Field = unerased er fs in pick (cty-erase
 -- a constructor with these fields alone
 abbrev pub unerased-ctor : (ℕ → Bool) → Ctor → Ctor
 unerased-ctor er c = record { ct-name = c .ct-name; ct-fields = unerased er (c .ct-fields) }
-
--- a constructor with the fields that its layout keeps
-abbrev pub kept-ctor : CtorLayout → Ctor
-kept-ctor cl = record { ct-name = cl .cl-name; ct-fields = cl .cl-fields }

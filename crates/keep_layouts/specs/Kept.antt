@@ -8,6 +8,7 @@ use Rattle.sheet.specs.Line.{Line, number}
 use Rattle.model.specs.Decl.{Field, Ctor, Dtype, CtorLayout, Origin, here, imported, Decl, dtype-at, origin-at, close}
 use Rattle.model.specs.Erasure.{marked, erasure-fixpoint}
 use Rattle.model.specs.Layout.{ctor-layouts}
+pub use Rattle.model.specs.Layout.{kept-ctor}
 use Rattle.meaning.specs.Program.{ctor-line, field-line}
 use Rattle.table_access.specs.Tables.{nth, head-line, first-of}
 use Rattle.resolve_kids.specs.Nodes.{type-of}
@@ -22,10 +23,6 @@ ctors-of-decl er d (imported ti) = ti .ti-ctors
 -- of declaration d, where the marks are those of the rounds
 abbrev pub ctors-at : List Decl → ℕ → List CtorLayout
 ctors-at ds d = ctors-of-decl (marked ds (erasure-fixpoint ds .marks)) (dtype-at ds d) (origin-at ds d)
-
--- a constructor with its kept fields
-abbrev pub kept-ctor : CtorLayout → Ctor
-kept-ctor cl = record { ct-name = cl .cl-name; ct-fields = cl .cl-fields }
 
 -- the body kind of declaration d, and its last number
 abbrev pub body-kind : List Line → ℕ → ℕ

@@ -67,6 +67,10 @@ layouts-of-ctors er tag cs = table (λ i. ctor-layout (tag i) (getD cs i no-ctor
 unfoldable pub ctor-layouts : (ℕ → Bool) → Dtype → List CtorLayout
 ctor-layouts er d = let cs : List Ctor = ctors-of-tydef d in layouts-of-ctors er (ctor-tag (length cs)) cs
 
+-- a constructor with its kept fields
+abbrev pub kept-ctor : CtorLayout → Ctor
+kept-ctor cl = record { ct-name = cl .cl-name; ct-fields = cl .cl-fields }
+
 -- ---- newtypes
 -- the place of the first kept field
 unfoldable pub first-kept : List Bool → ℕ
