@@ -1,17 +1,17 @@
 -- The bodies and payloads of a program have no variables but their parameters, since its fields are closed first.
 -- Assumes nothing.
 use mathlib.Core.Logic.{⊎-elim}
-use mathlib.Core.Path.{_≡_, refl, ap, sym, _∙_, subst}
+use mathlib.Core.Path.{_≡_, refl, sym, subst}
 use mathlib.Core.List.{List, [], _∷_, map}
 use mathlib.Core.Bool.{Bool, true, false, _||_}
 use mathlib.Core.Option.{Option, none, some}
-use Prim.Native.Nat.{ℕ, zero, suc, _≤_, _<_}
+use Prim.Native.Nat.{ℕ, suc, _<_}
 use native.Mathlib.Omega.{arith}
 use lib.Dec.{T, eqb}
 use lib.ListN.{length, getD}
 use Rattle.number_columns.specs.Column.{pick, _⇒_∥_}
 use Rattle.sheet.specs.Line.{Line}
-use Rattle.sheet.specs.ListLaws.{Every, every-at, every-over}
+use Rattle.sheet.specs.ListLaws.{Every, every-at}
 use Rattle.model.specs.Cty.{Cty, TUnit, TAny, TExn, TVar, TInt, TFloat, TConst, TArrow, TApp, TTuple, TBuf, TRef, TInline, uninline}
 use Rattle.model.specs.Decl.{
   table,
@@ -37,7 +37,6 @@ use Rattle.model.specs.Decl.{
   L-struct,
   L-abbrev,
   L-opaque,
-  TypeInfo,
   Origin,
   here,
   imported,
@@ -55,7 +54,7 @@ use Rattle.model.specs.Decl.{
 use Rattle.model.specs.Erasure.{marked, erasure-fixpoint}
 use Rattle.model.specs.Layout.{layouts-of-ctors, slots, kept, ctor-layout, ctor-layouts, newtype-of-ctor, newtype-of, candidate, dropped, collapse, layout-of-body, layout-of, candidates-of, passes-of}
 use Rattle.meaning.specs.Program.{import-line, is, is-head, Group, groups, keeps-of, tags, ctor-layouts-by, abbreviated, layout-by, info-of, verdict-of, dtype-of, decl-of, trees, program}
-use Rattle.model.specs.Resolve.{Unfold, gone, newtype, abbreviation, stays, unfold-body, unfold-dtype, unfold-of}
+use Rattle.model.specs.Resolve.{stays, unfold-body, unfold-dtype, unfold-of}
 use Rattle.model.specs.Run.{layouts-of, lay, layout-of-decl}
 use Rattle.model_laws.specs.Cty.{Each, Any, all-of, close-each}
 use Rattle.model_laws.specs.Layout.{getD-layouts, getD-candidates}

@@ -9,11 +9,10 @@ use Rattle.number_columns.specs.Column.{pick}
 use Rattle.sheet.specs.Line.{Line, bad, number}
 use Rattle.walk_cells.specs.Cells.{bare}
 use Rattle.model.specs.Cty.{Cty}
-use Rattle.model.specs.Decl.{Ctor, Body, TAbstract, TAbbrev, TRecord, TVariant, Dtype, ctors-of-tydef, close-fields, imported}
+use Rattle.model.specs.Decl.{Ctor, Body, TAbstract, TAbbrev, TRecord, TVariant, Dtype, ctors-of-tydef, close-fields}
 use Rattle.meaning.specs.Program.{
   arg-line,
   type-line,
-  import-line,
   param-line,
   ctor-line,
   field-line,

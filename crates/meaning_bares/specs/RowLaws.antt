@@ -11,7 +11,7 @@ use Rattle.meaning_laws.specs.Rows.{row3-inside, row3-past}
 use Rattle.number_columns.specs.Column.{pick, _⇒_∥_}
 use Rattle.sheet.specs.Format.{Format}
 use Rattle.sheet.specs.Sheet.{first}
-use Rattle.sheet.specs.Line.{Line, bad, letter, number, text}
+use Rattle.sheet.specs.Line.{Line, bad, number, text}
 use Rattle.walk_cells.specs.Cells.{bare}
 use Rattle.meaning.specs.declared.Due.{Due}
 use Rattle.meaning.specs.declared.Due.the-variants.{Header, Within, Broken}
@@ -34,12 +34,9 @@ use Rattle.meaning.specs.Rows.{
   count-of,
   count-before,
   heads-before,
-  announced,
   due-header,
   due,
   due-after,
-  is-broken,
-  is-within,
   row3,
   params-after,
   row4,

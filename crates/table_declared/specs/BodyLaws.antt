@@ -13,7 +13,6 @@ use Rattle.model.specs.Cty.{Cty, Ctys, TUnit, TAny, TExn, TVar, TInt, TFloat, T
 use Rattle.model.specs.Decl.{Field, member, close, close-field}
 use Rattle.model.specs.Erasure.{is-pure, cty-erased, ctys-erased, fields-erased}
 use Rattle.meaning.specs.Program.{ctor-line, field-line, is, select, before, Group, groups, type-at, field-of}
-use Rattle.meaning.specs.Rows.{count-of}
 use Rattle.meaning_laws.specs.Program.{select-append, select-no, flat, before-flat, AllGrouped, grouped}
 
 -- ---- closing
