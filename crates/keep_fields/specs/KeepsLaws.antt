@@ -18,7 +18,7 @@ use Rattle.model.specs.Layout.{layouts_of_ctors, slots, ctor_layout, ctor_layout
 use Rattle.meaning.specs.Output.{all_slots}
 use Rattle.meaning.specs.Program.{type_line, param_line, ctor_line, field_line, import_line, is, select, before, Group, groups, trees, type_at, field_of, ctor_of, body_of, dtype_of, keeps, keeps_of, ctor_layouts_by, info_of, program}
 use Rattle.meaning.specs.Rows.{count_of}
-use Rattle.model_laws.specs.Lists.{get_d_map}
+use Rattle.model_laws.specs.Lists.{get_or_map}
 use Rattle.meaning_laws.specs.Program.{Whole}
 use Rattle.model_laws.specs.Rounds.{cases_eq}
 use Rattle.table_declared.specs.Passed.{Passed}
@@ -164,11 +164,11 @@ module _ (ls : List Line) (p : Passed ls) (d : ℕ) (h : d < decls_of ls) where
       go : (c : Bool) → is import_line (head_line ls d) ≡ c → get_or (slots_at (program ls) d) j false ≡ field_kept ls (first_of field_line ls d + j) c
       go true e =
           ap (λ (r : List Bool). get_or r j false) (slots_import e)
-          ∙ get_d_map (λ l. not (eqb (number l 2) 0)) fl j false bad k
+          ∙ get_or_map (λ l. not (eqb (number l 2) 0)) fl j false bad k
           ∙ ap (λ (m : Line). not (eqb (number m 2) 0)) (nth_field j k)
       go false e =
           ap (λ (r : List Bool). get_or r j false) (slots_here e)
-          ∙ get_d_map (λ l. not (cty_erased er (type_at (trees ls) (number l 1)))) fl j false bad k
+          ∙ get_or_map (λ l. not (cty_erased er (type_at (trees ls) (number l 1)))) fl j false bad k
           ∙ ap (λ (m : Line). not (cty_erased er (type_at (trees ls) (number m 1)))) (nth_field j k)
 
 -- ---- the table

@@ -91,7 +91,7 @@ use Rattle.meaning.specs.Program.{
 }
 use Rattle.meaning.specs.Output.{fill_third, fill_keeps, fill_tags, fill_verdict, all_slots, fill, fill_all, verdict_lines, left_lines}
 use Rattle.meaning.specs.Rows.{nth_line, count_of, heads_before}
-use Rattle.model_laws.specs.Lists.{get_d_map, get_or_table, length_table}
+use Rattle.model_laws.specs.Lists.{get_or_map, get_or_table, length_table}
 use Rattle.model_laws.specs.Layout.{get_or_candidates, get_or_layouts}
 
 -- ---- tests
@@ -358,7 +358,7 @@ unfolding program
 program_at ls i d h e =
     let g : Group = record { head = nth_line ls i; rest = before is_head (drop (suc i) ls) } in
     let k : heads_before ls i < length (groups is_head ls) = omega (arith, heads_before_lt ls i h e, length_groups ls) in
-    get_d_map (decl_of (trees ls)) (groups is_head ls) (heads_before ls i) d g k ∙ ap (decl_of (trees ls)) (group_at ls i g h e)
+    get_or_map (decl_of (trees ls)) (groups is_head ls) (heads_before ls i) d g k ∙ ap (decl_of (trees ls)) (group_at ls i g h e)
 
 -- the line at which declaration k begins
 pub record HeadAt (ls : List Line) (k : ℕ) : Type 0 where
@@ -848,8 +848,8 @@ tag_read (some i) = refl
 pub tags_fill_tags : (cls : List CtorLayout) (ls : List Line) → length cls ≡ count_of ctor_line ls → (i : ℕ) (d : CtorLayout) → i < length cls → tags (fill_tags cls ls) i ≡ (get_or cls i d).cl_tag
 tags_fill_tags cls ls h i d k =
     ap tag_of
-    (sym (ListN.get_d_map (λ l. number l 2) (select ctor_line (fill_tags cls ls)) i bad)
-    ∙ (ap (λ (ns : List ℕ). get_or ns i 0) (thirds_fill ctor_line tag_number_of cls ls h) ∙ get_d_map tag_number_of cls i 0 d k))
+    (sym (ListN.get_or-map (λ l. number l 2) (select ctor_line (fill_tags cls ls)) i bad)
+    ∙ (ap (λ (ns : List ℕ). get_or ns i 0) (thirds_fill ctor_line tag_number_of cls ls h) ∙ get_or_map tag_number_of cls i 0 d k))
     ∙ tag_read (get_or cls i d).cl_tag
 
 -- where there is no C line, none is read
@@ -916,7 +916,7 @@ keeps_fill_verdict ti ls = rw (select_fill_verdict ti field_line refl ls)
 pub verdict_fill_verdict : (ti : TypeInfo) (ls : List Line) → 0 < count_of verdict_line ls → verdict_of (fill_verdict ti ls) ≡ told_line ti
 verdict_fill_verdict ti ls h =
     rw (fill_verdict_map ti ls, select_map (tell ti) verdict_line (tell_is ti verdict_line) ls, map_select verdict_line (tell ti) (λ l. told_line ti) (λ l e. rw e) ls)
-    (get_d_map (λ (l : Line). told_line ti) (select verdict_line ls) 0 bad bad h)
+    (get_or_map (λ (l : Line). told_line ti) (select verdict_line ls) 0 bad bad h)
 
 -- no line begins a declaration
 pub none_told : (ti : TypeInfo) (ls : List Line) → None is_head ls → None is_head (fill_told ti ls)

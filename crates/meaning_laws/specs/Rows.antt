@@ -217,7 +217,7 @@ use Rattle.meaning_laws.specs.Program.{
   before_after,
   before_header,
 }
-use Rattle.model_laws.specs.Lists.{trues, length_table, get_d_map, get_or_table}
+use Rattle.model_laws.specs.Lists.{trues, length_table, get_or_map, get_or_table}
 
 none_some : {A B : Type 0} (a : A) → ◌≡◌ {A = Option A} none (some a) → B
 none_some a e = let z : ◌≡◌ {A = ℕ} 0 1 = cc in absurd (omega arith)
@@ -728,7 +728,7 @@ row3_plain ls i =
 
 line_plain : (ls : List Line) (i : ℕ) → nth_line (map plain ls) i ≡ plain (nth_line ls i)
 unfolding plain
-line_plain ls i = ListN.get_d_map plain ls i bad
+line_plain ls i = ListN.get_or-map plain ls i bad
 
 count_plain : (x : ℕ) → eqb 68 x ≡ false → eqb 73 x ≡ false → (ls : List Line) → count_of x (map plain ls) ≡ count_of x ls
 count_plain x p q ls = ap length (select_map plain x (plain_is x p q) ls) ∙ length-map (select x ls) plain
@@ -1673,7 +1673,7 @@ import_tags ls w r i ti h o k x l n = go (is import_line g.head) refl (ap (λ (y
     d = close_fields (dtype_of (trees ls) g)
 
     at : get_or (program ls) i no_decl ≡ decl_of (trees ls) g
-    at = ap (λ (y : List Decl). get_or y i no_decl) (program_groups ls) ∙ get_d_map (decl_of (trees ls)) (groups is_head ls) i no_decl (record { head = bad; rest = [] }) j
+    at = ap (λ (y : List Decl). get_or y i no_decl) (program_groups ls) ∙ get_or_map (decl_of (trees ls)) (groups is_head ls) i no_decl (record { head = bad; rest = [] }) j
 
     q : Tagged g.head 0 g.rest
     q =

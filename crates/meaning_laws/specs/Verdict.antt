@@ -20,7 +20,7 @@ use Rattle.model.specs.Run.{run, info_at}
 use Rattle.model_laws.specs.Run.{get_or_infos, length_infos, local_info}
 use Rattle.model.specs.Layout.{slots, ctor_tag, ctor_layout, layouts_of_ctors, ctor_layouts}
 use Rattle.model_laws.specs.Erasure.{close_erased}
-use Rattle.model_laws.specs.Lists.{get_d_map, length_table}
+use Rattle.model_laws.specs.Lists.{get_or_map, length_table}
 use Rattle.meaning.specs.Program.{local_line, import_line, field_line, ctor_line, verdict_line, is, is_head, select, before, Group, groups, type_at, field_of, ctor_of, body_of, dtype_of, decl_of, trees, program}
 use Rattle.meaning.specs.Rows.{nth_line, count_of, heads_before, last_head, head_of, ctors_after}
 use Rattle.meaning.specs.Output.{fill_third, fill_keeps, fill_tags, fill_verdict, all_slots, verdict_lines, verdict_line_of}
@@ -199,7 +199,7 @@ module _ (er : ℕ → Bool) (ts : List Cty) where
           ∙ tags_lines ti g.head 0 (map tag_number_of cls) g.rest e k.alone (n ∙ c) (λ i l.
           let j : i < length cs = omega (arith, n) in
           let o : CtorLayout = ctor_layout none no_ctor [] in
-          get_d_map tag_number_of cls i 0 o (omega (arith, length-map cls tag_number_of))
+          get_or_map tag_number_of cls i 0 o (omega (arith, length-map cls tag_number_of))
           ∙ (ap tag_number (tag_at er (ctor_tag (length cs)) cs i o j) ∙ ap₂ (λ (v u : ℕ). tag_number (ctor_tag v u)) (m (omega (arith, c))) (omega arith)))
       tagged e (inr c) m =
           let z : None (is ctor_line) g.rest = none_select ctor_line g.rest (length_nil (select ctor_line g.rest) c.1) in
@@ -310,7 +310,7 @@ verdict_line_at fuel ls w i h =
     local_ctors j d t l c =
         let ds : List Decl = program ls in
         let g : Group = get_or (groups is_head ls) j d in
-        let q : get_or ds j no_decl ≡ decl_of (trees ls) g = get_d_map (decl_of (trees ls)) (groups is_head ls) j no_decl d l in
+        let q : get_or ds j no_decl ≡ decl_of (trees ls) g = get_or_map (decl_of (trees ls)) (groups is_head ls) j no_decl d l in
         let o : origin_at ds j ≡ here = ap (λ (x : Decl). x.origin) q ∙ rw (local_not_import g.head c) in
         let k : j < length ds = omega (arith, length_groups ls, length_program ls) in
         ap (λ (x : TypeInfo). x.ti_ctors) (get_or_infos fuel ds j t k ∙ local_info fuel ds j o)

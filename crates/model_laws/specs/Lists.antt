@@ -21,8 +21,8 @@ t_ext false false f g = refl
 
 -- ---- lists
 -- an element of a map, whatever stands for one past the last
-pub get_d_map : {A B : Type 0} (f : A → B) (l : List A) (i : ℕ) (d : B) (a : A) → i < length l → get_or (map f l) i d ≡ f (get_or l i a)
-get_d_map f l i d a h = get_or_within (map f l) i d (f a) (rw length-map h) ∙ ListN.get_d_map f l i a
+pub get_or_map : {A B : Type 0} (f : A → B) (l : List A) (i : ℕ) (d : B) (a : A) → i < length l → get_or (map f l) i d ≡ f (get_or l i a)
+get_or_map f l i d a h = get_or_within (map f l) i d (f a) (rw length-map h) ∙ ListN.get_or-map f l i a
 
 -- how many there are of true
 unfoldable pub trues : List Bool → ℕ

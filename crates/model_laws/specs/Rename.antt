@@ -107,7 +107,7 @@ use Rattle.model.specs.Names.{fields_names, ctors_names, body_names, dtype_names
 use Rattle.model_laws.specs.Layout.{candidate_at, passed_at, layout_at}
 use Rattle.model_laws.specs.Locality.{marks_local, layouts_local, left_local, fault_local, info_local, returns_local}
 use Rattle.model_laws.specs.Run.{run_lefts, run_infos}
-use Rattle.model_laws.specs.Lists.{get_d_map, table_cong, table_map}
+use Rattle.model_laws.specs.Lists.{get_or_map, table_cong, table_map}
 
 -- ---- lists
 -- two ways round through two maps
@@ -116,10 +116,10 @@ map_square f g h k e [] = refl
 map_square f g h k e (x ∷ xs) = ap₂ ◌∷◌ (e x) (map_square f g h k e xs)
 
 -- what is read of an entry of a mapped list, where it is what is read of the entry itself, past the end too
-pub get_d_read : {A B C : Type 0} (f : A → B) (p : A → C) (q : B → C) → ((x : A) → q (f x) ≡ p x) → (a : A) (b : B) → q b ≡ p a → (xs : List A) (i : ℕ) → q (get_or (map f xs) i b) ≡ p (get_or xs i a)
-get_d_read f p q e a b z [] i = z
-get_d_read f p q e a b z (x ∷ xs) zero = e x
-get_d_read f p q e a b z (x ∷ xs) (suc i) = get_d_read f p q e a b z xs i
+pub get_or_read : {A B C : Type 0} (f : A → B) (p : A → C) (q : B → C) → ((x : A) → q (f x) ≡ p x) → (a : A) (b : B) → q b ≡ p a → (xs : List A) (i : ℕ) → q (get_or (map f xs) i b) ≡ p (get_or xs i a)
+get_or_read f p q e a b z [] i = z
+get_or_read f p q e a b z (x ∷ xs) zero = e x
+get_or_read f p q e a b z (x ∷ xs) (suc i) = get_or_read f p q e a b z xs i
 
 -- ---- renumbering
 -- no two numbers become one
@@ -419,10 +419,10 @@ module _ (ρ : ℕ → ℕ) where
 
   -- the entries of a renamed program
   pub dtype_rename : (ds : List Decl) (i : ℕ) → i < length ds → dtype_at (rename_decls ρ ds) i ≡ rename_dtype ρ (dtype_at ds i)
-  dtype_rename ds i h = ap (λ (d : Decl). d.dtype) (get_d_map (rename_decl ρ) ds i no_decl no_decl h)
+  dtype_rename ds i h = ap (λ (d : Decl). d.dtype) (get_or_map (rename_decl ρ) ds i no_decl no_decl h)
 
   pub origin_rename : (ds : List Decl) (i : ℕ) → i < length ds → origin_at (rename_decls ρ ds) i ≡ rename_origin ρ (origin_at ds i)
-  origin_rename ds i h = ap (λ (d : Decl). d.origin) (get_d_map (rename_decl ρ) ds i no_decl no_decl h)
+  origin_rename ds i h = ap (λ (d : Decl). d.origin) (get_or_map (rename_decl ρ) ds i no_decl no_decl h)
 
 -- ---- names that are compared
 module _ (ρ : ℕ → ℕ) (inj : Injective ρ) where
@@ -455,7 +455,7 @@ module _ (ρ : ℕ → ℕ) (inj : Injective ρ) where
   pub rule_rename : (ds : List Decl) (s : List Bool) (i : ℕ) → rule (rename_decls ρ ds) s i ≡ rule ds s i
   unfolding rule
   rule_rename ds s i =
-      get_d_read (rename_decl ρ)
+      get_or_read (rename_decl ρ)
       (λ (d : Decl). rule_of (marked ds s) d.dtype d.origin)
       (λ (d : Decl). rule_of (marked (rename_decls ρ ds) s) d.dtype d.origin)
       (λ (d : Decl). rule_of_rename ρ (marked ds s) (marked (rename_decls ρ ds) s) (marked_rename ds s) d.dtype d.origin)
@@ -674,7 +674,7 @@ module _ (ρ : ℕ → ℕ) (inj : Injective ρ) where
   pub guard_rename : (ds : List Decl) (through : List (Option Cty)) (i : ℕ) → guard_next (rename_decls ρ ds) (map (Option.map (rename_cty ρ)) through) i ≡ guard_next ds through i
   unfolding guard_next steps
   guard_rename ds through i =
-      ap (type_names (rename_decls ρ ds)) (ListN.get_d_map (Option.map (rename_cty ρ)) through i none) ∙ type_names_rename ds (get_or through i none)
+      ap (type_names (rename_decls ρ ds)) (ListN.get_or-map (Option.map (rename_cty ρ)) through i none) ∙ type_names_rename ds (get_or through i none)
 
   -- the same candidates dropped
   pub dropped_rename : (ds : List Decl) (through : List (Option Cty)) (i : ℕ) → dropped (rename_decls ρ ds) (map (Option.map (rename_cty ρ)) through) i ≡ dropped ds through i
@@ -704,7 +704,7 @@ module _ (ρ : ℕ → ℕ) (inj : Injective ρ) where
 
     passed_at_rename : (i : ℕ) → i < length ds → passed_at (rename_decls ρ ds) s i ≡ Option.map (rename_cty ρ) (passed_at ds s i)
     passed_at_rename i h =
-        rw (dtype_rename ρ ds i h, origin_rename ρ ds i h, candidates_rename, ListN.get_d_map (rename_candidate ρ) (candidates_of ds s) i none)
+        rw (dtype_rename ρ ds i h, origin_rename ρ ds i h, candidates_rename, ListN.get_or-map (rename_candidate ρ) (candidates_of ds s) i none)
         (passed_rename ρ (dtype_at ds i) (origin_at ds i) (get_or s i false) (get_or (candidates_of ds s) i none))
 
     pub passes_rename : passes_of (rename_decls ρ ds) s ≡ map (Option.map (rename_cty ρ)) (passes_of ds s)
@@ -718,7 +718,7 @@ module _ (ρ : ℕ → ℕ) (inj : Injective ρ) where
     layout_at_rename i h =
         rw (dtype_rename ρ ds i h, origin_rename ρ ds i h)
         (ap₂ (λ (cand : Option NewtypeLayout) (cls : List CtorLayout). layout_of (rename_dtype ρ (dtype_at ds i)) (rename_origin ρ (origin_at ds i)) (get_or s i false) (dropped (rename_decls ρ ds) (passes_of (rename_decls ρ ds) s) i) cand cls)
-        (ap (λ (cands : List (Option NewtypeLayout)). get_or cands i none) candidates_rename ∙ ListN.get_d_map (rename_candidate ρ) (candidates_of ds s) i none)
+        (ap (λ (cands : List (Option NewtypeLayout)). get_or cands i none) candidates_rename ∙ ListN.get_or-map (rename_candidate ρ) (candidates_of ds s) i none)
         (ctor_layouts_rename ρ (marked ds s) (marked (rename_decls ρ ds) s) (marked_rename ρ inj ds s) (dtype_at ds i))
         ∙ (ap (λ (drop : Bool). layout_of (rename_dtype ρ (dtype_at ds i)) (rename_origin ρ (origin_at ds i)) (get_or s i false) drop (rename_candidate ρ (get_or (candidates_of ds s) i none)) (map (rename_ctor_layout ρ) (ctor_layouts (marked ds s) (dtype_at ds i))))
         (ap (λ (through : List (Option Cty)). dropped (rename_decls ρ ds) through i) passes_rename ∙ dropped_rename ds (passes_of ds s) i)
@@ -743,7 +743,7 @@ module _ (ρ : ℕ → ℕ) where
   unfolding unfolds
   unfolds_rename ds ls =
       ap (table (λ i. unfold_of (dtype_at (rename_decls ρ ds) i) (get_or (map (rename_layout ρ) ls) i L_opaque))) (length-map ds (rename_decl ρ))
-      ∙ (table_cong _ _ (length ds) (λ i h. ap₂ unfold_of (dtype_rename ρ ds i h) (ListN.get_d_map (rename_layout ρ) ls i L_opaque) ∙ unfold_of_rename ρ (dtype_at ds i) (get_or ls i L_opaque))
+      ∙ (table_cong _ _ (length ds) (λ i h. ap₂ unfold_of (dtype_rename ρ ds i h) (ListN.get_or-map (rename_layout ρ) ls i L_opaque) ∙ unfold_of_rename ρ (dtype_at ds i) (get_or ls i L_opaque))
       ∙ table_map (rename_unfold ρ) (λ i. unfold_of (dtype_at ds i) (get_or ls i L_opaque)) (length ds))
 
 -- ---- results
@@ -769,7 +769,7 @@ module _ (ρ : ℕ → ℕ) (inj : Injective ρ) where
   unfolding unfold_name
   unfold_name_rename ds ls n =
       ap₂ (λ (us : List Unfold) (i : ℕ). get_or us i stays) (unfolds_rename ρ ds ls) (position_rename ρ inj ds n)
-      ∙ ListN.get_d_map (rename_unfold ρ) (unfolds ds ls) (position ds n) stays
+      ∙ ListN.get_or-map (rename_unfold ρ) (unfolds ds ls) (position ds n) stays
 
   -- a name's type with its first arguments, and with the others attached
   first_args_rename : (ps : List ℕ) (us : Ctys) (c : Cty)
@@ -1026,7 +1026,7 @@ module _ (ρ : ℕ → ℕ) (inj : Injective ρ) (ds : List Decl) where
   renamed = rename_decls ρ ds
 
   pub layout_rename : (i : ℕ) → layout_of_decl (rename_decls ρ ds) i ≡ rename_layout ρ (layout_of_decl ds i)
-  layout_rename i = ap (λ (ls : List Layout). get_or ls i L_opaque) (layouts_rename ρ inj ds) ∙ ListN.get_d_map (rename_layout ρ) (layouts_of ds) i L_opaque
+  layout_rename i = ap (λ (ls : List Layout). get_or ls i L_opaque) (layouts_rename ρ inj ds) ∙ ListN.get_or-map (rename_layout ρ) (layouts_of ds) i L_opaque
 
   pub lay_rename : (n : ℕ) → lay (rename_decls ρ ds) (ρ n) ≡ rename_unfold ρ (lay ds n)
   lay_rename n = ap (λ (ls : List Layout). unfold_name renamed ls (ρ n)) (layouts_rename ρ inj ds) ∙ unfold_name_rename ρ inj ds (layouts_of ds) n
@@ -1067,7 +1067,7 @@ module _ (ρ : ℕ → ℕ) (inj : Injective ρ) (ds : List Decl) where
   unfolding unfold_next steps
   unfold_next_rename i =
       ap (λ (us : List Unfold). type_names renamed (unfolded (get_or us i stays))) (ap (unfolds renamed) (layouts_rename ρ inj ds) ∙ unfolds_rename ρ ds (layouts_of ds))
-      ∙ (ap (type_names renamed) (ap unfolded (ListN.get_d_map (rename_unfold ρ) (unfolds ds (layouts_of ds)) i stays) ∙ unfolded_rename (get_or (unfolds ds (layouts_of ds)) i stays))
+      ∙ (ap (type_names renamed) (ap unfolded (ListN.get_or-map (rename_unfold ρ) (unfolds ds (layouts_of ds)) i stays) ∙ unfolded_rename (get_or (unfolds ds (layouts_of ds)) i stays))
       ∙ type_names_rename ρ inj ds (unfolded (get_or (unfolds ds (layouts_of ds)) i stays)))
 
   -- and the loops of row 8

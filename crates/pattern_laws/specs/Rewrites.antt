@@ -9,7 +9,7 @@ use Prim.Native.Nat.{ℕ, zero, suc, ◌-◌, ◌≤◌, ◌<◌}
 use Rattle.std.proofs.Math.Dec.{eqb}
 use Rattle.sheet.specs.Line.{Line, bad}
 use Rattle.model.specs.Decl.{CtorLayout, Layout, L_erased, L_newtype, L_struct, L_abbrev, L_opaque}
-use Rattle.model_laws.specs.Lists.{get_d_map, get_or_table}
+use Rattle.model_laws.specs.Lists.{get_or_map, get_or_table}
 use Rattle.model_patterns.specs.Pat.{Pat, Pats, no_parts, part, pat_vars, pats_vars, part_fields, nth_opt, other_parts, try_find, Split, keep_by_name, named, names_one, Owner, Rewritten, RewrittenParts, newtype_ctor, owned_ctor, rw_ctor, newtype_record, rw_record, rw_pat, many}
 use Rattle.model_patterns.specs.Laws.Accounted.{many_fields}
 use Rattle.meaning.specs.Rows.{nth_line}
@@ -255,7 +255,7 @@ module _ (owner : ℕ → Option Owner) (layout : ℕ → Option Layout) where
   pub marks_at : (qs : List Line) (q : ℕ) → q < length qs
       → get_or (marks_of owner layout qs) q 0 ≡ mark_of owner layout (kind_of (nth_line qs q)) (name_of (nth_line qs q))
   unfolding marks_of
-  marks_at qs q h = get_d_map (λ l. mark_of owner layout (kind_of l) (name_of l)) qs q 0 bad h
+  marks_at qs q h = get_or_map (λ l. mark_of owner layout (kind_of l) (name_of l)) qs q 0 bad h
 
   pub flags_at : (qs : List Line) (q : ℕ) → q < length qs → get_or (flags_of owner layout qs) q 0 ≡ flag_at owner layout qs (owners_of qs) q
   unfolding flags_of

@@ -16,7 +16,7 @@ use Rattle.sheet.specs.FirstLaws.{first_before}
 use Rattle.model.specs.Cty.{Cty, Ctys, TUnit, TAny, TExn, TVar, TInt, TFloat, TConst, TArrow, TApp, TTuple, TBuf, TRef, TInline, nil, cons, append}
 use Rattle.meaning.specs.Program.{name_line, arg_line, type_line, is, select, list_of, tree, trees_after, trees}
 use Rattle.meaning.specs.Rows.{count_of, count_before, nth_line, some_below, zeros_from, is_list, good_type, good_numbers, row5}
-use Rattle.model_laws.specs.Lists.{get_d_map}
+use Rattle.model_laws.specs.Lists.{get_or_map}
 use Rattle.meaning_laws.specs.Written.{trees_after_later}
 use Rattle.table_declared.specs.Passed.{Passed}
 use Rattle.table_access.specs.Tables.{nth}
@@ -59,7 +59,7 @@ abbrev arg_types : List Line → List ℕ
 arg_types ls = map (λ l. number l 0) (select arg_line ls)
 
 arg_at : (ls : List Line) (i : ℕ) → i < count_of arg_line ls → get_or (arg_types ls) i 0 ≡ arg_of ls i
-arg_at ls i h = get_d_map (λ l. number l 0) (select arg_line ls) i 0 bad h
+arg_at ls i h = get_or_map (λ l. number l 0) (select arg_line ls) i 0 bad h
 
 pub over : (a b : ℕ) → a < b → leb b a ≡ false
 over a b h = go (leb b a) refl

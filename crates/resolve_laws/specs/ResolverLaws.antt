@@ -37,15 +37,15 @@ use Rattle.keep_layouts.specs.States.{unfold_at, lay_of}
 use Rattle.resolve_laws.specs.Resolver.{Setup, call_of, enter_of, eval_of, evals_of, type_of_decl, last_of, Args, Place, Again, Short, Found, FoundAll, Done, Answered, Entered}
 
 -- a cell past the end
-pub get_d_past : (xs : List ℕ) (i v : ℕ) → length xs ≤ i → get_or xs i v ≡ v
-get_d_past [] i v h = refl
-get_d_past (x ∷ xs) zero v h = absurd (omega arith)
-get_d_past (x ∷ xs) (suc i) v h = get_d_past xs i v (omega arith)
+pub get_or_past : (xs : List ℕ) (i v : ℕ) → length xs ≤ i → get_or xs i v ≡ v
+get_or_past [] i v h = refl
+get_or_past (x ∷ xs) zero v h = absurd (omega arith)
+get_or_past (x ∷ xs) (suc i) v h = get_or_past xs i v (omega arith)
 
-pub get_d_any : (xs : List ℕ) (i v w : ℕ) → i < length xs → get_or xs i v ≡ get_or xs i w
-get_d_any [] i v w h = absurd (omega arith)
-get_d_any (x ∷ xs) zero v w h = refl
-get_d_any (x ∷ xs) (suc i) v w h = get_d_any xs i v w (omega arith)
+pub get_or_any : (xs : List ℕ) (i v w : ℕ) → i < length xs → get_or xs i v ≡ get_or xs i w
+get_or_any [] i v w h = absurd (omega arith)
+get_or_any (x ∷ xs) zero v w h = refl
+get_or_any (x ∷ xs) (suc i) v w h = get_or_any xs i v w (omega arith)
 
 -- ---- sizes of lists
 sizes_last : (f : ℕ → Cty) (n : ℕ) → sizes (listed f (suc n)) ≡ sizes (listed f n) + size (f n)
@@ -553,7 +553,7 @@ module _ (ls : List Line) (t u : List ℕ) where
         record { setup = setup; type = setup.states.bodies d l (one_or_two (eqb what 1) refl); decl = l }
       where
         inside : (c : Bool) → leb (length u) (2 * d) ≡ c → d < decls_of ls
-        inside true e = absurd (omega (arith, ew, get_d_past u (2 * d) 3 (leb-true (length u) (2 * d) e)))
+        inside true e = absurd (omega (arith, ew, get_or_past u (2 * d) 3 (leb-true (length u) (2 * d) e)))
         inside false e = omega (arith, leb-false (length u) (2 * d) e, setup.states.long)
 
         one_or_two : (c : Bool) → eqb what 1 ≡ c → (get_or u (2 * d) 3 ≡ 1) ⊎ (get_or u (2 * d) 3 ≡ 2)

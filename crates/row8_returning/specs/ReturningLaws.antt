@@ -38,7 +38,7 @@ use Rattle.mention_edges.specs.Edges.{Edges}
 use Rattle.mention_edges.specs.EdgesLaws.{Bodies, edges_hold}
 use Rattle.set_search.specs.Loops.{First}
 use Rattle.set_search.specs.LoopsLaws.{first_as, ranks_fall, ranks_below}
-use Rattle.resolve_laws.specs.ResolverLaws.{get_d_any}
+use Rattle.resolve_laws.specs.ResolverLaws.{get_or_any}
 use Rattle.keep_layouts.specs.States.{state, body_of, unfold_at, lay_of, Open, closed, Settled}
 use Rattle.form_normal.specs.Ranks.{Ranked}
 use Rattle.row8_returning.specs.Returning.{through, Through}
@@ -192,7 +192,7 @@ module _ (types : ℕ) (u : List ℕ) (d : ℕ) (h : 2 * d + 1 < length u) where
   cell = get_or u (2 * d) 0
 
   state_is : state u d ≡ cell
-  state_is = get_d_any u (2 * d) 3 0 (omega arith)
+  state_is = get_or_any u (2 * d) 3 0 (omega arith)
 
   pub through_newtype : get_or u (2 * d) 0 ≡ 1 → get_or u (2 * d + 1) 0 ≡ through types u d
   through_newtype e = rw (eq-eqb (state u d) 1 (state_is ∙ e))

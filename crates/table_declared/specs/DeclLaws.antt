@@ -17,7 +17,7 @@ use Rattle.meaning.specs.declared.Due.TheVariants.{Header, Broken}
 use Rattle.model.specs.Decl.{here, imported, Decl, no_decl, dtype_at, origin_at, close_fields}
 use Rattle.meaning.specs.Program.{name_line, arg_line, type_line, import_line, verdict_line, is, is_head, select, before, Group, groups, trees, dtype_of, info_of, verdict_of, decl_of, program}
 use Rattle.meaning.specs.Rows.{nth_line, count_of, count_before, heads_before, due, due_header, due_after, row3}
-use Rattle.model_laws.specs.Lists.{get_d_map}
+use Rattle.model_laws.specs.Lists.{get_or_map}
 use Rattle.meaning_laws.specs.Program.{None, Starts, select_append, select_none, select_yes, none_before, flat, before_flat, AllGrouped, grouped, starts_flat, heads, heads_none, head_cases, length_groups, group_at, program_groups, Whole, AllWhole}
 use Rattle.meaning_laws.specs.Rows.{Ends, is_header, is_header_line, row3_ends, ends_prefix, ends_whole}
 use Rattle.row3_order.specs.StepLaws.{count_before_step, heads_before_step}
@@ -124,7 +124,7 @@ module _ (ls : List Line) where
 
     -- ---- the declaration
     pub decl_at : get_or (program ls) d no_decl ≡ decl_of (trees ls) (group ls d)
-    decl_at = ap (λ (ds : List Decl). get_or ds d no_decl) (program_groups ls) ∙ get_d_map (decl_of (trees ls)) (groups is_head ls) d no_decl no_group (rw length_groups h)
+    decl_at = ap (λ (ds : List Decl). get_or ds d no_decl) (program_groups ls) ∙ get_or_map (decl_of (trees ls)) (groups is_head ls) d no_decl no_group (rw length_groups h)
 
     pub dtype_is : dtype_at (program ls) d ≡ close_fields (dtype_of (trees ls) (group ls d))
     unfolding decl_of

@@ -7,9 +7,9 @@ use Rattle.number_words.proofs.four_spaces.Tie as tie
 returns : tie.Need-returns
 returns c =
     let w = c.before.before.before.wide in
-    let x = c.before.before.wide2 in
-    let y = c.before.wide3 in
-    let z = c.wide4 in
+    let x = c.before.before.wide-2 in
+    let y = c.before.wide-3 in
+    let z = c.wide-4 in
     rw (← w.ensures.0, ← x.ensures.0, ← y.ensures.0, ← z.ensures.0) (four w.result x.result y.result z.result w.ensures.1 x.ensures.1 y.ensures.1 z.ensures.1)
 
 pub four_spaces_spec : {M : Type 1} → statement M

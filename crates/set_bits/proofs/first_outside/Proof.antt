@@ -17,42 +17,42 @@ use Rattle.set_bits.specs.OutsideLaws.{outside_more, outside_found}
 use Rattle.set_bits.proofs.first_outside.Statement.{statement}
 use Rattle.set_bits.proofs.first_outside.Tie as tie
 
-abbrev invariant-loop : tie.invariant-loop
+abbrev invariant-loop : tie.invariant-loop-w
 invariant-loop s at t to words w₀ w = (w ≤ words) × ((m : ℕ) → m < 64 * w → outside s at t to m ≡ false)
 
-abbrev decreases-loop : tie.decreases-loop
+abbrev decreases-loop : tie.decreases-loop-w
 decreases-loop s at t to words w₀ w = words - w
 
 -- the place of a bit of a word fits
 place_fits : (w x : ℕ) → w < 1024 → Fits w64 (64 * w + count_trailing_zeros 64 x)
 place_fits w x h = omega (arith, trailing_le 64 x)
 
-loop-holds : tie.Need-loop-init invariant-loop decreases-loop
+loop-holds : tie.Need-loop-w-init invariant-loop decreases-loop
 loop-holds c = (search rules, λ m l. absurd (omega arith))
 
-cast-k : tie.Need-overflow-cast-k invariant-loop decreases-loop
+cast-k : tie.Need-overflow_cast-k invariant-loop decreases-loop
 cast-k c = record { fits = lt_of_le_of_lt (trailing_le 64 _) (lit< tt) }
 
-add-result : tie.Need-overflow-add-result invariant-loop decreases-loop
+add-result : tie.Need-overflow_add-result invariant-loop decreases-loop
 add-result c = place_fits _ _ (search rules)
 
-returns : tie.Need-returns invariant-loop decreases-loop
+returns : tie.Need-returns-then-new-ne0 invariant-loop decreases-loop
 returns c =
     let a = c.before.before.before.before.before.args in
-    let l = c.before.before.before.before.loop in
+    let l = c.before.before.before.before.loop-w in
     let x : ℕ = get_or a.s.now (a.at + l.w) 0 in
-    outside_found a.s.now a.at a.t.now a.to l.w l.invariant.1 _ a.words (search rules) refl (lt_of_le_of_lt (and_le_l x _) (c.before.before.shared-slice-known.given (a.at + l.w)).fits) c.if1.true
+    outside_found a.s.now a.at a.t.now a.to l.w l.invariant.1 _ a.words (search rules) refl (lt_of_le_of_lt (and_le_l x _) (c.before.before.shared_slice_known-1.given (a.at + l.w)).fits) c.if-new-ne0.true
 
-loop-again : tie.Need-loop-preserved invariant-loop decreases-loop
+loop-again : tie.Need-loop-w-preserved invariant-loop decreases-loop
 loop-again c =
     let a = c.before.before.before.before.before.args in
-    let l = c.before.before.before.before.loop in
-    (search rules, outside_more a.s.now a.at a.t.now a.to l.w l.invariant.1 c.if1.false)
+    let l = c.before.before.before.before.loop-w in
+    (search rules, outside_more a.s.now a.at a.t.now a.to l.w l.invariant.1 c.if-new-ne0.false)
 
-returns-2 : tie.Need-returns-2 invariant-loop decreases-loop
+returns-2 : tie.Need-returns invariant-loop decreases-loop
 returns-2 c =
     let a = c.before.before.args in
-    sym (first_none (outside a.s.now a.at a.t.now a.to) (64 * a.words) (λ m l. c.before.loop.invariant.1 m (omega arith)))
+    sym (first_none (outside a.s.now a.at a.t.now a.to) (64 * a.words) (λ m l. c.before.loop-w.invariant.1 m (omega arith)))
 
 pub first_outside_spec : {M : Type 1} → statement M
 first_outside_spec =

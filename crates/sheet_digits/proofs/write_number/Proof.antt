@@ -11,35 +11,35 @@ use Rattle.number_columns.specs.ColumnLaws.{shown_left, write_last, write_none}
 use Rattle.sheet_digits.proofs.write_number.Statement.{statement}
 use Rattle.sheet_digits.proofs.write_number.Tie as tie
 
-abbrev invariant-loop : tie.invariant-loop
+abbrev invariant-loop : tie.invariant-loop-i
 invariant-loop out₀ n i₀ m₀ out i m = (i < length out₀) × (length out ≡ length out₀) × (shown i m ++ drop i out ≡ write (length out₀) n)
 
-abbrev decreases-loop : tie.decreases-loop
+abbrev decreases-loop : tie.decreases-loop-i
 decreases-loop out₀ n i₀ m₀ out i m = i
 
-returns : tie.Need-returns invariant-loop decreases-loop
-returns c = write_none _ _ c.if1.true
+returns : tie.Need-returns-then-i-eq0 invariant-loop decreases-loop
+returns c = write_none _ _ c.if-i-eq0.true
 
-loop-holds : tie.Need-loop-init invariant-loop decreases-loop
+loop-holds : tie.Need-loop-i-init invariant-loop decreases-loop
 loop-holds c =
     let out = c.before.before.args.out.now in
     let e : suc (length out - 1) ≡ length out = omega arith in
     (simp length-set (omega arith), refl, simp length-set (rw e at (write_last (length out - 1) c.before.before.args.n out (omega arith))))
 
-loop-again : tie.Need-loop-preserved invariant-loop decreases-loop
+loop-again : tie.Need-loop-i-preserved invariant-loop decreases-loop
 loop-again c =
-    let i = c.before.before.loop.i in
-    let m = c.before.before.loop.m in
-    let out = c.before.before.loop.out in
-    let inv = c.before.before.loop.invariant in
+    let i = c.before.before.loop-i.i in
+    let m = c.before.before.loop-i.m in
+    let out = c.before.before.loop-i.out in
+    let inv = c.before.before.loop-i.invariant in
     let e : suc (i - 1) ≡ i = omega arith in
     (omega (arith, inv.0), length-set out (i - 1) c.column.result ∙ inv.1, rw (c.column.ensures, shown_left (i - 1) m out (omega arith), e) inv.2)
 
-returns-2 : tie.Need-returns-2 invariant-loop decreases-loop
+returns-2 : tie.Need-returns invariant-loop decreases-loop
 unfolding shown
 returns-2 c =
-    let e : c.before.loop.i ≡ 0 = omega arith in
-    simp length-set at (rw e at c.before.loop.invariant.2)
+    let e : c.before.loop-i.i ≡ 0 = omega arith in
+    simp length-set at (rw e at c.before.loop-i.invariant.2)
 
 pub write_number_spec : {M : Type 1} → statement M
 write_number_spec =
@@ -58,5 +58,5 @@ write_number_spec =
     (λ c. search rules)
     (λ c. search rules)
     loop-again
-    (λ c. simp length-set at c.before.loop.invariant.1)
+    (λ c. simp length-set at c.before.loop-i.invariant.1)
     returns-2)

@@ -9,25 +9,25 @@ use Rattle.sheet_digits.specs.SixLaws.{two_digits, one_digit}
 use Rattle.sheet_digits.proofs.write_six.Statement.{statement}
 use Rattle.sheet_digits.proofs.write_six.Tie as tie
 
-returns : tie.Need-returns
-returns c = c.before.before.write-number.ensures ∙ ap (λ (w : ℕ). write w c.before.before.before.before.before.before.args.n) c.before.before.before.before.before.before.requires
+returns : tie.Need-returns-then-n-gt99
+returns c = c.before.before.write_number.ensures ∙ ap (λ (w : ℕ). write w c.before.before.before.before.before.before.args.n) c.before.before.before.before.before.before.requires
 
-slice-write-out-5 : tie.Need-slice-write-out-5
+slice-write-out-5 : tie.Need-bounds-out-4
 slice-write-out-5 c = simp length-set (omega arith)
 
-slice-write-out-6 : tie.Need-slice-write-out-6
+slice-write-out-6 : tie.Need-bounds-out-5
 slice-write-out-6 c = simp length-set (omega arith)
 
-returns-2 : tie.Need-returns-2
+returns-2 : tie.Need-returns-then-n-gt9
 returns-2 c = two_digits c.before.before.before.args.out.now c.before.before.before.args.n c.before.before.before.requires (omega arith) (omega arith)
 
-slice-write-out-7 : tie.Need-slice-write-out-7
+slice-write-out-7 : tie.Need-bounds-out-4-2
 slice-write-out-7 c = simp length-set (omega arith)
 
-slice-write-out-8 : tie.Need-slice-write-out-8
+slice-write-out-8 : tie.Need-bounds-out-5-2
 slice-write-out-8 c = simp length-set (omega arith)
 
-returns-3 : tie.Need-returns-3
+returns-3 : tie.Need-returns
 returns-3 c = one_digit c.before.before.before.args.out.now c.before.before.before.args.n c.before.before.before.requires (omega arith)
 
 pub write_six_spec : {M : Type 1} → statement M

@@ -2,7 +2,7 @@
 use mathlib.Core.Path.{sym}
 use Prim.Native.Nat.{◌*◌}
 use native.Mathlib.Omega.{arith}
-use Rattle.resolve_laws.specs.ResolverLaws.{get_d_past, get_d_any}
+use Rattle.resolve_laws.specs.ResolverLaws.{get_or_past, get_or_any}
 use borrow.Author.Rules.{rules}
 use Rattle.resolve_types.proofs.recalls.state.Statement.{statement}
 use Rattle.resolve_types.proofs.recalls.state.Tie as tie
@@ -13,7 +13,7 @@ mul-if1 : tie.Need-overflow-mul-if1
 mul-if1 c = search rules
 
 returns : tie.Need-returns
-returns c = sym (get_d_past c.before.args.u.now (2 * c.before.args.d) 3 c.if1.true)
+returns c = sym (get_or_past c.before.args.u.now (2 * c.before.args.d) 3 c.if1.true)
 
 mul-result : tie.Need-overflow-mul-result
 mul-result c = search rules
@@ -28,7 +28,7 @@ cast-result : tie.Need-overflow-cast-result
 cast-result c = omega (arith, c.shared-slice-known.given (2 * c.before.before.args.d))
 
 returns-2 : tie.Need-returns-2
-returns-2 c = get_d_any c.before.before.args.u.now (2 * c.before.before.args.d) 0 3 c.before.if1.false
+returns-2 c = get_or_any c.before.before.args.u.now (2 * c.before.before.args.d) 0 3 c.before.if1.false
 
 pub state_spec : {M : Type 1} → statement M
 state_spec =
