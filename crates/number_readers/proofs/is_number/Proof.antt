@@ -8,16 +8,16 @@ use Rattle.number_columns.specs.ColumnLaws.{scan_spaces}
 use Rattle.number_readers.proofs.is_number.Statement.{statement}
 use Rattle.number_readers.proofs.is_number.Tie as tie
 
-returns : tie.Need-returns
+returns : tie.Need-returns-then-four_spaces
 unfolding read
 returns c =
-    let k = c.before.before.before in
-    let s = c.before.before.before.before.before.before.before.before.before.before.before.args.s.now in
-    rw (c.ends.ensures, c.before.scanned.ensures, part_to_end s 4, scan_spaces s (omega arith) (sym k.before.four-spaces.ensures ∙ k.if2.true))
+    let k = c in
+    let s = c.args.s.now in
+    rw (c.ends.ensures, c.scanned.ensures, part_to_end s 4, scan_spaces s (omega arith) (sym k.four_spaces.ensures ∙ k.if-four_spaces.true))
 
-returns-2 : tie.Need-returns-2
+returns-2 : tie.Need-returns
 unfolding read
-returns-2 c = rw (c.ends2.ensures, c.before.scanned2.ensures)
+returns-2 c = rw (c.ends-2.ensures, c.scanned-2.ensures)
 
 pub is_number_spec : {M : Type 1} → statement M
 is_number_spec =

@@ -4,21 +4,21 @@ use Rattle.number_columns.specs.Column.{read}
 use Rattle.number_readers.proofs.read_number.Statement.{statement}
 use Rattle.number_readers.proofs.read_number.Tie as tie
 
-returns : tie.Need-returns
+returns : tie.Need-returns-in-Blank
 unfolding read
-returns c = rw (← c.before.before.scanned.ensures, c.enum_told.given.1)
+returns c = rw (← c.scanned.ensures, c.in-Blank.is)
 
-returns-2 : tie.Need-returns-2
+returns-2 : tie.Need-returns-in-Zero
 unfolding read
-returns-2 c = rw (← c.before.before.scanned.ensures, c.enum-told2.given.1)
+returns-2 c = rw (← c.scanned.ensures, c.in-Zero.is)
 
-returns-3 : tie.Need-returns-3
+returns-3 : tie.Need-returns-in-In
 unfolding read
-returns-3 c = rw (← c.before.before.before.scanned.ensures, c.before.v.given.1)
+returns-3 c = rw (← c.scanned.ensures, c.in-In.is)
 
-returns-4 : tie.Need-returns-4
+returns-4 : tie.Need-returns-in-Broken
 unfolding read
-returns-4 c = rw (← c.before.before.scanned.ensures, c.enum-told3.given.1)
+returns-4 c = rw (← c.scanned.ensures, c.in-Broken.is)
 
 pub read_number_spec : {M : Type 1} → statement M
 read_number_spec =

@@ -12,30 +12,30 @@ use Rattle.number_columns.specs.ColumnLaws.{scan_take, scan_below}
 use Rattle.number_readers.proofs.scanned.Statement.{statement}
 use Rattle.number_readers.proofs.scanned.Tie as tie
 
-abbrev invariant-loop : tie.invariant-loop
+abbrev invariant-loop : tie.invariant-loop-i
 invariant-loop s st₀ i₀ st i = (i ≤ length s) × (st ≡ scan Blank (take i s))
 
-abbrev decreases-loop : tie.decreases-loop
+abbrev decreases-loop : tie.decreases-loop-i
 decreases-loop s st₀ i₀ st i = length s - i
 
-loop-holds : tie.Need-loop-init invariant-loop decreases-loop
+loop-holds : tie.Need-loop-i-init invariant-loop decreases-loop
 unfolding scan
 loop-holds c = (omega arith, refl)
 
-step-requires : tie.Need-step-requires invariant-loop decreases-loop
-step-requires c κs = rw c.before.before.loop.invariant.1 (scan_below 8 _ (simp length-take (omega arith)))
+step-requires : tie.Need-step-st-requires invariant-loop decreases-loop
+step-requires c κs = rw c.loop-i.invariant.1 (scan_below 8 _ (simp length-take (omega arith)))
 
-loop-again : tie.Need-loop-preserved invariant-loop decreases-loop
+loop-again : tie.Need-loop-i-preserved invariant-loop decreases-loop
 loop-again c =
-    let i = c.before.before.before.loop.i in
-    let s = c.before.before.before.before.before.args.s.now in
-    (omega arith, rw (scan_take s i (omega arith), c.step.ensures, c.before.before.before.loop.invariant.1))
+    let i = c.loop-i.i in
+    let s = c.args.s.now in
+    (omega arith, rw (scan_take s i (omega arith), c.step-st.ensures, c.loop-i.invariant.1))
 
 returns : tie.Need-returns invariant-loop decreases-loop
 returns c =
-    let s = c.before.before.before.args.s.now in
-    let e : c.before.loop.i ≡ length s = omega arith in
-    rw (c.before.loop.invariant.1, e, take-length)
+    let s = c.args.s.now in
+    let e : c.loop-i.i ≡ length s = omega arith in
+    rw (c.loop-i.invariant.1, e, take-length)
 
 pub scanned_spec : {M : Type 1} → statement M
 scanned_spec =

@@ -11,7 +11,7 @@ use Rattle.sheet_parts.proofs.line_bytes.Tie as tie
 returns : tie.Need-returns
 unfolding line_at
 returns c =
-    let a = c.before in (
+    let a = c in (
       simp (add-sub_cancel_left, mul_comm a.args.i),
       simp (add-sub_cancel_left, length-take, length-drop) (omega (arith, within_count 6 a.args.s.now a.args.i a.requires)),
     )
