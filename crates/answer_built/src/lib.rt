@@ -3,7 +3,7 @@ ghost use Rattle.std.specs.Prelude.{◌≡◌};
 ghost use Rattle.answer_built.specs.Built.{refused_as};
 
 // Code, place and rounds, and the lengths of the two sheets that were written.
-#[derive(Drop)]
+#[derive(Clone, Copy)]
 pub struct Built {
     pub code: u32,
     pub place: usize,
@@ -13,7 +13,7 @@ pub struct Built {
 }
 
 // The same, or that the memory lent was too short for the sheet.
-#[derive(Drop)]
+#[derive(Clone, Copy)]
 pub struct Tried {
     pub room: bool,
     pub built: Built,

@@ -2,7 +2,7 @@
 use answer::Refusal;
 
 // Whether the sheet is refused, and the length of the lines that were written.
-#[derive(Drop)]
+#[derive(Clone, Copy)]
 pub struct Listing {
     pub refusal: Refusal,
     pub length: usize,

@@ -9,7 +9,7 @@ ghost use Rattle.mention_types.specs.Mentions.{Mentioned};
 ghost use Rattle.build_passes.specs.Passes.{Room, Lent, Judged, Ran};
 
 // The rounds of erasure, and the first declaration that returns to itself, or the number of declarations.
-#[derive(Drop)]
+#[derive(Clone, Copy)]
 pub struct Run {
     pub rounds: usize,
     pub returning: usize,

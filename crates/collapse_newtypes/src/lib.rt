@@ -10,7 +10,7 @@ ghost use Rattle.collapse_newtypes.specs.declared.Only.TheVariants as only;
 ghost use Rattle.collapse_newtypes.specs.Newtypes as newtypes;
 
 // The only kept field of a declaration, by its F line.
-#[derive(Drop)]
+#[derive(Clone, Copy)]
 pub enum Only {
     Field(usize),
     Nothing,

@@ -1,7 +1,7 @@
 // What erasure answers: the definitions and laws are in specs/.
 
 // Which types and which declarations are erased, and after how many rounds.
-#[derive(Drop)]
+#[derive(Clone, Copy)]
 pub struct Erasure {
     pub node: [u8; 1024],
     pub decl: [u8; 96],

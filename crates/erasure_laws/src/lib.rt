@@ -4,21 +4,21 @@
 pub mod erasure;
 
 // Whether a declaration is erased, and below which type the marks of types are right.
-#[derive(Drop)]
+#[derive(Clone, Copy)]
 pub struct Ruled {
     pub erased: bool,
     pub right: usize,
 }
 
 // A field, and below which type the marks of types are right.
-#[derive(Drop)]
+#[derive(Clone, Copy)]
 pub struct Field {
     pub number: usize,
     pub right: usize,
 }
 
 // A round: how many declarations were erased, and below which type the marks of types are right.
-#[derive(Drop)]
+#[derive(Clone, Copy)]
 pub struct Round {
     pub erased: usize,
     pub right: usize,

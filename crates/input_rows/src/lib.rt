@@ -19,14 +19,14 @@ use sheet_parts::LINE;
 use walk_cells::CELLS;
 
 // The refusal, and the rounds of erasure where there is none.
-#[derive(Drop)]
+#[derive(Clone, Copy)]
 pub struct Judged {
     pub refusal: Refusal,
     pub rounds: usize,
 }
 
 // The refusal; and of an accepted sheet the rounds, the lines before its Q lines, the cells of their table, and the declarations.
-#[derive(Drop)]
+#[derive(Clone, Copy)]
 pub struct Decided {
     pub refusal: Refusal,
     pub rounds: usize,

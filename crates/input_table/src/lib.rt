@@ -12,7 +12,7 @@ use table_access::HEADER;
 use walk_cells::CELLS;
 
 // The refusal of rows 2 to 7, and of an accepted sheet the lines before its Q lines and the cells of their table.
-#[derive(Drop)]
+#[derive(Clone, Copy)]
 pub struct Front {
     pub refusal: Refusal,
     pub lines: usize,

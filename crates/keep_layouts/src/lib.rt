@@ -1,7 +1,7 @@
 // What a declaration keeps, its verdict, and what becomes of its name: the definitions and laws are in specs/.
 
 // How a type is laid out (FORMAT, section 2). A newtype has the name of its constructor and the F line of its payload.
-#[derive(Drop)]
+#[derive(Clone, Copy)]
 pub enum Layout {
     Erased,
     Newtype { ctor: u16, field: u16 },
@@ -11,7 +11,7 @@ pub enum Layout {
 }
 
 // The verdict on a declaration.
-#[derive(Drop)]
+#[derive(Clone, Copy)]
 pub struct Verdict {
     pub erased: bool,
     pub layout: Layout,

@@ -9,7 +9,7 @@ use answer_built::Built;
 const LINE: usize = 32;
 
 // How far a way has come.
-#[derive(Drop)]
+#[derive(Clone, Copy)]
 struct Progress {
     at: usize,
     units: u32,

@@ -11,7 +11,7 @@ use sheet_writer::row_at;
 
 // Where the A and the Y lines of the left sheet begin, how many of each are written, and how many types wait for the
 // node that has them as children.
-#[derive(Drop)]
+#[derive(Clone, Copy)]
 pub struct Pen {
     pub lists: usize,
     pub nodes: usize,

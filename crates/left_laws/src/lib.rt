@@ -1,7 +1,7 @@
 // What is left of an accepted sheet's declarations: the definitions and laws are in specs/.
 
 // How many lines the left sheet has: A, Y and those of declarations; or that there is no room to tell.
-#[derive(Drop)]
+#[derive(Clone, Copy)]
 pub struct Count {
     pub room: bool,
     pub args: usize,

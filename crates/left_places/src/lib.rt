@@ -15,7 +15,7 @@ use node_rows::write_nodes;
 use sheet_writer::row_at;
 
 // Where the A and the Y lines begin, how many of each are written, and the line at which declarations go on.
-#[derive(Drop)]
+#[derive(Clone, Copy)]
 pub struct Place {
     pub lists: usize,
     pub nodes: usize,

@@ -3,7 +3,7 @@
 // Row 3: what may come next. A line of the header, of this place among N, A, Y and declarations or
 // a later one; or, in a declaration, so many P lines, then F lines, then C lines, each with its F
 // lines, then V.
-#[derive(Drop)]
+#[derive(Clone, Copy)]
 pub enum Due {
     Header(u32),
     Within {
@@ -15,7 +15,7 @@ pub enum Due {
 }
 
 // Row 5: the width of an integer type, a case for each of the source's `iwidth`, in its order.
-#[derive(Drop)]
+#[derive(Clone, Copy)]
 pub enum Iwidth {
     W8,
     W16,
@@ -26,7 +26,7 @@ pub enum Iwidth {
 }
 
 // The width that a number stands for, if there is one.
-#[derive(Drop)]
+#[derive(Clone, Copy)]
 pub enum Width {
     Known(Iwidth),
     Unknown,

@@ -1,7 +1,7 @@
 // Numbers in columns: what is read of them. The definitions and laws are in specs/.
 
 // What has been read of a number so far.
-#[derive(Drop)]
+#[derive(Clone, Copy)]
 pub enum Scan {
     Blank,
     Zero,
@@ -10,7 +10,7 @@ pub enum Scan {
 }
 
 // The number in a run of columns, or Bad where they hold none.
-#[derive(Drop)]
+#[derive(Clone, Copy)]
 pub enum Number {
     Value(u32),
     Bad,

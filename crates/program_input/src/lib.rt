@@ -7,7 +7,7 @@ use libc::STDIN_FILENO;
 const TURNS: usize = 1048576;
 
 // What is read so far, and whether there may be more or a read failed.
-#[derive(Drop)]
+#[derive(Clone, Copy)]
 pub struct Input {
     pub length: usize,
     pub more: bool,

@@ -12,7 +12,7 @@ use reach_sets::WORDS;
 use sheet_parts::LINE;
 
 // The refusal, and how many declarations an accepted sheet has.
-#[derive(Drop)]
+#[derive(Clone, Copy)]
 pub struct Index {
     pub refusal: Refusal,
     pub decls: usize,

@@ -20,7 +20,7 @@ const ABBREVIATION: u32 = 1;
 
 // The answer of the resolution (below `resolve_types::VALUE`: why there is no outcome), and of which
 // declaration.
-#[derive(Drop)]
+#[derive(Clone, Copy)]
 pub struct First {
     pub answer: usize,
     pub decl: usize,

@@ -20,7 +20,7 @@ use walk_cells::CELLS;
 const LONG: usize = 4294967296;
 
 // The first line past a limit, or the count of lines; and then what the lines declare.
-#[derive(Drop)]
+#[derive(Clone, Copy)]
 pub struct Walked {
     pub past: usize,
     pub counts: Counts,
@@ -84,7 +84,7 @@ fn declared(t: Tally) -> Counts
 
 // The counts after some lines; the sum of the letters of those that count as C or F lines, which tells whether they are; and whether
 // the others are known and within their limits.
-#[derive(Drop)]
+#[derive(Clone, Copy)]
 pub struct Quick {
     pub known: bool,
     pub letters: usize,

@@ -19,7 +19,7 @@ pub const FIELDS: usize = 512;
 const PARAMS: usize = 8;
 
 // How many lines there are of each kind before a line; P lines since the last D or I line.
-#[derive(Drop)]
+#[derive(Clone, Copy)]
 pub struct Tally {
     pub names: usize,
     pub args: usize,
@@ -31,7 +31,7 @@ pub struct Tally {
 }
 
 // What the lines of a sheet declare.
-#[derive(Drop)]
+#[derive(Clone, Copy)]
 pub struct Counts {
     pub names: usize,
     pub args: usize,

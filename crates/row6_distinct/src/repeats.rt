@@ -17,7 +17,7 @@ pub const MEMBERS: usize = 512;
 
 // The groups within which the names of parameters and of fields are to differ, counted from 1. All
 // declarations are one group, and so are all constructors: group 1.
-#[derive(Drop)]
+#[derive(Clone, Copy)]
 pub struct Groups {
     pub params: u16,
     pub fields: u16,

@@ -13,7 +13,7 @@ use walk_cells::CELLS;
 
 // The declaration that a line is in: the line at which it begins, the largest keep number in it, how many of its fields up to that
 // line are kept, the tag number that its next C line is to have, and how much that grows with each C line.
-#[derive(Drop)]
+#[derive(Clone, Copy)]
 pub struct Decl {
     pub head: usize,
     pub most: usize,

@@ -7,7 +7,7 @@ ghost use Rattle.table_access.specs.Tables.{lines_in};
 ghost use Rattle.row9_faults.specs.Attempts as attempts;
 
 // Every type resolves; the code and the declaration of the first fault; the array was full.
-#[derive(Drop)]
+#[derive(Clone, Copy)]
 pub enum Outcome {
     Clear,
     Fault { code: u32, decl: usize },

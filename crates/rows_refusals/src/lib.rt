@@ -15,7 +15,7 @@ use walk_cells::CELLS;
 const COLUMNS: usize = 6;
 
 // The first of the rows that applies; and where none does what the sheet declares, else zeros.
-#[derive(Drop)]
+#[derive(Clone, Copy)]
 pub struct Checked {
     pub refusal: Refusal,
     pub counts: Counts,

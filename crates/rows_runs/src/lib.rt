@@ -6,7 +6,7 @@ ghost use Rattle.rows_runs.specs.Runs as runs;
 use walk_cells::CELLS;
 
 // The line after each run: after the N lines, after the A lines and after the Y lines.
-#[derive(Drop)]
+#[derive(Clone, Copy)]
 pub struct Runs {
     pub names: usize,
     pub args: usize,

@@ -8,7 +8,7 @@ ghost use Rattle.set_search.specs.Search as spec;
 use set_bits::WORD;
 
 // The start, which reaches itself, or how many nodes are reached from it.
-#[derive(Drop)]
+#[derive(Clone, Copy)]
 pub enum Found {
     Start,
     Reached(usize),

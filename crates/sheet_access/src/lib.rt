@@ -8,14 +8,14 @@ use sheet_lines::Shape;
 use sheet_parts::{LINE, NUMBERS, TEXT};
 
 // The letter of a line, or that the line is past the end.
-#[derive(Drop)]
+#[derive(Clone, Copy)]
 pub enum Letter {
     Byte(u8),
     Past,
 }
 
 // A number of a line, or that its columns hold none, or that there are no such columns.
-#[derive(Drop)]
+#[derive(Clone, Copy)]
 pub enum Cell {
     Value(u32),
     Bad,

@@ -9,7 +9,7 @@ use number_columns::Number;
 use sheet_parts::{LAST, LINE, NUMBERS, TEXT, has_numbers};
 
 // What a line is: an N line with its number and the length of its text, a line of five numbers, or no line.
-#[derive(Drop)]
+#[derive(Clone, Copy)]
 pub enum Shape {
     Named(u32, usize),
     Row,

@@ -11,7 +11,7 @@ ghost use Rattle.state_names.specs.Cells as cells;
 use keep_layouts::{Layout, Verdict};
 
 // How a name is replaced, and by which Y line.
-#[derive(Drop)]
+#[derive(Clone, Copy)]
 struct Pair {
     state: u16,
     body: u16,

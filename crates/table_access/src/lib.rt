@@ -9,7 +9,7 @@ ghost use Rattle.row4_limits.specs.Limits as limits;
 ghost use Rattle.table_access.specs.Tables as tables;
 
 // How many lines there are, and of each kind.
-#[derive(Drop)]
+#[derive(Clone, Copy)]
 pub struct Sizes {
     pub lines: usize,
     pub names: usize,

@@ -13,7 +13,7 @@ ghost use Rattle.table_index.specs.Index as index;
 use table_access::{AT_BEGINS, AT_CTORS, AT_FIELDS, AT_NAMES, AT_PARAMS, HEADER, Sizes};
 
 // How many declarations and how many P, C and F lines stand before a line.
-#[derive(Drop)]
+#[derive(Clone, Copy)]
 struct Seen {
     decls: usize,
     params: usize,

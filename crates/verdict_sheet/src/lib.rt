@@ -19,7 +19,7 @@ use overlay::THIRD;
 use sheet_parts::LINE;
 
 // How many F and C lines of the sheet stand before a line.
-#[derive(Drop)]
+#[derive(Clone, Copy)]
 struct Counts {
     fields: usize,
     ctors: usize,

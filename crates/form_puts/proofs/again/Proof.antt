@@ -42,36 +42,36 @@ module _ (d : List ℕ) (from end at : ℕ) (h : from ≤ end) (k : end ≤ at) 
         full = λ u. absurd (omega arith);
       }
 
-abbrev invariant-loop : tie.invariant-loop
+abbrev invariant-loop : tie.invariant-loop-i
 invariant-loop out₀ from end at n i₀ out i = (i ≤ n) × (length out ≡ length out₀) × (out ≡ paste out₀ at (drop from out₀) i)
 
-abbrev decreases-loop : tie.decreases-loop
+abbrev decreases-loop : tie.decreases-loop-i
 decreases-loop out₀ from end at n i₀ out i = n - i
 
-returns : tie.Need-returns invariant-loop decreases-loop
+returns : tie.Need-returns-then-out-at invariant-loop decreases-loop
 returns c =
-    let a = c.before.args in
-    copied_none a.out.now a.from a.end a.at c.before.requires.0 c.before.requires.1 c.before.requires.2 (omega (arith, c.if1.true))
+    let a = c.args in
+    copied_none a.out.now a.from a.end a.at c.requires.0 c.requires.1 c.requires.2 (omega (arith, c.if-out-at.true))
 
-loop-holds : tie.Need-loop-init invariant-loop decreases-loop
+loop-holds : tie.Need-loop-i-init invariant-loop decreases-loop
 loop-holds c =
-    let a = c.before.args in
+    let a = c.args in
     (omega arith, refl, paste-zero a.out.now a.at (drop a.from a.out.now))
 
-loop-again : tie.Need-loop-preserved invariant-loop decreases-loop
+loop-again : tie.Need-loop-i-preserved invariant-loop decreases-loop
 loop-again c =
-    let a = c.before.before.before.before.args in
-    let l = c.before.before.loop in (
+    let a = c.args in
+    let l = c.loop-i in (
       omega arith,
       simp length-set l.invariant.1,
       copied_more a.out.now a.from a.at l.i l.out (omega arith) (omega arith) l.invariant.2,
     )
 
-returns-2 : tie.Need-returns-2 invariant-loop decreases-loop
+returns-2 : tie.Need-returns invariant-loop decreases-loop
 returns-2 c =
-    let a = c.before.before.before.args in
-    let p = c.before.before.before.requires in
-    let l = c.before.loop in
+    let a = c.args in
+    let p = c.requires in
+    let l = c.loop-i in
     copied a.out.now a.from a.end a.at p.0 p.1 p.2 l.i l.out (omega arith) (omega arith) l.invariant.1 l.invariant.2
 
 pub again_spec : {M : Type 1} → statement M

@@ -4,11 +4,11 @@ use borrow.Author.Rules.{rules}
 use Rattle.form_puts.proofs.put.Statement.{statement}
 use Rattle.form_puts.proofs.put.Tie as tie
 
-returns : tie.Need-returns
-returns c = put_one _ _ _ c.if1.true
+returns : tie.Need-returns-then-at-out
+returns c = put_one _ _ _ c.if-at-out.true
 
-returns-2 : tie.Need-returns-2
-returns-2 c = put_past _ _ _ c.if1.false
+returns-2 : tie.Need-returns
+returns-2 c = put_past _ _ _ c.if-at-out.false
 
 pub put_spec : {M : Type 1} → statement M
 put_spec =

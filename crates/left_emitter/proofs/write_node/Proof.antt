@@ -15,29 +15,29 @@ use Rattle.left_emitter.proofs.write_node.Tie as tie
 few : (w : ℕ) (st : List ℕ) (at top : ℕ) → at ≡ top - taken (node_of w) → length (listed (node_of w) (take (top - at) (drop at st))) ≤ args_of (node_of w)
 few w st at top e = listed_few (node_of w) (take (top - at) (drop at st)) (part_few st at top (taken (node_of w)) e)
 
-put-list-requires : tie.Need-put-list-requires
+put-list-requires : tie.Need-put_list-n-requires
 put-list-requires c κs =
     let a = c.before.before.before.before.before.before.before.before.before.before.before.args in
     let at = c.before.before.before.before.before.before.before.less.result in
     let e = c.before.before.before.before.before.before.before.less.ensures ∙ ap (λ (t : ℕ). a.p.waiting - t) c.before.before.before.before.before.before.before.before.children.ensures in
     omega (arith, c.before.before.before.before.before.before.before.before.before.before.before.requires.args_room, few a.w a.stack.now at a.p.waiting e)
 
-add-t19 : tie.Need-overflow-add-t19
+add-t19 : tie.Need-overflow_add-result
 add-t19 c =
     let a = c.before.before.before.before.before.before.before.before.before.before.before.before.before.before.before.before.before.before.before.before.args in
     let at = c.before.before.before.before.before.before.before.before.before.before.before.before.before.before.before.before.less.result in
     let e = c.before.before.before.before.before.before.before.before.before.before.before.before.before.before.before.before.less.ensures ∙ ap (λ (t : ℕ). a.p.waiting - t) c.before.before.before.before.before.before.before.before.before.before.before.before.before.before.before.before.before.children.ensures in
-    omega (arith, c.before.before.before.before.before.before.before.before.before.before.before.before.before.before.before.before.before.before.before.before.requires.args_few, c.before.before.before.before.before.before.before.before.put-list.ensures.0, few a.w a.stack.now at a.p.waiting e)
+    omega (arith, c.before.before.before.before.before.before.before.before.before.before.before.before.before.before.before.before.before.before.before.before.requires.args_few, c.put_list-n.ensures.0, few a.w a.stack.now at a.p.waiting e)
 
-add-t12 : tie.Need-overflow-add-t12
-add-t12 c = omega (arith, c.before.before.before.before.before.before.before.before.before.before.before.before.before.before.before.before.before.less.ensures, c.before.before.before.before.before.before.before.before.before.before.before.before.before.before.before.before.before.before.before.before.before.requires.waits, c.before.before.before.before.before.before.before.before.before.before.before.before.before.before.before.before.before.before.before.before.before.well-formed.1.0.0)
+add-t12 : tie.Need-overflow_add-result-3
+add-t12 c = omega (arith, c.before.before.before.before.before.before.before.before.before.before.before.before.before.before.before.before.before.less.ensures, c.before.before.before.before.before.before.before.before.before.before.before.before.before.before.before.before.before.before.before.before.before.requires.waits, c.before.before.before.before.before.before.before.before.before.before.before.before.before.before.before.before.before.before.before.before.before.well_formed.1.0.0)
 
 returns : tie.Need-returns
 returns c =
     let a = c.before.before.before.before.before.before.before.before.before.before.before.before.before.before.before.before.before.before.before.before.before.args in
     let at = c.before.before.before.before.before.before.before.before.before.before.before.before.before.before.before.before.before.less.result in
     let e = c.before.before.before.before.before.before.before.before.before.before.before.before.before.before.before.before.before.less.ensures ∙ ap (λ (t : ℕ). a.p.waiting - t) c.before.before.before.before.before.before.before.before.before.before.before.before.before.before.before.before.before.before.children.ensures in
-    write_law (node_of a.w) a.p a.out.now _ _ a.stack.now _ at _ e c.before.before.before.before.before.before.before.before.before.before.before.before.before.before.before.before.before.before.before.before.before.requires.waits c.before.before.before.before.before.before.before.before.before.before.before.before.before.before.y-numbers.ensures c.before.before.before.before.before.before.before.before.before.put-list.ensures.0 c.before.before.before.before.before.before.before.before.before.put-list.ensures.1 c.before.before.before.before.row_at.ensures
+    write_law (node_of a.w) a.p a.out.now _ _ a.stack.now _ at _ e c.before.before.before.before.before.before.before.before.before.before.before.before.before.before.before.before.before.before.before.before.before.requires.waits c.before.before.before.before.before.before.before.before.before.before.before.before.before.before.y-numbers.ensures c.put_list-n.ensures.0 c.put_list-n.ensures.1 c.row_at.ensures
 
 pub write_node_spec : {M : Type 1} → statement M
 write_node_spec =

@@ -6,7 +6,7 @@ use Rattle.number_words.proofs.four_spaces.Tie as tie
 
 returns : tie.Need-returns
 returns c =
-    let w = c.before.before.before.wide in
+    let w = c.wide in
     let x = c.before.before.wide-2 in
     let y = c.before.wide-3 in
     let z = c.wide-4 in

@@ -8,7 +8,7 @@ use Rattle.number_words.proofs.key.Tie as tie
 returns : tie.Need-returns
 unfolding key_of
 returns c =
-    (rw (c.before.before.before.before.before.word.ensures.0, c.before.before.before.before.word-2.ensures.0, c.before.before.before.word-3.ensures.0, c.before.before.word-4.ensures.0, c.before.word-5.ensures.0, c.word-6.ensures.0), omega arith)
+    (rw (c.word.ensures.0, c.before.before.before.before.word-2.ensures.0, c.before.before.before.word-3.ensures.0, c.before.before.word-4.ensures.0, c.before.word-5.ensures.0, c.word-6.ensures.0), omega arith)
 
 pub key_spec : {M : Type 1} → statement M
 key_spec =

@@ -7,7 +7,7 @@ use Rattle.number_words.proofs.word.Tie as tie
 
 returns : tie.Need-returns
 unfolding word_at
-returns c = (rw (c.before.before.before.before.before.before.wide.ensures.0, c.before.before.before.before.wide-2.ensures.0, c.before.before.wide-3.ensures.0, c.wide-4.ensures.0), omega (arith, c.before.before.before.before.before.before.wide.ensures.1))
+returns c = (rw (c.wide.ensures.0, c.before.before.before.before.wide-2.ensures.0, c.before.before.wide-3.ensures.0, c.wide-4.ensures.0), omega (arith, c.wide.ensures.1))
 
 pub word_spec : {M : Type 1} → statement M
 word_spec =

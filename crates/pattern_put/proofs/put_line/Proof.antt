@@ -6,26 +6,26 @@ use Rattle.pattern_put.specs.PutsLaws.{line_parts}
 use Rattle.pattern_put.proofs.put_line.Statement.{statement}
 use Rattle.pattern_put.proofs.put_line.Tie as tie
 
-cast-letter : tie.Need-overflow-cast-letter
+cast-letter : tie.Need-overflow_cast-letter
 cast-letter c =
-    let a = c.before.before.before.args in
-    record { fits = rw c.letter.ensures (c.before.before.before.requires.2 a.i) }
+    let a = c.args in
+    record { fits = rw c.letter-letter.ensures (c.requires.2 a.i) }
 
 returns : tie.Need-returns
 returns c =
-    let n = c.before.before.before.before in
-    let a = n.before.before.before.before.before.before.before.before.args in
-    let p = n.before.before.before.before.before.before.before.before.requires in
+    let n = c in
+    let a = n.args in
+    let p = n.requires in
     let e = line_parts a.q.now a.i p.0 in
     rw (
       e,
-      ← n.before.before.before.before.before.letter.ensures,
-      ← n.before.before.before.before.number.ensures,
-      ← n.before.before.before.number2.ensures,
-      ← n.before.before.number3.ensures,
-      ← n.before.number4.ensures,
-      ← n.number5.ensures,
-    ) c.before.before.row_at.ensures
+      ← n.letter-letter.ensures,
+      ← n.number.ensures,
+      ← n.number-2.ensures,
+      ← n.number-3.ensures,
+      ← n.number-4.ensures,
+      ← n.number-5.ensures,
+    ) c.row_at.ensures
 
 pub put_line_spec : {M : Type 1} → statement M
 put_line_spec =

@@ -6,10 +6,10 @@ use borrow.Author.Rules.{rules}
 use Rattle.program_input.proofs.read_all.Statement.{statement}
 use Rattle.program_input.proofs.read_all.Tie as tie
 
-abbrev invariant-loop : tie.invariant-loop
+abbrev invariant-loop : tie.invariant-loop-turns
 invariant-loop buffer₀ at₀ turns₀ buffer at turns = (at ≤ length buffer) × (length buffer ≡ length buffer₀)
 
-abbrev decreases-loop : tie.decreases-loop
+abbrev decreases-loop : tie.decreases-loop-turns
 decreases-loop buffer₀ at₀ turns₀ buffer at turns = 1048576 - turns
 
 pub read_all_spec : {M : Type 1} → statement M

@@ -6,53 +6,53 @@ use borrow.Author.Rules.{rules}
 use Rattle.resolve_memory.proofs.spot.Statement.{statement}
 use Rattle.resolve_memory.proofs.spot.Tie as tie
 
-abbrev invariant-loop : tie.invariant-loop
+abbrev invariant-loop : tie.invariant-loop-i
 invariant-loop n out at count slots h₀ i₀ h i = (i ≤ count) × (h < 65536)
 
-abbrev decreases-loop : tie.decreases-loop
+abbrev decreases-loop : tie.decreases-loop-i
 decreases-loop n out at count slots h₀ i₀ h i = count - i
 
-loop-holds : tie.Need-loop-init invariant-loop decreases-loop
+loop-holds : tie.Need-loop-i-init invariant-loop decreases-loop
 loop-holds c = (omega arith, omega arith)
 
-mul-h : tie.Need-overflow-mul-h invariant-loop decreases-loop
+mul-h : tie.Need-overflow_mul-h invariant-loop decreases-loop
 mul-h c = omega arith
 
-add-h : tie.Need-overflow-add-h invariant-loop decreases-loop
-add-h c = omega (arith, c.loop-test.true)
+add-h : tie.Need-overflow_add-h invariant-loop decreases-loop
+add-h c = omega (arith, c.loop-i-test.true)
 
-mul-h-2 : tie.Need-overflow-mul-h-2 invariant-loop decreases-loop
-mul-h-2 c = omega (arith, c.loop-test.true)
+mul-h-2 : tie.Need-offset_bounds-out-at invariant-loop decreases-loop
+mul-h-2 c = omega (arith, c.loop-i-test.true)
 
-shared-slice-read-h : tie.Need-shared-slice-read-h invariant-loop decreases-loop
-shared-slice-read-h c = omega (arith, c.before.loop-test.true)
+shared-slice-read-h : tie.Need-bounds-out-at invariant-loop decreases-loop
+shared-slice-read-h c = omega (arith, c.loop-i-test.true)
 
-cast-h : tie.Need-overflow-cast-h invariant-loop decreases-loop
-cast-h c = omega (arith, c.shared-slice-known.given (c.before.before.before.args.at + c.before.before.loop.i))
+cast-h : tie.Need-overflow_cast-h invariant-loop decreases-loop
+cast-h c = omega (arith, c.shared_slice_known-1.given (c.args.at + c.loop-i.i))
 
-mul-h-3 : tie.Need-overflow-mul-h-3 invariant-loop decreases-loop
-mul-h-3 c = omega (arith, c.shared-slice-known.given (c.before.before.before.args.at + c.before.before.loop.i))
+mul-h-3 : tie.Need-overflow_mul-h-in-loop-i invariant-loop decreases-loop
+mul-h-3 c = omega (arith, c.shared_slice_known-1.given (c.args.at + c.loop-i.i))
 
-add-h-2 : tie.Need-overflow-add-h-2 invariant-loop decreases-loop
-add-h-2 c = omega (arith, c.shared-slice-known.given (c.before.before.before.args.at + c.before.before.loop.i))
+add-h-2 : tie.Need-overflow_add-h-in-loop-i invariant-loop decreases-loop
+add-h-2 c = omega (arith, c.shared_slice_known-1.given (c.args.at + c.loop-i.i))
 
-add-i : tie.Need-overflow-add-i invariant-loop decreases-loop
-add-i c = omega (arith, c.before.loop-test.true)
+add-i : tie.Need-overflow_step-i invariant-loop decreases-loop
+add-i c = omega (arith, c.loop-i-test.true)
 
-loop-less : tie.Need-loop-smaller invariant-loop decreases-loop
-loop-less c = omega (arith, c.before.loop-test.true)
+loop-less : tie.Need-loop-i-smaller invariant-loop decreases-loop
+loop-less c = omega (arith, c.loop-i-test.true)
 
-loop-again : tie.Need-loop-preserved invariant-loop decreases-loop
-loop-again c = (omega (arith, c.before.loop-test.true), omega arith)
+loop-again : tie.Need-loop-i-preserved invariant-loop decreases-loop
+loop-again c = (omega (arith, c.loop-i-test.true), omega arith)
 
-mul-result : tie.Need-overflow-mul-result invariant-loop decreases-loop
+mul-result : tie.Need-overflow_mul-result invariant-loop decreases-loop
 mul-result c = omega arith
 
-rem-result : tie.Need-nonzero-rem-result invariant-loop decreases-loop
+rem-result : tie.Need-nonzero_rem-result invariant-loop decreases-loop
 rem-result c = omega arith
 
 returns : tie.Need-returns invariant-loop decreases-loop
-returns c = mod-lt _ c.before.before.requires.2
+returns c = mod-lt _ c.requires.2
 
 pub spot_spec : {M : Type 1} → statement M
 spot_spec =

@@ -24,7 +24,7 @@ unfolding cleared
 loop-again c = (search rules, search rules, rw (add-one, c.before.loop-w.invariant.2))
 
 returns : tie.Need-returns invariant-loop decreases-loop
-returns c = c.before.loop-w.invariant.2 ∙ ap (cleared c.before.before.args.s.now c.before.before.args.at) (omega arith)
+returns c = c.before.loop-w.invariant.2 ∙ ap (cleared c.args.s.now c.args.at) (omega arith)
 
 pub clear_spec : {M : Type 1} → statement M
 clear_spec =

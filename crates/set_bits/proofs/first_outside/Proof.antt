@@ -38,20 +38,20 @@ add-result c = place_fits _ _ (search rules)
 
 returns : tie.Need-returns-then-new-ne0 invariant-loop decreases-loop
 returns c =
-    let a = c.before.before.before.before.before.args in
+    let a = c.args in
     let l = c.before.before.before.before.loop-w in
     let x : ℕ = get_or a.s.now (a.at + l.w) 0 in
     outside_found a.s.now a.at a.t.now a.to l.w l.invariant.1 _ a.words (search rules) refl (lt_of_le_of_lt (and_le_l x _) (c.before.before.shared_slice_known-1.given (a.at + l.w)).fits) c.if-new-ne0.true
 
 loop-again : tie.Need-loop-w-preserved invariant-loop decreases-loop
 loop-again c =
-    let a = c.before.before.before.before.before.args in
+    let a = c.args in
     let l = c.before.before.before.before.loop-w in
     (search rules, outside_more a.s.now a.at a.t.now a.to l.w l.invariant.1 c.if-new-ne0.false)
 
 returns-2 : tie.Need-returns invariant-loop decreases-loop
 returns-2 c =
-    let a = c.before.before.args in
+    let a = c.args in
     sym (first_none (outside a.s.now a.at a.t.now a.to) (64 * a.words) (λ m l. c.before.loop-w.invariant.1 m (omega arith)))
 
 pub first_outside_spec : {M : Type 1} → statement M

@@ -15,7 +15,7 @@ use Rattle.set_bits.proofs.insert.Tie as tie
 returns : tie.Need-returns
 unfolding inserted
 returns c =
-    let a = c.before.args in
+    let a = c.args in
     ap (λ (x : ℕ). set a.s.now (a.at + a.m / 64) (bit_or (get_or a.s.now (a.at + a.m / 64) 0) x)) (shl_exact 1 (a.m % 64) 64 (lit< tt) (omega arith) ∙ one-mul (2 ^ (a.m % 64)))
 
 pub insert_spec : {M : Type 1} → statement M

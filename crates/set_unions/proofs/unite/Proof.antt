@@ -9,22 +9,22 @@ use Rattle.set_bits.specs.Bits.{united}
 use Rattle.set_unions.proofs.unite.Statement.{statement}
 use Rattle.set_unions.proofs.unite.Tie as tie
 
-abbrev invariant-loop : tie.invariant-loop
+abbrev invariant-loop : tie.invariant-loop-w
 invariant-loop s₀ to t from words w₀ s w = (w ≤ words) × (length s ≡ length s₀) × (s ≡ united s₀ to t from w)
 
-abbrev decreases-loop : tie.decreases-loop
+abbrev decreases-loop : tie.decreases-loop-w
 decreases-loop s₀ to t from words w₀ s w = words - w
 
-loop-holds : tie.Need-loop-init invariant-loop decreases-loop
+loop-holds : tie.Need-loop-w-init invariant-loop decreases-loop
 unfolding united
 loop-holds c = (search rules, refl, refl)
 
-loop-again : tie.Need-loop-preserved invariant-loop decreases-loop
+loop-again : tie.Need-loop-w-preserved invariant-loop decreases-loop
 unfolding united
-loop-again c = (search rules, search rules, rw (add-one, c.before.before.before.loop.invariant.2))
+loop-again c = (search rules, search rules, rw (add-one, c.loop-w.invariant.2))
 
 returns : tie.Need-returns invariant-loop decreases-loop
-returns c = c.before.loop.invariant.2 ∙ ap (united c.before.before.args.s.now c.before.before.args.to c.before.before.args.t.now c.before.before.args.from) (omega arith)
+returns c = c.loop-w.invariant.2 ∙ ap (united c.args.s.now c.args.to c.args.t.now c.args.from) (omega arith)
 
 pub unite_spec : {M : Type 1} → statement M
 unite_spec =

@@ -5,13 +5,13 @@ use borrow.Author.Rules.{rules}
 use Rattle.sheet_access.proofs.letter_at.Statement.{statement}
 use Rattle.sheet_access.proofs.letter_at.Tie as tie
 
-returns : tie.Need-returns
+returns : tie.Need-returns-then-i-s
 unfolding letter_at
-returns c = simp (le-ltb _ _ c.if1.true)
+returns c = simp (le-ltb _ _ c.if-i-s.true)
 
-returns-2 : tie.Need-returns-2
+returns-2 : tie.Need-returns
 unfolding letter_at
-returns-2 c = simp (lt-ltb _ _ c.before.before.if1.false, c.before.line-bytes.ensures.0)
+returns-2 c = simp (lt-ltb _ _ c.if-i-s.false, c.line_bytes-l.ensures.0)
 
 pub letter_at_spec : {M : Type 1} → statement M
 letter_at_spec = tie.close (tie.spec returns (λ c κs. search rules) (λ c. search rules) returns-2)

@@ -6,24 +6,24 @@ use borrow.Author.Rules.{rules}
 use Rattle.sheet_access.proofs.number_at.Statement.{statement}
 use Rattle.sheet_access.proofs.number_at.Tie as tie
 
-returns : tie.Need-returns
+returns : tie.Need-returns-then-i-s
 unfolding cell_at
-returns c = simp (le-ltb _ _ c.if1.true)
+returns c = simp (le-ltb _ _ c.if-i-s.true)
 
-returns-2 : tie.Need-returns-2
+returns-2 : tie.Need-returns-then-k-ge-NUMBERS
 unfolding cell_at
-returns-2 c = simp (lt-ltb _ _ c.before.if1.false, le-ltb _ _ c.if2.true)
+returns-2 c = simp (lt-ltb _ _ c.if-i-s.false, le-ltb _ _ c.if-k-ge-NUMBERS.true)
 
 -- the columns that are read are those of number k of line i
-read_there : (c : tie.After-cell) → cell_at 6 c.before.before.before.before.before.args.s.now c.before.before.before.before.before.args.i c.before.before.before.before.before.args.k ≡ cell_of c.cell.result
+read_there : (c : tie.After-cell) → cell_at 6 c.args.s.now c.args.i c.args.k ≡ cell_of c.cell.result
 unfolding cell_at
-read_there c = simp (lt-ltb _ _ c.before.before.before.if1.false, lt-ltb _ _ c.before.before.if2.false, c.cell.ensures, c.before.line-bytes.ensures.0)
+read_there c = simp (lt-ltb _ _ c.if-i-s.false, lt-ltb _ _ c.if-k-ge-NUMBERS.false, c.cell.ensures, c.line_bytes.ensures.0)
 
-returns-3 : tie.Need-returns-3
-returns-3 c = sym (read_there c.before.before.before ∙ ap cell_of c.before.v.given.1)
+returns-3 : tie.Need-returns-in-Value
+returns-3 c = sym (read_there c.before ∙ ap cell_of c.in-Value.is)
 
-returns-4 : tie.Need-returns-4
-returns-4 c = sym (read_there c.before.before ∙ ap cell_of c.enum_told.given.1)
+returns-4 : tie.Need-returns-in-Bad
+returns-4 c = sym (read_there c.before ∙ ap cell_of c.in-Bad.is)
 
 pub number_at_spec : {M : Type 1} → statement M
 number_at_spec =

@@ -12,28 +12,28 @@ use borrow.Author.Rules.{rules}
 use Rattle.sheet_access.proofs.text_at.Statement.{statement}
 use Rattle.sheet_access.proofs.text_at.Tie as tie
 
-returns : tie.Need-returns
+returns : tie.Need-returns-then-i-s
 unfolding text_at
-returns c = rw (line_past 6 _ _ c.before.if1.true)
+returns c = rw (line_past 6 _ _ c.if-i-s.true)
 
 -- the length that is read, by the line
-length_is : (c : tie.After-text-in) → c.text_in.result ≡ text_in (shape_of (decode 6 c.before.before.line-bytes.result.now))
-length_is c = c.text_in.ensures ∙ ap text_in c.before.read_line.ensures
+length_is : (c : tie.After-text_in-end) → c.text_in-end.result ≡ text_in (shape_of (decode 6 c.line_bytes-line.result.now))
+length_is c = c.text_in-end.ensures ∙ ap text_in c.read_line.ensures
 
-fits : (c : tie.After-text-in) → c.text_in.result ≤ 24
-fits c = text_fits 6 c.text_in.result c.before.before.line-bytes.result.now (length_is c)
+fits : (c : tie.After-text_in-end) → c.text_in-end.result ≤ 24
+fits c = text_fits 6 c.text_in-end.result c.line_bytes-line.result.now (length_is c)
 
-add-end : tie.Need-overflow-add-end
+add-end : tie.Need-overflow_add-end
 add-end c = omega (arith, fits c)
 
-part-result-end-2 : tie.Need-slice-bounds-result-end-2
-part-result-end-2 c = omega (arith, fits c, c.before.before.line-bytes.ensures.1)
+part-result-end-2 : tie.Need-slice_bounds-result-end-2
+part-result-end-2 c = omega (arith, fits c, c.line_bytes-line.ensures.1)
 
-returns-2 : tie.Need-returns-2
+returns-2 : tie.Need-returns
 returns-2 c =
-    let a = c.before.before.before.before.before.before.args in
-    let l = c.before.before.before.line-bytes in
-    rw add-sub_cancel_left (text_lent 6 c.before.text_in.result l.result.now (length_is c.before) a.s.now a.i l.ensures.0)
+    let a = c.args in
+    let l = c.line_bytes-line in
+    rw add-sub_cancel_left (text_lent 6 c.text_in-end.result l.result.now (length_is c.before) a.s.now a.i l.ensures.0)
 
 pub text_at_spec : {M : Type 1} → statement M
 text_at_spec =

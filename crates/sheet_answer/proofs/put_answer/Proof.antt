@@ -9,8 +9,8 @@ use Rattle.sheet_answer.proofs.put_answer.Tie as tie
 
 returns : tie.Need-returns
 returns c =
-    c.before.before.put-row.ensures
-    ∙ ap₂ (λ (m n : ℕ). encode 6 (row 82 (c.before.before.before.before.before.before.before.args.code ∷ m ∷ n ∷ 0 ∷ 0 ∷ []))) c.before.before.before.before.shown-place.ensures c.before.before.before.shown-place2.ensures
+    c.put_row.ensures
+    ∙ ap₂ (λ (m n : ℕ). encode 6 (row 82 (c.args.code ∷ m ∷ n ∷ 0 ∷ 0 ∷ []))) c.shown_place.ensures c.shown_place-2.ensures
 
 pub put_answer_spec : {M : Type 1} → statement M
 put_answer_spec =

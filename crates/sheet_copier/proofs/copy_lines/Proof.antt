@@ -10,23 +10,23 @@ use Rattle.sheet_copier.specs.CopyLaws.{copy_more}
 use Rattle.sheet_copier.proofs.copy_lines.Statement.{statement}
 use Rattle.sheet_copier.proofs.copy_lines.Tie as tie
 
-abbrev invariant-loop : tie.invariant-loop
+abbrev invariant-loop : tie.invariant-loop-i
 invariant-loop out₀ lines i₀ i-end out i =
     (i ≤ length lines) × (i-end ≡ length lines) × (length lines ≡ length out₀) × (length out ≡ length out₀) × (out ≡ take i lines ++ drop i out₀)
 
-abbrev decreases-loop : tie.decreases-loop
+abbrev decreases-loop : tie.decreases-loop-i
 decreases-loop out₀ lines i₀ i-end out i = i-end - i
 
-loop-again : tie.Need-loop-preserved invariant-loop decreases-loop
+loop-again : tie.Need-loop-i-preserved invariant-loop decreases-loop
 loop-again c =
-    let s = c.before.before.loop in
-    let a = c.before.before.before.args in
+    let s = c.loop-i in
+    let a = c.args in
     (search rules, refl, s.invariant.2, search rules, rw s.invariant.4 (copy_more a.lines.now a.out.now s.i (search rules) (omega arith)))
 
 returns : tie.Need-returns invariant-loop decreases-loop
 returns c =
-    let s = c.before.loop in
-    let a = c.before.before.args in
+    let s = c.loop-i in
+    let a = c.args in
     s.invariant.4 ∙ rw (take_all s.i a.lines.now (omega arith), drop_of_length-le a.out.now {i = s.i} (omega arith)) (append-nil a.lines.now)
 
 pub copy_lines_spec : {M : Type 1} → statement M

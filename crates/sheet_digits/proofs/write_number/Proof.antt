@@ -22,9 +22,9 @@ returns c = write_none _ _ c.if-i-eq0.true
 
 loop-holds : tie.Need-loop-i-init invariant-loop decreases-loop
 loop-holds c =
-    let out = c.before.before.args.out.now in
+    let out = c.args.out.now in
     let e : suc (length out - 1) ≡ length out = omega arith in
-    (simp length-set (omega arith), refl, simp length-set (rw e at (write_last (length out - 1) c.before.before.args.n out (omega arith))))
+    (simp length-set (omega arith), refl, simp length-set (rw e at (write_last (length out - 1) c.args.n out (omega arith))))
 
 loop-again : tie.Need-loop-i-preserved invariant-loop decreases-loop
 loop-again c =

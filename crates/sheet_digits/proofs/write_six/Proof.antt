@@ -10,7 +10,7 @@ use Rattle.sheet_digits.proofs.write_six.Statement.{statement}
 use Rattle.sheet_digits.proofs.write_six.Tie as tie
 
 returns : tie.Need-returns-then-n-gt99
-returns c = c.before.before.write_number.ensures ∙ ap (λ (w : ℕ). write w c.before.before.before.before.before.before.args.n) c.before.before.before.before.before.before.requires
+returns c = c.write_number.ensures ∙ ap (λ (w : ℕ). write w c.args.n) c.requires
 
 slice-write-out-5 : tie.Need-bounds-out-4
 slice-write-out-5 c = simp length-set (omega arith)
@@ -19,7 +19,7 @@ slice-write-out-6 : tie.Need-bounds-out-5
 slice-write-out-6 c = simp length-set (omega arith)
 
 returns-2 : tie.Need-returns-then-n-gt9
-returns-2 c = two_digits c.before.before.before.args.out.now c.before.before.before.args.n c.before.before.before.requires (omega arith) (omega arith)
+returns-2 c = two_digits c.args.out.now c.args.n c.requires (omega arith) (omega arith)
 
 slice-write-out-7 : tie.Need-bounds-out-4-2
 slice-write-out-7 c = simp length-set (omega arith)
@@ -28,7 +28,7 @@ slice-write-out-8 : tie.Need-bounds-out-5-2
 slice-write-out-8 c = simp length-set (omega arith)
 
 returns-3 : tie.Need-returns
-returns-3 c = one_digit c.before.before.before.args.out.now c.before.before.before.args.n c.before.before.before.requires (omega arith)
+returns-3 c = one_digit c.args.out.now c.args.n c.requires (omega arith)
 
 pub write_six_spec : {M : Type 1} → statement M
 write_six_spec =

@@ -6,7 +6,7 @@ use Rattle.sheet_lines.proofs.cell.Tie as tie
 
 returns : tie.Need-returns
 unfolding cell
-returns c = rw (c.read_number.ensures, c.before.number-part.ensures.0)
+returns c = rw (c.read_number.ensures, c.number_part.ensures.0)
 
 pub cell_spec : {M : Type 1} → statement M
 cell_spec = tie.close (tie.spec (λ c κs. search rules) (λ c κs. search rules) returns)

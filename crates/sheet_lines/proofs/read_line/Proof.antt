@@ -8,28 +8,28 @@ use Rattle.sheet_lines.specs.ShapeLaws.{decode_last, decode_is_named, decode_is_
 use Rattle.sheet_lines.proofs.read_line.Statement.{statement}
 use Rattle.sheet_lines.proofs.read_line.Tie as tie
 
-returns : tie.Need-returns
-returns c = rw (decode_short 6 c.before.before.args.l.now c.if1.true)
+returns : tie.Need-returns-then-l-lt-LINE
+returns c = rw (decode_short 6 c.args.l.now c.if-l-lt-LINE.true)
 
-returns-2 : tie.Need-returns-2
-returns-2 c = rw (decode_last 6 c.before.before.before.before.args.l.now c.if2.true)
+returns-2 : tie.Need-returns-then-l-ne10
+returns-2 c = rw (decode_last 6 c.args.l.now c.if-l-ne10.true)
 
-returns-3 : tie.Need-returns-3
+returns-3 : tie.Need-returns-then-l-eq78
 returns-3 c =
-    let l = c.before.before.before.before.before.before.before.args.l.now in
-    c.read_named.ensures ∙ sym (ap shape_of (decode_is_named 6 l c.before.before.before.if2.false c.before.if3.true))
+    let l = c.args.l.now in
+    c.read_named.ensures ∙ sym (ap shape_of (decode_is_named 6 l c.if-l-ne10.false c.if-l-eq78.true))
 
-returns-4 : tie.Need-returns-4
+returns-4 : tie.Need-returns-then-has_numbers
 returns-4 c =
-    let n = c.before.before in
-    let l = n.before.before.before.before.before.before.before.before.args.l.now in
-    c.read-row.ensures ∙ sym (ap shape_of (decode_is_row 6 l n.before.before.before.before.if2.false (sym n.has-numbers.ensures ∙ c.before.if4.true)))
+    let n = c in
+    let l = n.args.l.now in
+    c.read_row.ensures ∙ sym (ap shape_of (decode_is_row 6 l n.if-l-ne10.false (sym n.has_numbers.ensures ∙ c.if-has_numbers.true)))
 
-returns-5 : tie.Need-returns-5
+returns-5 : tie.Need-returns
 returns-5 c =
-    let n = c.before in
-    let l = n.before.before.before.before.before.before.before.before.args.l.now in
-    rw (decode_unknown 6 l n.before.before.before.before.if2.false n.before.before.if3.false (sym n.has-numbers.ensures ∙ c.if4.false))
+    let n = c in
+    let l = n.args.l.now in
+    rw (decode_unknown 6 l n.if-l-ne10.false n.if-l-eq78.false (sym n.has_numbers.ensures ∙ c.if-has_numbers.false))
 
 pub read_line_spec : {M : Type 1} → statement M
 read_line_spec =

@@ -7,8 +7,8 @@ use Rattle.sheet_lines.proofs.read_named.Tie as tie
 
 returns : tie.Need-returns
 returns c =
-    rw (c.shape_of_named.ensures, c.before.cell.ensures, c.before.before.length_of_text.ensures)
-    (sym (decode_named_shape 6 c.before.before.before.before.before.args.l.now))
+    rw (c.named_shape.ensures, c.cell.ensures, c.text_length-n.ensures)
+    (sym (decode_named_shape 6 c.args.l.now))
 
 pub read_named_spec : {M : Type 1} → statement M
 read_named_spec =

@@ -11,29 +11,29 @@ use Rattle.sheet_names.proofs.name.Statement.{statement}
 use Rattle.sheet_names.proofs.name.Tie as tie
 
 -- the spelling by the number that is read
-spelling_by : (c : tie.After-number-at) (x : Cell) → c.number_at.result ≡ x
-    → name_text 6 c.before.before.args.s.now c.before.before.args.n ≡ spelled c.before.before.args.n x (text_at 6 c.before.before.args.s.now c.before.before.args.n)
+spelling_by : (c : tie.After-number_at) (x : Cell) → c.number_at.result ≡ x
+    → name_text 6 c.args.s.now c.args.n ≡ spelled c.args.n x (text_at 6 c.args.s.now c.args.n)
 spelling_by c x e =
-    let a = c.before.before.args in
+    let a = c.args in
     name_at 6 a.s.now a.n ∙ ap (λ y. spelled a.n y (text_at 6 a.s.now a.n)) (sym c.number_at.ensures ∙ e)
 
-returns : tie.Need-returns
+returns : tie.Need-returns-then-m-n
 returns c =
-    let m = c.before.before.before.m in
-    let same : m.given.0.0 ≡ c.before.before.before.before.before.before.before.args.n = omega (arith, c.before.if1.true) in
-    c.text_at.ensures ∙ sym (spelling_by c.before.before.before.before.before _ m.given.1 ∙ rw (eq-eqb _ _ same))
+    let m = c.in-Value in
+    let same : m.given.0.0 ≡ c.args.n = omega (arith, c.if-m-n.true) in
+    c.text_at.ensures ∙ sym (spelling_by c.before.before.before _ m.given.1 ∙ rw (eq-eqb _ _ same))
 
-returns-2 : tie.Need-returns-2
+returns-2 : tie.Need-returns-else-m-n
 returns-2 c =
-    let m = c.before.before.before.m in
-    let other : (m.given.0.0 ≡ c.before.before.before.before.before.before.before.args.n) → ⊥ = λ e. omega (arith, c.before.if1.false, e) in
-    sym (spelling_by c.before.before.before.before.before _ m.given.1 ∙ rw (ne_eqb _ _ other))
+    let m = c.in-Value in
+    let other : (m.given.0.0 ≡ c.args.n) → ⊥ = λ e. omega (arith, c.if-m-n.false, e) in
+    sym (spelling_by c.before.before.before _ m.given.1 ∙ rw (ne_eqb _ _ other))
 
-returns-3 : tie.Need-returns-3
-returns-3 c = sym (spelling_by c.before.before.before _ c.before.enum_told.given.1)
+returns-3 : tie.Need-returns-in-Bad
+returns-3 c = sym (spelling_by c.before.before _ c.in-Bad.is)
 
-returns-4 : tie.Need-returns-4
-returns-4 c = sym (spelling_by c.before.before.before _ c.before.enum-told2.given.1)
+returns-4 : tie.Need-returns-in-Past
+returns-4 c = sym (spelling_by c.before.before _ c.in-Past.is)
 
 pub name_spec : {M : Type 1} → statement M
 name_spec =

@@ -10,8 +10,8 @@ use Rattle.sheet_writer.proofs.row_at.Tie as tie
 
 returns : tie.Need-returns
 returns c =
-    let a = c.before.before.before.before.before.args in
-    part_put 6 a.out.now _ a.i (a.i * 32) (a.i * 32 + 32) (omega arith) (omega arith) ∙ ap (put_at 6 a.out.now a.i) c.before.before.put-row.ensures
+    let a = c.args in
+    part_put 6 a.out.now _ a.i (a.i * 32) (a.i * 32 + 32) (omega arith) (omega arith) ∙ ap (put_at 6 a.out.now a.i) c.put_row.ensures
 
 pub row_at_spec : {M : Type 1} → statement M
 row_at_spec =

@@ -6,7 +6,7 @@ use Rattle.walk_cells.proofs.letter.Statement.{statement}
 use Rattle.walk_cells.proofs.letter.Tie as tie
 
 returns : tie.Need-returns
-returns c = let a = c.before in sym (letter_cell a.args.t.now a.args.i a.requires)
+returns c = let a = c in sym (letter_cell a.args.t.now a.args.i a.requires)
 
 pub letter_spec : {M : Type 1} → statement M
 letter_spec = tie.close (tie.spec (λ c. search rules) (λ c. search rules) (λ c. search rules) returns)

@@ -6,7 +6,7 @@ use Rattle.walk_cells.proofs.number.Statement.{statement}
 use Rattle.walk_cells.proofs.number.Tie as tie
 
 returns : tie.Need-returns
-returns c = let a = c.before in sym (number_cell a.args.t.now a.args.i a.args.k a.requires.0 a.requires.1)
+returns c = let a = c in sym (number_cell a.args.t.now a.args.i a.args.k a.requires.0 a.requires.1)
 
 pub number_spec : {M : Type 1} → statement M
 number_spec = tie.close (tie.spec (λ c. search rules) (λ c. search rules) (λ c. search rules) (λ c. search rules) (λ c. search rules) returns)

@@ -7,17 +7,17 @@ use Rattle.form_laws.specs.Nodes.{taken}
 use Rattle.left_emitter.proofs.node_lines.children.Statement.{statement}
 use Rattle.left_emitter.proofs.node_lines.children.Tie as tie
 
-returns : tie.Need-returns
+returns : tie.Need-returns-then-kind-le6
 unfolding taken
 returns c =
-    let h : c.before.kind.result ≤ 6 = omega arith in
-    rw (← c.before.kind.ensures, le-leb _ _ h)
+    let h : c.kind.result ≤ 6 = omega arith in
+    rw (← c.kind.ensures, le-leb _ _ h)
 
-returns-2 : tie.Need-returns-2
+returns-2 : tie.Need-returns
 unfolding taken
 returns-2 c =
-    let h : 6 < c.before.before.kind.result = omega arith in
-    rw (← c.before.before.kind.ensures, lt-leb _ _ h, ← c.count.ensures)
+    let h : 6 < c.kind.result = omega arith in
+    rw (← c.kind.ensures, lt-leb _ _ h, ← c.count.ensures)
 
 pub children_spec : {M : Type 1} → statement M
 children_spec = tie.close (tie.spec (λ c κs. search rules) returns (λ c κs. search rules) (λ c. search rules) returns-2)

@@ -6,9 +6,9 @@ use borrow.Author.Rules.{rules}
 use Rattle.left_emitter.proofs.node_lines.nth.Statement.{statement}
 use Rattle.left_emitter.proofs.node_lines.nth.Tie as tie
 
-returns-2 : tie.Need-returns-2
+returns-2 : tie.Need-returns
 returns-2 c =
-    let a = c.before.args in
+    let a = c.args in
     sym (get_or-eq_default a.ns.now 0 {n = a.i} (omega arith))
 
 pub nth_spec : {M : Type 1} → statement M

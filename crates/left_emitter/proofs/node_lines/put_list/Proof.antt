@@ -11,21 +11,21 @@ use borrow.Author.Tests.{not-true, not-false}
 use Rattle.left_emitter.proofs.node_lines.put_list.Statement.{statement}
 use Rattle.left_emitter.proofs.node_lines.put_list.Tie as tie
 
-returns : tie.Need-returns
+returns : tie.Need-returns-then-not-lists
 unfolding puts
 returns c =
-    let a = c.before.before.before.before.args in
-    rw (listed_none (node_of a.w) a.ns.now (sym c.before.lists.ensures ∙ not-true c.before.lists.result c.if1.true)) (refl, refl)
+    let a = c.args in
+    rw (listed_none (node_of a.w) a.ns.now (sym c.lists.ensures ∙ not-true c.lists.result c.if-not-lists.true)) (refl, refl)
 
-put-args-requires : tie.Need-put-args-requires
+put-args-requires : tie.Need-put_args-requires
 put-args-requires c κs =
-    let a = c.before.before.before.before.before.args in
-    rw (listed_all (node_of a.w) a.ns.now (sym c.before.before.lists.ensures ∙ not-false c.before.before.lists.result c.before.if1.false)) at c.before.before.before.before.before.requires
+    let a = c.args in
+    rw (listed_all (node_of a.w) a.ns.now (sym c.lists.ensures ∙ not-false c.lists.result c.if-not-lists.false)) at c.requires
 
-returns-2 : tie.Need-returns-2
+returns-2 : tie.Need-returns
 returns-2 c =
-    let a = c.before.before.before.before.before.before.before.before.args in
-    rw (listed_all (node_of a.w) a.ns.now (sym c.before.before.before.before.before.lists.ensures ∙ not-false c.before.before.before.before.before.lists.result c.before.before.before.before.if1.false)) (refl, c.before.before.put_args.ensures)
+    let a = c.args in
+    rw (listed_all (node_of a.w) a.ns.now (sym c.lists.ensures ∙ not-false c.lists.result c.if-not-lists.false)) (refl, c.put_args.ensures)
 
 pub put_list_spec : {M : Type 1} → statement M
 put_list_spec =

@@ -6,10 +6,10 @@ use Rattle.resolve_outcomes.specs.Laws.Scratch.{capped_small, capped_large}
 use Rattle.resolve_outcomes.proofs.sums.more.Statement.{statement}
 use Rattle.resolve_outcomes.proofs.sums.more.Tie as tie
 
-returns : tie.Need-returns
+returns : tie.Need-returns-then-n-gt-LIMIT
 returns c = sym (capped_large 1024 _ (omega arith))
 
-returns-2 : tie.Need-returns-2
+returns-2 : tie.Need-returns
 returns-2 c = sym (capped_small 1024 _ (omega arith))
 
 pub more_spec : {M : Type 1} → statement M

@@ -10,32 +10,32 @@ use Rattle.sheet_lines.specs.TextLaws.{spaces_past, spaces_not}
 use Rattle.sheet_lines.proofs.texts.blank.Statement.{statement}
 use Rattle.sheet_lines.proofs.texts.blank.Tie as tie
 
-abbrev invariant-loop : tie.invariant-loop
+abbrev invariant-loop : tie.invariant-loop-i
 invariant-loop t from n i₀ i = spaces (drop from t) ≡ spaces (drop i t)
 
-abbrev decreases-loop : tie.decreases-loop
+abbrev decreases-loop : tie.decreases-loop-i
 decreases-loop t from n i₀ i = n - i
 
-returns : tie.Need-returns invariant-loop decreases-loop
-returns c = c.blank-rest.ensures ∙ sym c.before.before.before.loop.invariant
+returns : tie.Need-returns-then-n-i-lt4 invariant-loop decreases-loop
+returns c = c.blank_rest.ensures ∙ sym c.loop-i.invariant
 
-returns-2 : tie.Need-returns-2 invariant-loop decreases-loop
+returns-2 : tie.Need-returns-then-not-four_spaces invariant-loop decreases-loop
 returns-2 c =
-    let f = c.before.four-spaces in
-    let l = c.before.before.before.before.before.before.before.before.loop in
-    let t = c.before.before.before.before.before.before.before.before.before.before.args.t.now in
-    sym (l.invariant ∙ spaces_not t l.i (omega arith) f.result f.ensures (not-true f.result c.if2.true))
+    let f = c.four_spaces in
+    let l = c.loop-i in
+    let t = c.args.t.now in
+    sym (l.invariant ∙ spaces_not t l.i (omega arith) f.result f.ensures (c.if-not-four_spaces.true))
 
-loop-again : tie.Need-loop-preserved invariant-loop decreases-loop
+loop-again : tie.Need-loop-i-preserved invariant-loop decreases-loop
 loop-again c =
-    let f = c.before.four-spaces in
-    let l = c.before.before.before.before.before.before.before.before.loop in
-    let t = c.before.before.before.before.before.before.before.before.before.before.args.t.now in
-    l.invariant ∙ sym (spaces_past t l.i (omega arith) f.result f.ensures (not-false f.result c.if2.false))
+    let f = c.four_spaces in
+    let l = c.loop-i in
+    let t = c.args.t.now in
+    l.invariant ∙ sym (spaces_past t l.i (omega arith) f.result f.ensures (c.if-not-four_spaces.false))
 
-returns-3 : tie.Need-returns-3 invariant-loop decreases-loop
+returns-3 : tie.Need-returns invariant-loop decreases-loop
 unfolding spaces
-returns-3 c = sym (c.before.loop.invariant ∙ rw (drop_of_length-le _ {i = c.before.loop.i} c.loop-test.false))
+returns-3 c = sym (c.loop-i.invariant ∙ rw (drop_of_length-le _ {i = c.loop-i.i} c.loop-i-test.false))
 
 pub blank_spec : {M : Type 1} → statement M
 blank_spec =

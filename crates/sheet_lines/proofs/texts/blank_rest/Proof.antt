@@ -11,27 +11,27 @@ use Rattle.sheet_lines.specs.TextLaws.{spaces_here}
 use Rattle.sheet_lines.proofs.texts.blank_rest.Statement.{statement}
 use Rattle.sheet_lines.proofs.texts.blank_rest.Tie as tie
 
-abbrev invariant-loop : tie.invariant-loop
+abbrev invariant-loop : tie.invariant-loop-i
 invariant-loop t from i₀ i = spaces (drop from t) ≡ spaces (drop i t)
 
-abbrev decreases-loop : tie.decreases-loop
+abbrev decreases-loop : tie.decreases-loop-i
 decreases-loop t from i₀ i = length t - i
 
-returns : tie.Need-returns invariant-loop decreases-loop
+returns : tie.Need-returns-then-t-i-ne32 invariant-loop decreases-loop
 returns c =
-    let i = c.before.before.before.loop.i in
-    let t = c.before.before.before.before.args.t.now in
-    sym (c.before.before.before.loop.invariant ∙ spaces_here t i (omega arith) ∙ rw (ne_eqb (get_or t i 0) 32 c.if1.true))
+    let i = c.loop-i.i in
+    let t = c.args.t.now in
+    sym (c.loop-i.invariant ∙ spaces_here t i (omega arith) ∙ rw (ne_eqb (get_or t i 0) 32 c.if-t-i-ne32.true))
 
-loop-again : tie.Need-loop-preserved invariant-loop decreases-loop
+loop-again : tie.Need-loop-i-preserved invariant-loop decreases-loop
 loop-again c =
-    let i = c.before.before.before.loop.i in
-    let t = c.before.before.before.before.args.t.now in
-    c.before.before.before.loop.invariant ∙ spaces_here t i (omega arith) ∙ rw (eq-eqb (get_or t i 0) 32 c.if1.false, add-one)
+    let i = c.loop-i.i in
+    let t = c.args.t.now in
+    c.loop-i.invariant ∙ spaces_here t i (omega arith) ∙ rw (eq-eqb (get_or t i 0) 32 c.if-t-i-ne32.false, add-one)
 
-returns-2 : tie.Need-returns-2 invariant-loop decreases-loop
+returns-2 : tie.Need-returns invariant-loop decreases-loop
 unfolding spaces
-returns-2 c = sym (c.before.loop.invariant ∙ rw (drop_of_length-le _ {i = c.before.loop.i} c.loop-test.false))
+returns-2 c = sym (c.loop-i.invariant ∙ rw (drop_of_length-le _ {i = c.loop-i.i} c.loop-i-test.false))
 
 pub blank_rest_spec : {M : Type 1} → statement M
 blank_rest_spec =

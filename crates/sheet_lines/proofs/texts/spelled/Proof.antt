@@ -12,37 +12,37 @@ use Rattle.sheet_lines.specs.TextLaws.{spelling_here}
 use Rattle.sheet_lines.proofs.texts.spelled.Statement.{statement}
 use Rattle.sheet_lines.proofs.texts.spelled.Tie as tie
 
-abbrev invariant-loop : tie.invariant-loop
+abbrev invariant-loop : tie.invariant-loop-i
 invariant-loop t i₀ i = (i ≤ length t) × (length (spelling t) ≡ i + length (spelling (drop i t)))
 
-abbrev decreases-loop : tie.decreases-loop
+abbrev decreases-loop : tie.decreases-loop-i
 decreases-loop t i₀ i = length t - i
 
-loop-holds : tie.Need-loop-init invariant-loop decreases-loop
+loop-holds : tie.Need-loop-i-init invariant-loop decreases-loop
 loop-holds c = (omega arith, omega arith)
 
-returns : tie.Need-returns invariant-loop decreases-loop
+returns : tie.Need-returns-then-not-graphic invariant-loop decreases-loop
 returns c =
-    let i = c.before.before.before.before.loop.i in
-    let t = c.before.before.before.before.before.before.args.t.now in
-    let g : graphic (get_or t i 0) ≡ false = sym c.before.graphic.ensures ∙ not-true c.before.graphic.result c.if1.true in
+    let i = c.loop-i.i in
+    let t = c.args.t.now in
+    let g : graphic (get_or t i 0) ≡ false = sym c.graphic.ensures ∙ c.if-not-graphic.true in
     let e : length (spelling (drop i t)) ≡ 0 = spelling_here t i (omega arith) ∙ rw g in
-    omega (arith, c.before.before.before.before.loop.invariant.1)
+    omega (arith, c.loop-i.invariant.1)
 
-loop-again : tie.Need-loop-preserved invariant-loop decreases-loop
+loop-again : tie.Need-loop-i-preserved invariant-loop decreases-loop
 loop-again c =
-    let i = c.before.before.before.before.loop.i in
-    let t = c.before.before.before.before.before.before.args.t.now in
-    let g : graphic (get_or t i 0) ≡ true = sym c.before.graphic.ensures ∙ not-false c.before.graphic.result c.if1.false in
+    let i = c.loop-i.i in
+    let t = c.args.t.now in
+    let g : graphic (get_or t i 0) ≡ true = sym c.graphic.ensures ∙ c.if-not-graphic.false in
     let e : length (spelling (drop i t)) ≡ suc (length (spelling (drop (i + 1) t))) = spelling_here t i (omega arith) ∙ rw (g, add-one) in
-    (omega arith, omega (arith, c.before.before.before.before.loop.invariant.1))
+    (omega arith, omega (arith, c.loop-i.invariant.1))
 
-returns-2 : tie.Need-returns-2 invariant-loop decreases-loop
+returns-2 : tie.Need-returns invariant-loop decreases-loop
 unfolding spelling
 returns-2 c =
-    let t = c.before.before.before.args.t.now in
-    let e : length (spelling (drop c.before.loop.i t)) ≡ 0 = rw (drop_of_length-le t {i = c.before.loop.i} c.loop-test.false) in
-    omega (arith, c.before.loop.invariant.1)
+    let t = c.args.t.now in
+    let e : length (spelling (drop c.loop-i.i t)) ≡ 0 = rw (drop_of_length-le t {i = c.loop-i.i} c.loop-i-test.false) in
+    omega (arith, c.loop-i.invariant.1)
 
 pub spelled_spec : {M : Type 1} → statement M
 spelled_spec =

@@ -8,16 +8,16 @@ use Rattle.sheet_lines.specs.TextLaws.{text_length_blank, text_length_other}
 use Rattle.sheet_lines.proofs.texts.text_length.Statement.{statement}
 use Rattle.sheet_lines.proofs.texts.text_length.Tie as tie
 
-returns : tie.Need-returns
+returns : tie.Need-returns-then-blank
 returns c =
-    let t = c.before.before.before.before.args.t.now in
-    let g : spaces (drop (length (spelling t)) t) ≡ true = rw (← c.before.before.spelled.ensures, ← c.before.blank.ensures) c.if1.true in
-    c.before.before.spelled.ensures ∙ sym (text_length_blank t g)
+    let t = c.args.t.now in
+    let g : spaces (drop (length (spelling t)) t) ≡ true = rw (← c.spelled-n.ensures, ← c.blank.ensures) c.if-blank.true in
+    c.spelled-n.ensures ∙ sym (text_length_blank t g)
 
-returns-2 : tie.Need-returns-2
+returns-2 : tie.Need-returns-else-blank
 returns-2 c =
-    let t = c.before.before.before.before.args.t.now in
-    let g : spaces (drop (length (spelling t)) t) ≡ false = rw (← c.before.before.spelled.ensures, ← c.before.blank.ensures) c.if1.false in
+    let t = c.args.t.now in
+    let g : spaces (drop (length (spelling t)) t) ≡ false = rw (← c.spelled-n.ensures, ← c.blank.ensures) c.if-blank.false in
     sym (text_length_other t g)
 
 pub text_length_spec : {M : Type 1} → statement M
