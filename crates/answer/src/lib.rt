@@ -1,4 +1,5 @@
 // The type that the definitions in specs/ and the contracts of the build share.
+#![tactic(auto)]
 
 // Whether a row applies (FORMAT, section 4): its code and place.
 #[derive(Clone, Copy)]

@@ -1,4 +1,6 @@
 // What a build answers.
+#![tactic(auto)]
+
 ghost use Rattle.std.specs.Prelude.{◌≡◌};
 ghost use Rattle.answer_built.specs.Built.{refused_as};
 

@@ -7,8 +7,8 @@ use Rattle.number_columns.specs.Column.{pick}
 use Rattle.sheet.specs.Format.{Format}
 use Rattle.sheet.specs.Line.{Line}
 use Rattle.sheet.specs.Sheet.{first, lines}
-use Rattle.sheet.specs.FirstLaws.{first_none, none_first, first_le, first_holds}
-use Rattle.sheet.specs.ListLaws.{Every}
+use Rattle.sheet.proofs.FirstLaws.{first_none, none_first, first_le, first_holds}
+use Rattle.sheet.proofs.ListLaws.{Every}
 use Rattle.model.specs.Run.{layouts_of, decl_fault}
 use Rattle.answer.specs.declared.Refusal.{Refusal}
 use Rattle.answer.specs.declared.Refusal.TheVariants.{Accepted, Refused}

@@ -12,9 +12,9 @@ use Rattle.std.proofs.lemmas.Bool.{not-false}
 use Rattle.sheet.specs.Format.{Format, line_bytes}
 use Rattle.sheet.specs.Line.{Line, named, row, bad, is_bad}
 use Rattle.sheet.specs.Sheet.{count, line, lines_from, lines, encodes, row1}
-use Rattle.sheet.specs.LineLaws.{Fits}
-use Rattle.sheet.specs.SheetLaws.{AllFit, length_lines, get_or_lines, lines_append, fit_lines, encodes_append}
-use Rattle.sheet.specs.ListLaws.{Every, every_map, neither, every_at, at_every}
+use Rattle.sheet.proofs.LineLaws.{Fits}
+use Rattle.sheet.proofs.SheetLaws.{AllFit, length_lines, get_or_lines, lines_append, fit_lines, encodes_append}
+use Rattle.sheet.proofs.ListLaws.{Every, every_map, neither, every_at, at_every}
 use Rattle.model.specs.Decl.{Decl, Dtype, TypeInfo, position}
 use Rattle.meaning.specs.Program.{name_line, is_head, select, groups, program}
 use Rattle.meaning.specs.Rows.{row5, row6}

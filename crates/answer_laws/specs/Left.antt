@@ -14,8 +14,8 @@ use Rattle.number_columns.specs.Column.{pick, ◌⇒◌∥◌}
 use Rattle.sheet.specs.Line.{Line, bad, letter, number}
 use Rattle.sheet.specs.Format.{Format, line_bytes, Ample}
 use Rattle.sheet.specs.Sheet.{count, lines, row1}
-use Rattle.sheet.specs.SheetLaws.{AllFit, length_lines, within_count, fit_lines}
-use Rattle.sheet.specs.ListLaws.{false_true, both, one_of, Every, every_map}
+use Rattle.sheet.proofs.SheetLaws.{AllFit, length_lines, within_count, fit_lines}
+use Rattle.sheet.proofs.ListLaws.{false_true, both, one_of, Every, every_map}
 use Rattle.model.specs.Cty.{Cty, size}
 use Rattle.model.specs.Decl.{NewtypeLayout, Field, Body, TAbstract, TAbbrev, TRecord, TVariant, Dtype, ctors_of, ctors_of_tydef, CtorLayout, L_erased, L_struct, L_opaque, TypeInfo, Origin, here, imported, Decl, no_decl, dtype_at, origin_at, close_fields}
 use Rattle.model.specs.Erasure.{marked, erasure_fixpoint}

@@ -5,7 +5,7 @@ use Rattle.std.proofs.Math.Bool.{or-true}
 use Rattle.number_columns.specs.Column.{pick}
 use Rattle.sheet.specs.Line.{Line, number, text}
 use Rattle.sheet.specs.Sheet.{first}
-use Rattle.sheet.specs.FirstLaws.{first_le_at}
+use Rattle.sheet.proofs.FirstLaws.{first_le_at}
 use Rattle.model.specs.Cty.{Cty}
 use Rattle.model.specs.Decl.{Dtype, TypeInfo, here, imported, Decl, no_decl, dtype_at, origin_at, close_fields}
 use Rattle.meaning.specs.Program.{

@@ -8,9 +8,9 @@ use Rattle.std.proofs.lemmas.Bool.{eqb-false, not-true}
 use Rattle.sheet.specs.Format.{Format, Ample}
 use Rattle.sheet.specs.Line.{Line}
 use Rattle.sheet.specs.Sheet.{first, count, lines}
-use Rattle.sheet.specs.SheetLaws.{length_lines}
-use Rattle.sheet.specs.FirstLaws.{first_holds, first_before}
-use Rattle.sheet.specs.ListLaws.{Every, mem_every}
+use Rattle.sheet.proofs.SheetLaws.{length_lines}
+use Rattle.sheet.proofs.FirstLaws.{first_holds, first_before}
+use Rattle.sheet.proofs.ListLaws.{Every, mem_every}
 use Rattle.model.specs.Decl.{Decl}
 use Rattle.model.specs.Run.{lay, layouts_of, layout_of_decl, resolves, returns, decl_fault}
 use Rattle.model.specs.Resolve.{resolve_checked}

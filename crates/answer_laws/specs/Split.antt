@@ -21,9 +21,9 @@ use Rattle.answer_laws.specs.Answer.{passes_build, build_passes, sheets}
 use Rattle.sheet.specs.Format.{Format, line_bytes}
 use Rattle.sheet.specs.Line.{Line, bad, is_bad, letter, number}
 use Rattle.sheet.specs.Sheet.{count, line, lines_from, lines, row2}
-use Rattle.sheet.specs.FirstLaws.{first_none}
-use Rattle.sheet.specs.SheetLaws.{within_count, length_lines, get_or_lines, lines_append}
-use Rattle.sheet.specs.ListLaws.{Every, at_every, every_left, every_right}
+use Rattle.sheet.proofs.FirstLaws.{first_none}
+use Rattle.sheet.proofs.SheetLaws.{within_count, length_lines, get_or_lines, lines_append}
+use Rattle.sheet.proofs.ListLaws.{Every, at_every, every_left, every_right}
 use Rattle.model.specs.Cty.{Cty}
 use Rattle.model.specs.Decl.{Decl, no_decl, dtype_at, position}
 use Rattle.meaning.specs.Program.{arg_line, type_line, is_head, select, groups, trees, decl_of, program}

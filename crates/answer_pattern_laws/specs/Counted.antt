@@ -11,7 +11,7 @@ use Rattle.std.proofs.Math.Dec.{eqb}
 use Rattle.std.proofs.Math.ListN.{length-append, get_or-append}
 use Rattle.number_columns.specs.Column.{◌⇒◌∥◌}
 use Rattle.sheet.specs.Line.{Line}
-use Rattle.sheet.specs.ListLaws.{Every, every_append}
+use Rattle.sheet.proofs.ListLaws.{Every, every_append}
 use Rattle.model.specs.Decl.{Decl}
 use Rattle.model_patterns.specs.Pat.{Pat, Pats, PWild, PVar, PConst, PCtor, PRecord, PTuple, POr, no_parts, part, parts, Owner, Slots, Counted, Counteds}
 use Rattle.meaning.specs.Rows.{nth_line}

@@ -9,7 +9,7 @@ use Rattle.std.proofs.Math.Nat.{zero-div, zero-mod}
 use Rattle.sheet.specs.Format.{Format, line_bytes}
 use Rattle.sheet.specs.Line.{is_bad}
 use Rattle.sheet.specs.Sheet.{count, line, lines}
-use Rattle.sheet.specs.ListLaws.{Every}
+use Rattle.sheet.proofs.ListLaws.{Every}
 use Rattle.model.specs.Names.{Declared}
 use Rattle.meaning.specs.Program.{name_line, program}
 use Rattle.meaning.specs.Rows.{count_of}

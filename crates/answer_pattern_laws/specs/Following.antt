@@ -8,16 +8,16 @@ use Rattle.std.proofs.Math.Nat.{zero-div}
 use Rattle.sheet.specs.Format.{Format, line_bytes}
 use Rattle.sheet.specs.Line.{Line, named, row, bad, decode, encode, letter, is_bad}
 use Rattle.sheet.specs.Sheet.{lines_from, lines, encodes}
-use Rattle.sheet.specs.LineLaws.{letter_decode}
-use Rattle.sheet.specs.SheetLaws.{lines_cons}
-use Rattle.sheet.specs.ListLaws.{Every, every_append, every_over, every_map, false_true}
+use Rattle.sheet.proofs.LineLaws.{letter_decode}
+use Rattle.sheet.proofs.SheetLaws.{lines_cons}
+use Rattle.sheet.proofs.ListLaws.{Every, every_append, every_over, every_map, false_true}
 use Rattle.model.specs.Run.{run}
 use Rattle.model_patterns.specs.Pat.{Pat, Pats, PWild, PVar, PConst, PCtor, PRecord, PTuple, POr, no_parts, part, ctor_owner, type_layout, Rewritten, rewritten}
 use Rattle.meaning.specs.Program.{program, type_line}
 use Rattle.meaning_laws.specs.Output.{Sized, encode_sized, encodes_sized}
 use Rattle.meaning_patterns.specs.Patterns.{pattern_line, freed_line, pat_lines, part_lines, freed_lines, rewritten_lines, pattern}
 use Rattle.pattern_laws.specs.Linked.{AllGood}
-use Rattle.pattern_laws.specs.Few.{rewritten_few}
+use Rattle.pattern_laws.proofs.Few.{rewritten_few}
 use Rattle.answer_patterns.specs.Whole.{following}
 
 -- ---- the numbers of a pattern's lines

@@ -8,8 +8,8 @@ use Prim.Native.Nat.{ℕ, zero, suc, ◌+◌, ◌≤◌, ◌<◌}
 use Rattle.std.proofs.lemmas.List.{take-append-le}
 use Rattle.sheet.specs.Line.{Line, bad, letter}
 use Rattle.sheet.specs.Sheet.{first, count}
-use Rattle.sheet.specs.FirstLaws.{first_place, place_unique, first_holds, first_before}
-use Rattle.sheet.specs.ListLaws.{contrary}
+use Rattle.sheet.proofs.FirstLaws.{first_place, place_unique, first_holds, first_before}
+use Rattle.sheet.proofs.ListLaws.{contrary}
 use Rattle.model.specs.Decl.{table}
 use Rattle.model_laws.specs.Lists.{table_cong}
 use Rattle.meaning.specs.declared.Due.{Due}

@@ -7,7 +7,7 @@ use Rattle.std.proofs.lemmas.List.{length-map}
 use Rattle.std.proofs.lemmas.Bool.{not-false}
 use Rattle.number_columns.specs.Column.{pick, ◌⇒◌∥◌}
 use Rattle.sheet.specs.Line.{Line, number}
-use Rattle.sheet.specs.ListLaws.{Every}
+use Rattle.sheet.proofs.ListLaws.{Every}
 use Rattle.model.specs.Cty.{Cty, TUnit}
 use Rattle.model.specs.Decl.{
   Ctor,
@@ -41,7 +41,7 @@ use Rattle.model.specs.Run.{run, layout_of_decl}
 use Rattle.model_laws.specs.Run.{import_layout}
 use Rattle.model_laws.specs.Resolve.{Matches}
 use Rattle.model_patterns.specs.Pat.{Owner, find_ctor, owned, ctor_owner, Slots, Constructed, Slotted, Sound}
-use Rattle.model_patterns.specs.Laws.Owners.{SoundInfo, ctor_layout_slotted, run_sound}
+use Rattle.model_patterns.proofs.Laws.Owners.{SoundInfo, ctor_layout_slotted, run_sound}
 use Rattle.meaning.specs.Program.{is, import_line, field_line, ctor_line, is_head, select, before, Group, groups, trees, field_of, ctor_of, body_of, dtype_of, keeps, keeps_of, tags, ctor_layouts_by, abbreviated, layout_by, info_of, verdict_of, decl_of, program}
 use Rattle.meaning.specs.Rows.{nth_line, row7}
 use Rattle.meaning_laws.specs.Program.{length_slot, length_program, Tells, AllTold, HeadAt, head_at, program_at, run_told}

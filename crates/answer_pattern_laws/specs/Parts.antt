@@ -10,9 +10,9 @@ use Rattle.std.proofs.lemmas.Bool.{not-false}
 use Rattle.sheet.specs.Format.{Format, line_bytes}
 use Rattle.sheet.specs.Line.{decode}
 use Rattle.sheet.specs.Sheet.{count, line, lines, row1}
-use Rattle.sheet.specs.ListLaws.{neither}
-use Rattle.sheet.specs.FirstLaws.{first_place, place_unique, first_le, first_holds, first_before}
-use Rattle.sheet.specs.SheetLaws.{line_at_left, line_at_right, line_right, length_lines, lines_append}
+use Rattle.sheet.proofs.ListLaws.{neither}
+use Rattle.sheet.proofs.FirstLaws.{first_place, place_unique, first_le, first_holds, first_before}
+use Rattle.sheet.proofs.SheetLaws.{line_at_left, line_at_right, line_right, length_lines, lines_append}
 use Rattle.meaning.specs.Program.{is}
 use Rattle.meaning.specs.Rows.{raw}
 use Rattle.meaning_patterns.specs.Patterns.{pattern_line}

@@ -11,8 +11,8 @@ use Rattle.number_columns.specs.Column.{pick}
 use Rattle.sheet.specs.Format.{Format, Ample, line_bytes}
 use Rattle.sheet.specs.Line.{Line, is_bad}
 use Rattle.sheet.specs.Sheet.{count, line, lines, row1}
-use Rattle.sheet.specs.SheetLaws.{length_lines}
-use Rattle.sheet.specs.ListLaws.{Every}
+use Rattle.sheet.proofs.SheetLaws.{length_lines}
+use Rattle.sheet.proofs.ListLaws.{Every}
 use Rattle.model.specs.Decl.{Decl}
 use Rattle.model.specs.Run.{layouts_of, returns, decl_fault}
 use Rattle.model_laws.specs.Fuel.{NoReturn}

@@ -8,8 +8,8 @@ use borrow.Author.Tests.{lt-ltb, le-ltb, le-leb, lt-leb, eq-eqb}
 use Rattle.sheet.specs.Format.{Format, line_bytes}
 use Rattle.sheet.specs.Line.{Line, is_bad, letter}
 use Rattle.sheet.specs.Sheet.{first, count, line, lines, row1, row2}
-use Rattle.sheet.specs.FirstLaws.{first_none, first_congr, place_unique, first_place}
-use Rattle.sheet.specs.SheetLaws.{get_or_lines}
+use Rattle.sheet.proofs.FirstLaws.{first_none, first_congr, place_unique, first_place}
+use Rattle.sheet.proofs.SheetLaws.{get_or_lines}
 use Rattle.meaning.specs.Program.{is, name_line}
 use Rattle.meaning.specs.Rows.{nth_line, count_of, raw, raws, row3, row4, row5, row6, row7}
 use Rattle.meaning_laws.specs.Rows.{raw_rawly}

@@ -4,7 +4,7 @@ use Rattle.std.proofs.Common.{ap, ◌∙◌, length-append}
 use Rattle.sheet.specs.Format.{Format}
 use Rattle.sheet.specs.Line.{Line, is_bad}
 use Rattle.sheet.specs.Sheet.{count, line, lines, encodes}
-use Rattle.sheet.specs.SheetLaws.{encodes_append, encodes_lines}
+use Rattle.sheet.proofs.SheetLaws.{encodes_append, encodes_lines}
 use Rattle.model.specs.Run.{run, left_program}
 use Rattle.meaning.specs.Program.{program}
 use Rattle.meaning.specs.Output.{verdict_lines, left_lines}

@@ -9,7 +9,7 @@ use Rattle.model.specs.Decl.{Dtype, Decl, TypeInfo, ctors_of_tydef, position}
 use Rattle.model.specs.Names.{pins}
 use Rattle.model.specs.Run.{run}
 use Rattle.model_patterns.specs.Pat.{Pat, parts, ctor_owner, nth_layout, type_layout, rewritten}
-use Rattle.model_patterns.specs.Laws.Local.{pattern_local}
+use Rattle.model_patterns.proofs.Laws.Local.{pattern_local}
 use Rattle.meaning.specs.Program.{program}
 use Rattle.meaning.specs.Rows.{nth_line}
 use Rattle.meaning_patterns.specs.Patterns.{kind_of, name_of, last_of, list_to, pieces, fields_among, declared_fields, miscounts, row13, rewritten_lines, pattern}

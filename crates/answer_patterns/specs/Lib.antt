@@ -1,4 +1,3 @@
 pub mod Whole
 pub mod Passes
 pub mod Cut
-pub mod Cases

@@ -1,1 +1,2 @@
 // The answer to a sheet that may end in a pattern: everything is in specs/.
+#![tactic(auto)]

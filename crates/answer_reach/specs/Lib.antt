@@ -1,3 +1,2 @@
 pub mod Index
 pub mod Given
-pub mod Cases

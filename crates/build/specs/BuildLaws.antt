@@ -2,7 +2,7 @@
 use Rattle.std.specs.Prelude.{◌≡◌, refl, List, [], ◌++◌, ℕ, ◌+◌, ◌*◌, ◌-◌, ◌≤◌, ◌<◌, length, take, drop}
 use Rattle.std.proofs.Common.{ap, ◌∙◌, subst, append-nil, arith}
 use Rattle.sheet.specs.Format.{base}
-use Rattle.sheet.specs.ListLaws.{length_nil}
+use Rattle.sheet.proofs.ListLaws.{length_nil}
 use Rattle.sheet.specs.Sheet.{count}
 use Rattle.model.specs.Run.{run}
 use Rattle.meaning.specs.Program.{program}

@@ -1,5 +1,7 @@
 // Row 12 and both sheets of a sheet that ends in a pattern: behind the verdict sheet of its declarations stand its Q lines, and behind
 // their left sheet the lines of the new pattern and of the names that it freed.
+#![tactic(auto)]
+
 ghost use Rattle.std.specs.Prelude.{◌≡◌, ◌++◌, ◌+◌, ◌≤◌, ◌<◌, length, take, drop};
 ghost use Rattle.sheet.specs.Sheet.{encodes};
 ghost use Rattle.walk_cells.specs.Cells.{lines_of};

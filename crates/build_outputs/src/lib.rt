@@ -1,4 +1,6 @@
 // Row 12 and both sheets: in arrays that serve nearly every sheet, and in larger ones only where these are too short.
+#![tactic(auto)]
+
 ghost use Rattle.std.specs.Prelude.{◌⊎◌, ◌≡◌, ◌<◌};
 ghost use Rattle.model.specs.Run.{run};
 ghost use Rattle.meaning.specs.Program.{program};

@@ -1,4 +1,6 @@
 // The passes after row 7, over the table of a sheet: erasure, kept fields, layouts, what becomes of each name, and row 8.
+#![tactic(auto)]
+
 ghost use Rattle.std.specs.Prelude.{◌≡◌, ◌*◌, ◌≤◌, length};
 ghost use Rattle.sheet.specs.Format.{base};
 ghost use Rattle.meaning.specs.Program.{type_line, field_line};

@@ -8,8 +8,8 @@ use Rattle.std.proofs.Math.Seq.{take_at}
 use Rattle.sheet.specs.Format.{base}
 use Rattle.sheet.specs.Line.{Line, row, bad, letter}
 use Rattle.sheet.specs.Sheet.{lines}
-use Rattle.sheet.specs.FirstLaws.{none_first}
-use Rattle.sheet.specs.ListLaws.{Every, every_append, every_over}
+use Rattle.sheet.proofs.FirstLaws.{none_first}
+use Rattle.sheet.proofs.ListLaws.{Every, every_append, every_over}
 use Rattle.walk_cells.specs.Cells.{cells, lines_of, bare}
 use Rattle.walk_cells.specs.CellsLaws.{length_lines_of, length_cells, lines_cells}
 use Rattle.model.specs.Decl.{Decl}
@@ -20,7 +20,7 @@ use Rattle.meaning_patterns.specs.Patterns.{good_pattern, pattern, pat_lines, pa
 use Rattle.pattern_laws.specs.Made.{made_of}
 use Rattle.pattern_laws.specs.Marks.{owners_of}
 use Rattle.pattern_laws.specs.Linked.{AllGood}
-use Rattle.pattern_laws.specs.Few.{nodes_few_left, rewritten_length}
+use Rattle.pattern_laws.proofs.Few.{nodes_few_left, rewritten_length}
 use Rattle.pattern_emit.specs.Emit.{Asked, Put}
 use Rattle.pattern_emit.specs.LinkedLaws.{linked_good}
 use Rattle.answer.specs.Answer.{refusal}

@@ -1,4 +1,6 @@
 // Row 11, and then row 12 and both sheets, of a sheet that ends in a pattern and to which no row of the input applies.
+#![tactic(auto)]
+
 ghost use Rattle.std.specs.Prelude.{◌≡◌, ◌++◌, ◌*◌, length};
 ghost use Rattle.walk_cells.specs.Cells.{lines_of};
 ghost use Rattle.model.specs.Run.{run};

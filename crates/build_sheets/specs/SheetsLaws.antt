@@ -9,12 +9,12 @@ use Prim.Native.Nat.{ℕ, ◌+◌, ◌*◌, ◌≤◌, ◌<◌}
 use Rattle.std.proofs.Math.Decide.{dec_lt}
 use Rattle.std.proofs.Math.Dec.{leb}
 use Rattle.sheet.specs.Format.{base}
-use Rattle.sheet.specs.FormatLaws.{base_ample}
+use Rattle.sheet.proofs.FormatLaws.{base_ample}
 use Rattle.sheet.specs.Line.{Line, letter, number}
-use Rattle.sheet.specs.LineLaws.{Fits}
-use Rattle.sheet.specs.ListLaws.{both, every_map}
+use Rattle.sheet.proofs.LineLaws.{Fits}
+use Rattle.sheet.proofs.ListLaws.{both, every_map}
 use Rattle.sheet.specs.Sheet.{lines}
-use Rattle.sheet.specs.SheetLaws.{length_lines}
+use Rattle.sheet.proofs.SheetLaws.{length_lines}
 use Rattle.model.specs.Decl.{Dtype, Decl, table}
 use Rattle.model.specs.Run.{somes, run, left_program}
 use Rattle.meaning.specs.Program.{name_line, type_line, is_head, program}

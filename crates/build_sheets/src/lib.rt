@@ -1,4 +1,6 @@
 // Both sheets of a sheet to which no row applies but those of the outputs: counted first, then written.
+#![tactic(auto)]
+
 ghost use Rattle.std.specs.Prelude.{◌⊎◌, ◌≡◌, ◌*◌, ◌≤◌, ◌<◌, length};
 ghost use Rattle.model.specs.Run.{run};
 ghost use Rattle.meaning.specs.Program.{name_line, program};

@@ -32,7 +32,7 @@ use Rattle.answer_patterns.specs.Cut.{build, builds, Cut, Call, Over, InTurn, la
 use Rattle.answer_reach.specs.Index.{x_line}
 use Rattle.answer_reach.specs.Given.{input_refusal, declared, Indexes}
 use Rattle.set_bits.specs.Bits.{has}
-use Rattle.sheet.specs.FormatLaws.{base_ample}
+use Rattle.sheet.proofs.FormatLaws.{base_ample}
 use Rattle.answer_laws.specs.Pass.{own_imports}
 use Rattle.claims.specs.Claims.{Accepts, decl_lines, pattern_lines, decls, marks, erased, Least, Rounds, LocalVerdict, Tags, TagLine, GuardMore, LoopsLeft, Unspent, OfSource, Unchanged, Holds, Same, FirstUnits, ReachSet, ReachCount, sheet_pattern, sheet_rewritten, PatternOfSource}
 use Rattle.claims.specs.Claims as claims

@@ -16,8 +16,8 @@ use Rattle.std.proofs.Math.ListN.{get_or-append}
 use Rattle.std.proofs.lemmas.Bool.{eqb-false, not-false}
 use Rattle.sheet.specs.Format.{Format, Ample, line_bytes}
 use Rattle.sheet.specs.Line.{Line, row, bad, letter, number}
-use Rattle.sheet.specs.SheetLaws.{length_lines, lines_append}
-use Rattle.sheet.specs.ListLaws.{Every, every_left}
+use Rattle.sheet.proofs.SheetLaws.{length_lines, lines_append}
+use Rattle.sheet.proofs.ListLaws.{Every, every_left}
 use Rattle.sheet.specs.Sheet.{count, lines, encodes}
 use Rattle.model.specs.Cty.{Cty}
 use Rattle.model.specs.Decl.{
@@ -53,8 +53,8 @@ use Rattle.model_laws.specs.Locality.{marks_local, layouts_local, info_local, le
 use Rattle.model_laws.specs.Fuel.{fuel_same}
 use Rattle.model_laws.specs.Rename.{Injective, rename_decls, SameRenamed, locality_renamed}
 use Rattle.model_patterns.specs.Pat.{Pat, pat_vars, ctor_owner, type_layout, Rewritten, rewritten, occurrences, Once, Fitting}
-use Rattle.model_patterns.specs.Laws.Accounted as accounted
-use Rattle.model_patterns.specs.Laws.Fields as fields
+use Rattle.model_patterns.proofs.Laws.Accounted as accounted
+use Rattle.model_patterns.proofs.Laws.Fields as fields
 use Rattle.meaning.specs.Program.{name_line, type_line, ctor_line, is, trees, program}
 use Rattle.meaning.specs.declared.Iwidth.{Iwidth}
 use Rattle.meaning.specs.declared.Width.TheVariants.{Known}
@@ -65,7 +65,7 @@ use Rattle.meaning_laws.specs.Rows.{ctor_declared}
 use Rattle.meaning_laws.specs.Widths as widths
 use Rattle.meaning_patterns.specs.Patterns.{pattern_line, pattern, good_pattern, pat_lines, rewritten_lines}
 use Rattle.pattern_laws.specs.Linked.{AllGood}
-use Rattle.pattern_laws.specs.ReadBack as back
+use Rattle.pattern_laws.proofs.ReadBack as back
 use Rattle.answer.specs.declared.Refusal.TheVariants.{Accepted}
 use Rattle.answer.specs.Answer.{Refuses, Answer, after}
 use Rattle.answer.specs.Answer as alone

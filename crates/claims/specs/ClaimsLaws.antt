@@ -8,9 +8,9 @@ use Rattle.number_columns.specs.Column.{pick, ◌⇒◌∥◌}
 use Rattle.sheet.specs.Format.{Format, line_bytes}
 use Rattle.sheet.specs.Line.{Line, row, letter, number}
 use Rattle.sheet.specs.Sheet.{lines}
-use Rattle.sheet.specs.LineLaws.{Fits}
-use Rattle.sheet.specs.SheetLaws.{AllFit}
-use Rattle.sheet.specs.ListLaws.{every_map, false_true}
+use Rattle.sheet.proofs.LineLaws.{Fits}
+use Rattle.sheet.proofs.SheetLaws.{AllFit}
+use Rattle.sheet.proofs.ListLaws.{every_map, false_true}
 use Rattle.model.specs.Cty.{Cty}
 use Rattle.model.specs.Decl.{table, Field, Ctor, CtorLayout, Dtype, ctors_of_tydef, TypeInfo, Origin, here, imported, Decl, dtype_at, origin_at, tag_number}
 use Rattle.model.specs.Erasure.{cty_erased, marked, erasure_fixpoint}

@@ -8,7 +8,7 @@ use Rattle.std.proofs.lemmas.Bool.{not-true, not-false}
 use Rattle.sheet.specs.Format.{line_bytes}
 use Rattle.sheet.specs.Line.{Line}
 use Rattle.sheet.specs.Sheet.{first, count, lines}
-use Rattle.sheet.specs.FirstLaws.{first_le, none_first}
+use Rattle.sheet.proofs.FirstLaws.{first_le, none_first}
 use Rattle.model.specs.Decl.{Decl, position}
 use Rattle.model.specs.Names.{Declared, undeclared}
 use Rattle.meaning.specs.Program.{is, is_head, program}

@@ -11,7 +11,7 @@ use Rattle.model.specs.Decl.{table, position, member, close, close_field, close_
 use Rattle.model.specs.Names.{fields_names, ctors_names, body_names, dtype_names, undeclared}
 use Rattle.meaning.specs.Program.{select, before, groups, list_of, tree, trees_after, trees, field_of, ctor_of, body_of, dtype_of, decl_of, program}
 use Rattle.meaning.specs.Rows.{raw}
-use Rattle.answer.specs.Cases.{Case, summary, codes, pad, bytes, joined, given, expected}
+use Rattle.answer.proofs.Cases.{Case, summary, codes, pad, bytes, joined, given, expected}
 use Rattle.answer.specs.Cut.{join, program_names}
 use Rattle.answer_patterns.specs.Cut.{build, builds}
 use Rattle.claims.specs.CutTest.{names_test, none_test, unit_test, units_test, header_test, tail_test, cut_test, cut_met}

@@ -1,7 +1,7 @@
 -- The twelve starred cases (*): what the definitions answer to these sheets, in one table under one claim; and further sheets.
 -- Assumes nothing.
 use Rattle.std.specs.Prelude.{◌≡◌, refl, List, [], ◌∷◌, map}
-use Rattle.answer.specs.Cases.{whole, summary, Case, given, expected}
+use Rattle.answer.proofs.Cases.{whole, summary, Case, given, expected}
 
 -- ---- the starred cases
 unfoldable pub starred : List Case

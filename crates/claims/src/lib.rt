@@ -1,1 +1,2 @@
 // The claims are in specs/Claims.antt.
+#![tactic(auto)]

@@ -1,4 +1,6 @@
 // The candidates for a newtype: local declarations that are not erased, without `NoNewtype`, of one constructor that keeps one field.
+#![tactic(auto)]
+
 pub mod payloads;
 
 ghost use Rattle.std.specs.Prelude.{◌≡◌, ℕ, ◌<◌, length};

@@ -13,7 +13,7 @@ use Rattle.std.proofs.Math.ListN.{length}
 use borrow.Author.Tests.{eqb-true, eqb-false, ne_eqb}
 use Rattle.number_columns.specs.Column.{pick, ◌⇒◌∥◌}
 use Rattle.sheet.specs.Line.{Line, number}
-use Rattle.sheet.specs.ListLaws.{false_true}
+use Rattle.sheet.proofs.ListLaws.{false_true}
 use Rattle.model.specs.Decl.{Ctor, CtorLayout, bit}
 use Rattle.model.specs.Layout.{first_kept, newtype_of_ctor, newtype_of}
 use Rattle.meaning.specs.Output.{all_slots}

@@ -8,7 +8,7 @@ use Rattle.std.proofs.Math.Option.{Option, none, some}
 use borrow.Author.Tests.{eq-eqb, ne_eqb, lt-ltb, le-ltb}
 use Rattle.number_columns.specs.Column.{◌⇒◌∥◌}
 use Rattle.sheet.specs.Line.{Line, number}
-use Rattle.sheet.specs.ListLaws.{contrary}
+use Rattle.sheet.proofs.ListLaws.{contrary}
 use Rattle.model.specs.Cty.{Cty}
 use Rattle.model.specs.Decl.{close, Body, TAbstract, TAbbrev, TRecord, TVariant, Dtype, ctors_of, Layout, L_erased, L_newtype, L_struct, L_abbrev, L_opaque, CtorLayout, NewtypeLayout, here, dtype_at}
 use Rattle.model.specs.Erasure.{erasure_fixpoint}

@@ -1,4 +1,6 @@
 // What the guard goes on through: the payloads of candidates, and the bodies of unfolded abbreviations, local and imported.
+#![tactic(auto)]
+
 ghost use Rattle.std.specs.Prelude.{◌≡◌, ◌<◌, length};
 ghost use Rattle.table_access.specs.Tables as tables;
 ghost use Rattle.collapse_candidates.specs.Candidates as candidates;

@@ -1,4 +1,6 @@
 // From the marks and the kept fields to the verdicts: candidates, what the guard goes on through, the guard against cycles, layouts.
+#![tactic(auto)]
+
 mod guard;
 mod laying;
 

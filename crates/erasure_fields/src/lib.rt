@@ -1,5 +1,7 @@
 // The fields of a declaration, in erasure. Marks only ever become 1, so a declaration's first kept field only moves on: it is kept
 // for the next time, with the type that the declaration waits for.
+#![tactic(auto)]
+
 ghost use Rattle.std.specs.Prelude.{◌≡◌, ◌≤◌, ◌<◌, length};
 ghost use Rattle.table_access.specs.Tables as tables;
 ghost use Rattle.erasure_marks.specs.Marks as marks;

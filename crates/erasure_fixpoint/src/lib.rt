@@ -1,4 +1,6 @@
 // Erasure: `erasure_fixpoint` over the table of a sheet that passed rows 1 to 7, and `cty_erased` of every type under it.
+#![tactic(auto)]
+
 mod first_marks;
 
 ghost use Rattle.sheet.specs.Format.{base};

@@ -10,7 +10,7 @@ use Rattle.std.proofs.Math.Dec.{eqb}
 use Rattle.std.proofs.Math.ListN.{length, get_or}
 use borrow.Author.Tests.{eqb-true, ne_eqb, ltb-true, ltb-false}
 use Rattle.sheet.specs.Line.{Line, bad, letter, number}
-use Rattle.sheet.specs.ListLaws.{both}
+use Rattle.sheet.proofs.ListLaws.{both}
 use Rattle.model.specs.Cty.{TUnit}
 use Rattle.model.specs.Decl.{TVariant, has_flag, close_body, close_fields}
 use Rattle.model.specs.Erasure.{marked, fields_erased, body_erased, dtype_erased, rule_of, rule}

@@ -11,7 +11,7 @@ use Rattle.std.proofs.lemmas.List.{length-map}
 use Rattle.std.proofs.Math.Seq.{get_or-set_other, set-get_or}
 use Rattle.std.proofs.lemmas.Bool.{eqb-false}
 use Rattle.sheet.specs.Line.{Line}
-use Rattle.sheet.specs.ListLaws.{contrary}
+use Rattle.sheet.proofs.ListLaws.{contrary}
 use Rattle.model.specs.Cty.{TUnit}
 use Rattle.model.specs.Decl.{origin_at, here, imported, position, bit}
 use Rattle.model.specs.Erasure.{is_pure, cty_erased, marked, rule_of, rule, update, sweep, same, Settled, settle, start_of, start, round}

@@ -1,6 +1,8 @@
 // What erasure keeps and answers: the definitions and laws are in specs/. A declaration's first kept field only moves on, since marks
 // only ever become 1. The marks of types are made right only as far as a declaration needs them, and from the first type on that
 // names a declaration which became erased.
+#![tactic(auto)]
+
 pub mod erasure;
 
 // Whether a declaration is erased, and below which type the marks of types are right.

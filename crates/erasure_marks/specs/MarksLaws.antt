@@ -9,7 +9,7 @@ use Rattle.std.proofs.lemmas.List.{length-map}
 use Rattle.std.proofs.Math.ListN.{get_or-map, get_or-eq_default}
 use Rattle.std.proofs.lemmas.Bool.{eqb-false}
 use Rattle.sheet.specs.Line.{Line, bad, number}
-use Rattle.sheet.specs.ListLaws.{contrary}
+use Rattle.sheet.proofs.ListLaws.{contrary}
 use Rattle.model.specs.Cty.{Cty, TUnit}
 use Rattle.model.specs.Decl.{bit}
 use Rattle.model.specs.Erasure.{is_pure, cty_erased, ctys_erased, marked}

@@ -1,5 +1,7 @@
 // Which types are erased, by the marks of declarations: `cty_erased` of one type after the other, each by the marks of lower types.
 // Marks of declarations only ever become 1, so the first kept member of a tuple only moves on: its place is kept for the next time.
+#![tactic(auto)]
+
 ghost use Rattle.std.specs.Prelude.{◌≡◌, ◌&&◌, not, ◌+◌, ◌≤◌, ◌<◌, eqb, length, get_or};
 ghost use Rattle.model.specs.Erasure as model;
 ghost use Rattle.meaning.specs.Program as program;

@@ -1,4 +1,6 @@
 // `dtype_erased` of a declaration: by its lines alone, by the type that it abbreviates, or by its fields.
+#![tactic(auto)]
+
 mod ways;
 
 ghost use Rattle.std.specs.Prelude.{◌≡◌, false, ◌<◌};

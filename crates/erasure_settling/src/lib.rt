@@ -1,4 +1,6 @@
 // Rounds until one erases nothing.
+#![tactic(auto)]
+
 mod sweeps;
 mod updates;
 

@@ -12,7 +12,7 @@ use Rattle.std.proofs.Math.Seq.{drop-append-le, get_or-append_seam}
 use borrow.Author.Tests.{eqb-true, eqb-false, ltb-true, ltb-false}
 use Rattle.number_columns.specs.Column.{◌⇒◌∥◌}
 use Rattle.sheet.specs.Line.{Line, number}
-use Rattle.sheet.specs.ListLaws.{Every, every_append}
+use Rattle.sheet.proofs.ListLaws.{Every, every_append}
 use Rattle.model.specs.Cty.{Cty, Ctys, TUnit, TAny, TExn, TVar, TInt, TFloat, TConst, TArrow, TApp, TTuple, TBuf, TRef, TInline, nil, cons, append, lengths}
 use Rattle.model.specs.Decl.{member, position}
 use Rattle.meaning.specs.Program.{type_line, program, tree, trees, list_of}

@@ -1,5 +1,7 @@
 // The nodes of a resolved type as words, from its Y line and the normal forms of unfolded declarations: no body is
 // entered, and an argument that is dropped is not looked at. A place past the end of the array says that there is no room.
+#![tactic(auto)]
+
 mod words;
 
 ghost use Rattle.std.specs.Prelude.{◌≡◌, ◌+◌, ◌*◌, ◌-◌, ◌≤◌, ◌<◌, length, take, drop};

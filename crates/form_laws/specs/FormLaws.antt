@@ -8,7 +8,7 @@ use Rattle.std.proofs.Common.{◌∙◌, subst, arith, eqb-true, ltb-false}
 use Prim.Native.Nat.{ℕ, zero, suc, ◌≤◌, ◌<◌, ◌+◌}
 use Rattle.std.proofs.Math.ListN.{length}
 use Rattle.number_columns.specs.Column.{pick}
-use Rattle.sheet.specs.ListLaws.{false_true}
+use Rattle.sheet.proofs.ListLaws.{false_true}
 use Rattle.model.specs.Cty.{
   Cty,
   Ctys,

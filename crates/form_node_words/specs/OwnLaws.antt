@@ -4,7 +4,7 @@ use Rattle.std.proofs.Math.Path.{refl}
 use Rattle.std.proofs.Common.{ap₂, sym, ◌∙◌, eq-eqb, ne_eqb, lt-ltb, le-ltb, ltb-true}
 use Prim.Native.Nat.{ℕ, suc, ◌+◌, ◌-◌, ◌≤◌, ◌<◌}
 use native.Mathlib.Omega.{arith}
-use Rattle.sheet.specs.ListLaws.{same_test}
+use Rattle.sheet.proofs.ListLaws.{same_test}
 use Rattle.number_columns.specs.Column.{pick}
 use Rattle.sheet.specs.Line.{Line, number}
 use Rattle.meaning.specs.Program.{param_line}

@@ -2,7 +2,7 @@
 use Rattle.std.specs.Prelude.{◌≡◌, refl, List, [], ◌∷◌, map, ℕ, ◌+◌, ◌*◌, ◌/◌, ◌%◌, ◌<◌}
 use Rattle.std.proofs.Common.{ap, ap₂, ◌∙◌, arith}
 use Rattle.std.proofs.Math.Nat.{mod-add-mod, mod-mod}
-use Rattle.sheet.specs.ListLaws.{Every}
+use Rattle.sheet.proofs.ListLaws.{Every}
 use Rattle.form_laws.specs.Nodes.{Node, node}
 use Rattle.form_nodes.specs.Words.{word, node_of}
 

@@ -1,4 +1,6 @@
 // A node of a type in one word: its kind, its count and its own number.
+#![tactic(auto)]
+
 ghost use Rattle.std.specs.Prelude.{◌≡◌};
 ghost use Rattle.form_laws.specs.Nodes.{node};
 ghost use Rattle.form_nodes.specs.Words.{word, node_of};

@@ -1,7 +1,7 @@
 -- Words hold the nodes of a type of at most 1,024 nodes whose numbers have room. Assumes nothing.
 use Rattle.std.specs.Prelude.{◌≡◌, List, [], ◌∷◌, ◌++◌, ℕ, ◌+◌, ◌≤◌, ◌<◌}
 use Rattle.std.proofs.Common.{arith}
-use Rattle.sheet.specs.ListLaws.{Every, every_append}
+use Rattle.sheet.proofs.ListLaws.{Every, every_append}
 use Rattle.model.specs.Cty.{Cty, Ctys, TUnit, TAny, TExn, TVar, TInt, TFloat, TConst, TArrow, TApp, TTuple, TBuf, TRef, TInline, nil, cons, lengths, walk, walks, size, sizes}
 use Rattle.model_laws.specs.Cty.{size_positive}
 use Rattle.meaning_laws.specs.Output.{TypeNumbers, TypesNumbers}

@@ -1,4 +1,6 @@
 // Words put into an array where there is room: one, and words of the array that are put once more behind all that stands in it.
+#![tactic(auto)]
+
 ghost use Rattle.std.specs.Prelude.{◌∷◌, [], ◌-◌, ◌≤◌, length, take, drop};
 ghost use Rattle.form_puts.specs.Put.{Put};
 

@@ -1,4 +1,6 @@
 // The normal forms of the declarations of one rank.
+#![tactic(auto)]
+
 mod own_forms;
 
 ghost use Rattle.std.specs.Prelude.{◌+◌, ◌*◌, ◌≤◌, ◌<◌, length};

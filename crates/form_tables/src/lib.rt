@@ -1,4 +1,6 @@
 // The normal forms of all unfolded declarations, rank after rank.
+#![tactic(auto)]
+
 mod rank_bounds;
 
 ghost use Rattle.std.specs.Prelude.{◌≡◌, ℕ, ◌*◌, ◌≤◌, ◌<◌, length, get_or};

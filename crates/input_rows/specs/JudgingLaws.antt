@@ -6,8 +6,8 @@ use borrow.Rule.Slice.PartMut.{put_mid}
 use Rattle.sheet.specs.Format.{base}
 use Rattle.sheet.specs.Line.{Line}
 use Rattle.sheet.specs.Sheet.{first, count, lines, row1}
-use Rattle.sheet.specs.SheetLaws.{length_lines}
-use Rattle.sheet.specs.FirstLaws.{first_le, first_none}
+use Rattle.sheet.proofs.SheetLaws.{length_lines}
+use Rattle.sheet.proofs.FirstLaws.{first_le, first_none}
 use Rattle.walk_cells.specs.Cells.{lines_of}
 use Rattle.meaning_bares.specs.PlaceLaws.{count_bare}
 use Rattle.model.specs.Decl.{Decl}

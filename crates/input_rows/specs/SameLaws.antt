@@ -5,7 +5,7 @@ use Rattle.std.proofs.lemmas.List.{length-map}
 use Rattle.sheet.specs.Format.{base}
 use Rattle.sheet.specs.Line.{Line}
 use Rattle.sheet.specs.Sheet.{first, count, lines}
-use Rattle.sheet.specs.SheetLaws.{length_lines}
+use Rattle.sheet.proofs.SheetLaws.{length_lines}
 use Rattle.walk_cells.specs.Cells.{bare}
 use Rattle.meaning_bares.specs.ProgramLaws.{program_bare}
 use Rattle.model.specs.Decl.{Decl}

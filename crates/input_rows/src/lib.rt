@@ -1,5 +1,7 @@
 // Every row that looks at no output, with the table of an accepted sheet and what the passes find on the way: rows 2 to 7, and then, over
 // the table, rows 8 to 10 and row 13 of the Q lines.
+#![tactic(auto)]
+
 ghost use Rattle.std.specs.Prelude.{◌≡◌, [], ◌∷◌, false, ◌+◌, ◌*◌, ◌≤◌, length};
 ghost use Rattle.sheet.specs.Format.{base};
 ghost use Rattle.sheet.specs.Sheet.{first, count, row1};

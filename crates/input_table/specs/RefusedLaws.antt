@@ -7,7 +7,7 @@ use mathlib.Core.List.{List, [], ◌∷◌}
 use Rattle.sheet.specs.Format.{base}
 use Rattle.sheet.specs.Line.{letter, is_bad}
 use Rattle.sheet.specs.Sheet.{first, count, line, lines, line_at, row1, row2}
-use Rattle.sheet.specs.FirstLaws.{first_le, none_first}
+use Rattle.sheet.proofs.FirstLaws.{first_le, none_first}
 use Rattle.meaning.specs.Program.{is}
 use Rattle.meaning.specs.Rows.{raw, raws, row3, row4, row5, row6, row7}
 use Rattle.meaning_patterns.specs.Patterns.{pattern_line}

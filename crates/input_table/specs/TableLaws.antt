@@ -16,7 +16,7 @@ use Rattle.answer.specs.Cut.{Whole}
 use Rattle.answer_laws.specs.Answer.{accepted_clear, clear_accepted}
 use Rattle.answer_laws.specs.Build.{whole_length, row1_small}
 use Rattle.rows_patterns.specs.Kept.{Held}
-use Rattle.sheet.specs.SheetLaws.{length_lines}
+use Rattle.sheet.proofs.SheetLaws.{length_lines}
 use Rattle.row4_limits.specs.declared.Counts.{Counts}
 use Rattle.row4_limits.specs.Limits.{counts_of}
 use Rattle.table_declared.specs.Passed.{Passed}
@@ -29,7 +29,7 @@ use Rattle.table_sizes.specs.Sizing.{behind, lines_behind, Counted}
 use Rattle.table_sizes.specs.SizingLaws.{count_all, cells_few}
 use Rattle.sheet.specs.Line.{is_bad}
 use Rattle.sheet.specs.Sheet.{line, lines_from, first, row2}
-use Rattle.sheet.specs.FirstLaws.{none_first}
+use Rattle.sheet.proofs.FirstLaws.{none_first}
 use Rattle.meaning.specs.Rows.{raws, row3}
 use Rattle.answer.specs.Answer.{Clear}
 use Rattle.answer_patterns.specs.Whole as whole

@@ -1,5 +1,7 @@
 // Rows 2 to 7 of a sheet, and on acceptance the table of its declarations and the cells of its Q lines: what every call begins with,
 // whatever it writes.
+#![tactic(auto)]
+
 ghost use Rattle.std.specs.Prelude.{◌≡◌, false, ◌+◌, ◌*◌, ◌≤◌, length};
 ghost use Rattle.sheet.specs.Format.{base};
 ghost use Rattle.sheet.specs.Sheet.{count, row1};

@@ -10,7 +10,7 @@ use Rattle.std.proofs.Math.ListN.{length, length-map}
 use borrow.Author.Tests.{eqb-true, eqb-false}
 use Rattle.number_columns.specs.Column.{◌⇒◌∥◌}
 use Rattle.sheet.specs.Line.{Line, bad, number}
-use Rattle.sheet.specs.ListLaws.{length_nil}
+use Rattle.sheet.proofs.ListLaws.{length_nil}
 use Rattle.model.specs.Cty.{Cty}
 use Rattle.model.specs.Decl.{table, Ctor, TAbstract, TAbbrev, TRecord, TVariant, here, ctors_of, close_field, close_body, close_fields, bit}
 use Rattle.model.specs.Erasure.{cty_erased, marked, erasure_fixpoint}

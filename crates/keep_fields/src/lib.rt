@@ -1,5 +1,7 @@
 // Which fields are kept: `ctor_layouts`, in a table with an entry for each F line. A local field goes by
 // the mark of its type, a field of an import by the number in its line.
+#![tactic(auto)]
+
 ghost use Rattle.std.specs.Prelude.{◌≡◌, suc, ◌≤◌, ◌<◌, length};
 ghost use Rattle.model.specs.Decl as decls;
 ghost use Rattle.meaning.specs.Program as program;

@@ -10,7 +10,7 @@ use Rattle.std.proofs.Math.Dec.{eqb}
 use borrow.Author.Tests.{eqb-true, eqb-false, ne_eqb}
 use Rattle.number_columns.specs.Column.{pick, ◌⇒◌∥◌}
 use Rattle.sheet.specs.Line.{Line}
-use Rattle.sheet.specs.ListLaws.{Every, every_mem}
+use Rattle.sheet.proofs.ListLaws.{Every, every_mem}
 use Rattle.model.specs.Cty.{Cty}
 use Rattle.model.specs.Decl.{Field, CtorLayout, close, Layout, L_erased, L_newtype, L_struct, L_abbrev, L_opaque}
 use Rattle.model.specs.Run.{field_types, resolves, layout_of_decl}

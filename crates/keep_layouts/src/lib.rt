@@ -1,4 +1,5 @@
 // What a declaration keeps, its verdict, and what becomes of its name: the definitions and laws are in specs/.
+#![tactic(auto)]
 
 // How a type is laid out (FORMAT, section 2). A newtype has the name of its constructor and the F line of its payload.
 #[derive(Clone, Copy)]

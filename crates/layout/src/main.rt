@@ -1,5 +1,7 @@
 // The layout pass as a program: a sheet on standard input, line R on standard output, and behind it both sheets where the sheet is
 // accepted. A read or a write that fails is told on standard error.
+#![tactic(auto)]
+
 use answer_built::Built;
 use libc::STDOUT_FILENO;
 

@@ -1,5 +1,7 @@
 // The build and the reach index for callers in C and Rust (bindings/): what `build::build` and `reach_index::reach_index` give, their numbers
 // in an array that the caller lends.
+#![tactic(auto)]
+
 ghost use Rattle.std.specs.Prelude.{◌≡◌};
 ghost use Rattle.layout_c.specs.Numbers.{Told, ToldSized};
 ghost use Rattle.layout_c.specs.Index.{code_in, place_in, ToldIndex};

@@ -1,5 +1,7 @@
 // Builds each sheet that an argument names. At first as the program `layout` does: line R and, on code 0, both sheets. After the word
 // `-limits` with outputs as long as needed and a byte shorter; after `-units` cut into units, built in turn.
+#![tactic(auto)]
+
 mod limits;
 mod output;
 mod units;

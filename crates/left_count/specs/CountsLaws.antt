@@ -12,7 +12,7 @@ use Rattle.std.proofs.Math.ListN.{length, get_or}
 use borrow.Author.Tests.{eqb-true, eqb-false, ne_eqb, ltb-true, ltb-false}
 use Rattle.number_columns.specs.Column.{pick}
 use Rattle.sheet.specs.Line.{Line, number}
-use Rattle.sheet.specs.ListLaws.{Every, every_mem, contrary}
+use Rattle.sheet.proofs.ListLaws.{Every, every_mem, contrary}
 use Rattle.model.specs.Cty.{Cty, size}
 use Rattle.model.specs.Decl.{Dtype, bit, dtype_at, table, Layout, L_erased, L_newtype, L_struct, L_abbrev, L_opaque}
 use Rattle.model.specs.Resolve.{resolve}

@@ -1,7 +1,7 @@
 -- How many A and Y lines the types of a declaration have, added up. Assumes nothing.
 use Rattle.std.specs.Prelude.{◌≡◌, List, [], ◌∷◌, map, true, false, ℕ, ◌+◌, ◌*◌, ◌≤◌, ◌<◌, length}
 use Rattle.sheet.specs.Line.{Line}
-use Rattle.sheet.specs.ListLaws.{Every}
+use Rattle.sheet.proofs.ListLaws.{Every}
 use Rattle.model.specs.Cty.{size}
 use Rattle.meaning.specs.Program.{field_line}
 use Rattle.meaning.specs.Rows.{count_of}

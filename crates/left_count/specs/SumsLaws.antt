@@ -11,7 +11,7 @@ use Rattle.std.proofs.Math.ListN.{length}
 use Rattle.std.proofs.lemmas.Bool.{eqb-false}
 use Rattle.number_columns.specs.Column.{pick}
 use Rattle.sheet.specs.Line.{Line}
-use Rattle.sheet.specs.ListLaws.{every_append, contrary}
+use Rattle.sheet.proofs.ListLaws.{every_append, contrary}
 use Rattle.model.specs.Cty.{Cty, size}
 use Rattle.meaning.specs.Program.{field_line}
 use Rattle.meaning_laws.specs.Output.{emit_adds, nothing}

@@ -1,4 +1,6 @@
 // Counts the lines of the left sheet: A, Y and those of declarations.
+#![tactic(auto)]
+
 mod node_count;
 mod types;
 

@@ -7,7 +7,7 @@ use borrow.Author.Tests.{eq-eqb, ne_eqb, eqb-true, eqb-false}
 use Rattle.std.proofs.lemmas.List.{length-map}
 use Rattle.number_columns.specs.Column.{pick}
 use Rattle.sheet.specs.Line.{Line}
-use Rattle.sheet.specs.ListLaws.{get_or_within}
+use Rattle.sheet.proofs.ListLaws.{get_or_within}
 use Rattle.model.specs.Cty.{Cty}
 use Rattle.model.specs.Decl.{Body, TAbstract, TAbbrev, TRecord, TVariant}
 use Rattle.meaning.specs.Program.{ctor_line, field_line}

@@ -1,4 +1,6 @@
 // Writes what is left of a declaration: its types, its D and P lines, its body and its V line.
+#![tactic(auto)]
+
 mod heads;
 
 ghost use Rattle.std.specs.Prelude.{◌≡◌, ◌+◌, ◌≤◌, ◌<◌, length};

@@ -8,9 +8,9 @@ use Rattle.number_columns.specs.Column.{pick}
 use Rattle.sheet.specs.Format.{line_bytes}
 use Rattle.sheet.specs.Line.{Line, row, encode}
 use Rattle.sheet.specs.Output.{put_at, puts}
-use Rattle.sheet.specs.OutputLaws.{Whole, length_put}
-use Rattle.sheet.specs.LineLaws.{row_length}
-use Rattle.sheet.specs.ListLaws.{Every, every_append}
+use Rattle.sheet.proofs.OutputLaws.{Whole, length_put}
+use Rattle.sheet.proofs.LineLaws.{row_length}
+use Rattle.sheet.proofs.ListLaws.{Every, every_append}
 use Rattle.model.specs.Cty.{Cty}
 use Rattle.meaning.specs.Program.{type_line}
 use Rattle.meaning.specs.Output.{Written, put, last, emit}

@@ -10,9 +10,9 @@ use borrow.Author.Tests.{ne_eqb, eqb-true, eqb-false}
 use Rattle.number_columns.specs.Column.{pick}
 use Rattle.sheet.specs.Format.{line_bytes}
 use Rattle.sheet.specs.Line.{Line, row, encode}
-use Rattle.sheet.specs.LineLaws.{row_length}
+use Rattle.sheet.proofs.LineLaws.{row_length}
 use Rattle.sheet.specs.Output.{put_at, puts}
-use Rattle.sheet.specs.OutputLaws.{Whole, length_put}
+use Rattle.sheet.proofs.OutputLaws.{Whole, length_put}
 use Rattle.meaning.specs.Program.{arg_line}
 use Rattle.form_laws.specs.Nodes.{Node, first_of, y_first, y_second, y_third}
 use Rattle.left_emitter.specs.Lines.{y_row, arg_row, has_list, listed}

@@ -1,4 +1,6 @@
 // Writes the nodes of types as A and Y lines of the left sheet, each line into its own 32 bytes.
+#![tactic(auto)]
+
 mod node_lines;
 
 ghost use Rattle.std.specs.Prelude.{◌≡◌, ◌-◌};

@@ -10,7 +10,7 @@ use Rattle.std.proofs.Math.Numerals.{add-one}
 use borrow.Author.Tests.{eqb-true, eqb-false, eq-eqb, ne_eqb}
 use Rattle.number_columns.specs.Column.{pick}
 use Rattle.sheet.specs.Line.{Line, number}
-use Rattle.sheet.specs.ListLaws.{same_test, false_true}
+use Rattle.sheet.proofs.ListLaws.{same_test, false_true}
 use Rattle.model.specs.Cty.{Cty, Ctys, TUnit, TAny, TExn, TVar, TInt, TFloat, TConst, TArrow, TApp, TTuple, TBuf, TRef, TInline, nil, cons, walk, walks, gather, gathers, names_of_cty, cty_vars}
 use Rattle.model.specs.Decl.{TAbbrev, Dtype, Layout, L_erased, L_newtype, L_struct, L_abbrev, L_opaque, Decl, dtype_at, position, member}
 use Rattle.model.specs.Resolve.{newtype, stays, resolve}

@@ -1,4 +1,6 @@
 // Whether a declaration leaves one: it is not erased, and every parameter of a newtype occurs in its normal form.
+#![tactic(auto)]
+
 ghost use Rattle.std.specs.Prelude.{◌≡◌, map, ◌+◌, ◌*◌, ◌≤◌, ◌<◌, length, take, drop};
 ghost use Rattle.model.specs.Decl as decls;
 ghost use Rattle.table_access.specs.Tables as tables;

@@ -7,8 +7,8 @@ use Rattle.std.proofs.Math.Bool.{true, false}
 use Prim.Native.Nat.{ℕ, ◌<◌}
 use borrow.Author.Tests.{eqb-true, leb-true, not-false}
 use Rattle.sheet.specs.Line.{Line, bad, letter, number}
-use Rattle.sheet.specs.FirstLaws.{first_before}
-use Rattle.sheet.specs.ListLaws.{Every, at_every, both}
+use Rattle.sheet.proofs.FirstLaws.{first_before}
+use Rattle.sheet.proofs.ListLaws.{Every, at_every, both}
 use Rattle.meaning.specs.Program.{name_line, arg_line, type_line, select, trees}
 use Rattle.meaning.specs.Rows.{nth_line, count_of, zeros_from, is_width, good_type, good_numbers, row5}
 use Rattle.meaning_laws.specs.Numbers.{Signed, get_or_numbers, trees_after_numbers}

@@ -12,7 +12,7 @@ use borrow.Author.Tests.{eqb-true, eq-eqb, ne_eqb}
 use Rattle.number_columns.specs.Column.{pick}
 use Rattle.sheet.specs.Format.{base}
 use Rattle.sheet.specs.Line.{Line}
-use Rattle.sheet.specs.ListLaws.{Every, every_mem}
+use Rattle.sheet.proofs.ListLaws.{Every, every_mem}
 use Rattle.model.specs.Cty.{Cty, size}
 use Rattle.model.specs.Decl.{close, Decl, position, Layout, L_erased, L_newtype, L_struct, L_abbrev, L_opaque}
 use Rattle.model.specs.Resolve.{Unfold, gone, newtype, abbreviation, stays}

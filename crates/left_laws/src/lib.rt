@@ -1,4 +1,5 @@
 // What is left of an accepted sheet's declarations: the definitions and laws are in specs/.
+#![tactic(auto)]
 
 // How many lines the left sheet has: A, Y and those of declarations; or that there is no room to tell.
 #[derive(Clone, Copy)]

@@ -2,9 +2,9 @@
 use Rattle.std.specs.Prelude.{◌≡◌, List, [], ◌∷◌, ◌++◌, map, false, ℕ, ◌+◌, ◌*◌, ◌-◌, ◌≤◌, ◌<◌, length}
 use Rattle.sheet.specs.Line.{Line}
 use Rattle.sheet.specs.Sheet.{lines}
-use Rattle.sheet.specs.ListLaws.{Every}
+use Rattle.sheet.proofs.ListLaws.{Every}
 use Rattle.sheet.specs.Output.{puts}
-use Rattle.sheet.specs.OutputLaws.{Whole}
+use Rattle.sheet.proofs.OutputLaws.{Whole}
 use Rattle.model.specs.Cty.{Cty, size}
 use Rattle.meaning.specs.Output.{Written, last, emit, Lines}
 use Rattle.form_laws.specs.Nodes.{post}

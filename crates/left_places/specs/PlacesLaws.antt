@@ -6,10 +6,10 @@ use mathlib.Core.List.{List, [], ◌∷◌, ◌++◌, map, append_assoc, append-
 use Rattle.std.proofs.Math.ListN.{length, length-map}
 use Rattle.sheet.specs.Format.{line_bytes}
 use Rattle.sheet.specs.Line.{Line, row, encode}
-use Rattle.sheet.specs.LineLaws.{row_length}
-use Rattle.sheet.specs.ListLaws.{Every, every_append}
+use Rattle.sheet.proofs.LineLaws.{row_length}
+use Rattle.sheet.proofs.ListLaws.{Every, every_append}
 use Rattle.sheet.specs.Output.{put_at, puts}
-use Rattle.sheet.specs.OutputLaws.{Whole}
+use Rattle.sheet.proofs.OutputLaws.{Whole}
 use Rattle.model.specs.Cty.{Cty, size}
 use Rattle.meaning.specs.Program.{type_line}
 use Rattle.meaning.specs.Output.{Written, last, emit, Lines}

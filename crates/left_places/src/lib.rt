@@ -1,5 +1,7 @@
 // Writes types and lines of the left sheet, each into its own 32 bytes: A and Y lines into their runs of lines, lines of
 // declarations one behind the other.
+#![tactic(auto)]
+
 mod node_rows;
 
 ghost use Rattle.std.specs.Prelude.{◌≡◌, ◌≤◌, length};

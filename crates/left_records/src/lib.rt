@@ -1,4 +1,6 @@
 // The record number of each declaration, read off what is left of it.
+#![tactic(auto)]
+
 ghost use Rattle.std.specs.Prelude.{◌≡◌, ◌+◌, ◌-◌, ◌≤◌, ◌<◌, length};
 ghost use Rattle.model.specs.Decl as decls;
 ghost use Rattle.meaning.specs.Program.{field_line};

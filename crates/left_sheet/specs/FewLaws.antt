@@ -2,9 +2,9 @@
 use Rattle.std.specs.Prelude.{List, ℕ, ◌≤◌, ◌<◌, length}
 use Rattle.std.proofs.Common.{arith, mul-le-mul_left}
 use Rattle.sheet.specs.Format.{base}
-use Rattle.sheet.specs.FirstLaws.{none_first}
+use Rattle.sheet.proofs.FirstLaws.{none_first}
 use Rattle.sheet.specs.Line.{Line}
-use Rattle.sheet.specs.ListLaws.{every_map, mem_every}
+use Rattle.sheet.proofs.ListLaws.{every_map, mem_every}
 use Rattle.model.specs.Cty.{size}
 use Rattle.model.specs.Decl.{Dtype, dtype_at}
 use Rattle.model.specs.Resolve.{resolve}

@@ -9,7 +9,7 @@ use native.Mathlib.Omega.{arith}
 use Rattle.number_columns.specs.Column.{pick}
 use Rattle.sheet.specs.Line.{Line}
 use Rattle.sheet.specs.Sheet.{lines}
-use Rattle.sheet.specs.ListLaws.{false_true}
+use Rattle.sheet.proofs.ListLaws.{false_true}
 use Rattle.model.specs.Decl.{Body, Dtype, dtype_at, Layout, L_erased, L_newtype, L_struct, L_abbrev, L_opaque, close_fields, table, bit}
 use Rattle.model.specs.Run.{with_body, rw_decl, somes, run, left_program, lay, layout_of_decl, left_at}
 use Rattle.model.specs.Resolve.{resolve, stays}

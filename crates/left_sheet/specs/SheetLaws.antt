@@ -11,13 +11,13 @@ use Rattle.std.proofs.lemmas.List.{length-map}
 use Rattle.std.proofs.Math.Seq.{take-suc, take-add, drop-append-add, length-take-le}
 use Rattle.sheet.specs.Format.{base, line_bytes}
 use Rattle.sheet.specs.Line.{Line, row, bad, letter, is_bad, encode}
-use Rattle.sheet.specs.LineLaws.{Fits, row_length}
-use Rattle.sheet.specs.ListLaws.{Every, every_map}
-use Rattle.sheet.specs.FirstLaws.{none_first}
+use Rattle.sheet.proofs.LineLaws.{Fits, row_length}
+use Rattle.sheet.proofs.ListLaws.{Every, every_map}
+use Rattle.sheet.proofs.FirstLaws.{none_first}
 use Rattle.sheet.specs.Sheet.{lines, line, line_at, count, encodes, row2}
-use Rattle.sheet.specs.SheetLaws.{fit_lines, get_or_lines, length_lines, encode_line, within_count}
+use Rattle.sheet.proofs.SheetLaws.{fit_lines, get_or_lines, length_lines, encode_line, within_count}
 use Rattle.sheet.specs.Output.{put_at, puts}
-use Rattle.sheet.specs.OutputLaws.{Whole, puts_all}
+use Rattle.sheet.proofs.OutputLaws.{Whole, puts_all}
 use Rattle.model.specs.Decl.{Dtype}
 use Rattle.model.specs.Run.{run, left_program}
 use Rattle.meaning.specs.Program.{name_line, type_line, is, select, program}

@@ -1,4 +1,6 @@
 // Writes the left sheet of an accepted sheet into an output that has room for it.
+#![tactic(auto)]
+
 mod left_program;
 
 ghost use Rattle.std.specs.Prelude.{◌≡◌, ◌*◌, ◌≤◌, length};

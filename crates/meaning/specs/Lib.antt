@@ -1,4 +1,3 @@
 pub mod Program
 pub mod Rows
 pub mod Output
-pub mod Cases

@@ -1,4 +1,5 @@
 // The types that the definitions in specs/ and the code of rows 3 and 5 share.
+#![tactic(auto)]
 
 // Row 3: what may come next. A line of the header, of this place among N, A, Y and declarations or
 // a later one; or, in a declaration, so many P lines, then F lines, then C lines, each with its F

@@ -6,8 +6,8 @@ use Rattle.std.proofs.lemmas.List.{length-map}
 use Rattle.sheet.specs.Format.{Format}
 use Rattle.sheet.specs.Line.{Line}
 use Rattle.sheet.specs.Sheet.{first, count, lines, row2}
-use Rattle.sheet.specs.FirstLaws.{first_congr}
-use Rattle.sheet.specs.SheetLaws.{length_lines, line_good}
+use Rattle.sheet.proofs.FirstLaws.{first_congr}
+use Rattle.sheet.proofs.SheetLaws.{length_lines, line_good}
 use Rattle.meaning.specs.Rows.{raws, row3, row4, row5, row7}
 use Rattle.meaning_laws.specs.Rows.{row3_raws}
 use Rattle.walk_cells.specs.Cells.{bare}

@@ -13,10 +13,10 @@ use Rattle.std.proofs.Math.Dec.{eqb}
 use Rattle.std.proofs.Math.ListN.{length, length-map}
 use Rattle.number_columns.specs.Column.{pick, ◌⇒◌∥◌}
 use Rattle.sheet.specs.Line.{Line, letter, number}
-use Rattle.sheet.specs.LineLaws.{Fits}
+use Rattle.sheet.proofs.LineLaws.{Fits}
 use Rattle.sheet.specs.Sheet.{lines, encodes}
-use Rattle.sheet.specs.SheetLaws.{AllFit, lines_encodes}
-use Rattle.sheet.specs.ListLaws.{Every, every_map, every_over, every_append}
+use Rattle.sheet.proofs.SheetLaws.{AllFit, lines_encodes}
+use Rattle.sheet.proofs.ListLaws.{Every, every_map, every_over, every_append}
 use Rattle.model.specs.Cty.{
   Cty,
   Ctys,

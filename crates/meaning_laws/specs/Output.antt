@@ -15,10 +15,10 @@ use Rattle.number_columns.specs.Column.{pick}
 use Rattle.number_columns.specs.ColumnLaws.{ten_pos}
 use Rattle.sheet.specs.Format.{line_bytes, text_bytes}
 use Rattle.sheet.specs.Line.{Line, named, row, bad, lettered, encode, letter, number}
-use Rattle.sheet.specs.LineLaws.{AllBelow, Fits, named_length, row_length}
+use Rattle.sheet.proofs.LineLaws.{AllBelow, Fits, named_length, row_length}
 use Rattle.sheet.specs.Sheet.{lines, encodes}
-use Rattle.sheet.specs.SheetLaws.{AllFit, length_encodes, lines_encodes}
-use Rattle.sheet.specs.ListLaws.{Every, every_mem, mem_every, every_map, every_over, every_append, every_left, every_right}
+use Rattle.sheet.proofs.SheetLaws.{AllFit, length_encodes, lines_encodes}
+use Rattle.sheet.proofs.ListLaws.{Every, every_mem, mem_every, every_map, every_over, every_append, every_left, every_right}
 use Rattle.meaning.specs.Program.{name_line, arg_line, type_line, local_line, param_line, ctor_line, field_line, verdict_line, import_line, is, is_head, select, before, Group, groups, dtype_of, info_of, verdict_of, decl_of, trees, program}
 use Rattle.meaning.specs.Rows.{count_of}
 use Rattle.model.specs.Cty.{Cty, Ctys, TUnit, TAny, TExn, TVar, TInt, TFloat, TConst, TArrow, TApp, TTuple, TBuf, TRef, TInline, nil, cons, gather, gathers, names_of_cty, lengths, size, sizes}

@@ -13,7 +13,7 @@ use Rattle.std.proofs.lemmas.List.{length-map}
 use borrow.Author.Tests.{eq-eqb, eqb-true, eqb-false, leb-true, leb-false}
 use Rattle.number_columns.specs.Column.{pick, ◌⇒◌∥◌}
 use Rattle.sheet.specs.Line.{Line, row, bad, letter, number}
-use Rattle.sheet.specs.ListLaws.{contrary, neither, Every, every_append, every_left, every_right}
+use Rattle.sheet.proofs.ListLaws.{contrary, neither, Every, every_append, every_left, every_right}
 use Rattle.model.specs.Cty.{Cty, TUnit}
 use Rattle.model.specs.Decl.{
   bit,

@@ -15,12 +15,12 @@ use Rattle.std.proofs.Math.Seq.{take-append-add, get_or-append-add, take-length}
 use Rattle.std.proofs.lemmas.Bool.{lt-leb, not-true, not-false}
 use Rattle.number_columns.specs.Column.{pick, ◌⇒◌∥◌}
 use Rattle.sheet.specs.Format.{Format}
-use Rattle.sheet.specs.FirstLaws.{first_le, first_congr, none_first}
+use Rattle.sheet.proofs.FirstLaws.{first_le, first_congr, none_first}
 use Rattle.sheet.specs.Line.{Line, named, row, bad, cell, value, decode, letter, number, text, is_bad}
 use Rattle.sheet.specs.Sheet.{first, line_at, count, line, lines}
-use Rattle.sheet.specs.SheetLaws.{length_lines, get_or_lines}
-use Rattle.sheet.specs.ListLaws.{false_true, contrary, both, neither, length_nil, at_every, every_at}
-use Rattle.sheet.specs.LineLaws.{Decoded, as_named, as_row, as_bad, decoded, five_numbers}
+use Rattle.sheet.proofs.SheetLaws.{length_lines, get_or_lines}
+use Rattle.sheet.proofs.ListLaws.{false_true, contrary, both, neither, length_nil, at_every, every_at}
+use Rattle.sheet.proofs.LineLaws.{Decoded, as_named, as_row, as_bad, decoded, five_numbers}
 use Rattle.model.specs.Cty.{Cty, TUnit}
 use Rattle.model.specs.Decl.{
   tag_number,

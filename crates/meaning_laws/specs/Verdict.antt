@@ -12,7 +12,7 @@ use Rattle.std.proofs.lemmas.List.{length-map}
 use borrow.Author.Tests.{eqb-false, eqb-true}
 use Rattle.number_columns.specs.Column.{pick, ◌⇒◌∥◌}
 use Rattle.sheet.specs.Line.{Line, row, bad, number, letter}
-use Rattle.sheet.specs.ListLaws.{length_nil, contrary, one_of}
+use Rattle.sheet.proofs.ListLaws.{length_nil, contrary, one_of}
 use Rattle.model.specs.Cty.{Cty}
 use Rattle.model.specs.Decl.{here, origin_at, no_decl, TAbstract, TAbbrev, TRecord, TVariant, ctors_of, ctors_of_tydef, bit, layout_number, TypeInfo, Ctor, no_ctor, CtorLayout, tag_number, close_body, close_field, close_fields, Decl}
 use Rattle.model.specs.Erasure.{cty_erased, marked, erasure_fixpoint}

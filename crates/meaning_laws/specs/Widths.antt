@@ -3,7 +3,7 @@ use Rattle.std.specs.Prelude.{◌↔◌, ◌⊎◌, ◌≡◌, refl, Bool, true,
 use Rattle.std.proofs.Common.{inl, inr, ⊎_elim, sym, ap, ◌∙◌, eqb-true}
 use mathlib.Core.List.{List, [], ◌∷◌, Memᴰ}
 use Rattle.number_columns.specs.Column.{pick, ◌⇒◌∥◌}
-use Rattle.sheet.specs.ListLaws.{Every, every_mem, contrary}
+use Rattle.sheet.proofs.ListLaws.{Every, every_mem, contrary}
 use Rattle.meaning.specs.declared.Iwidth.{Iwidth}
 use Rattle.meaning.specs.declared.Iwidth.TheVariants.{W8, W16, W32, W64, W128, WSizet}
 use Rattle.meaning.specs.declared.Width.{Width}

@@ -11,7 +11,7 @@ use Rattle.std.proofs.Math.Seq.{append_snoc, get_or-append_seam}
 use Rattle.std.proofs.lemmas.List.{get_or_at}
 use Rattle.number_columns.specs.Column.{pick}
 use Rattle.sheet.specs.Line.{Line, row, letter, number}
-use Rattle.sheet.specs.ListLaws.{Every}
+use Rattle.sheet.proofs.ListLaws.{Every}
 use Rattle.model.specs.Cty.{Cty, Ctys, TUnit, TAny, TExn, TVar, TInt, TFloat, TConst, TArrow, TApp, TTuple, TBuf, TRef, TInline, nil, cons}
 use Rattle.model.specs.Decl.{Field, Ctor, Body, TAbstract, TAbbrev, TRecord, TVariant, Dtype, here, Decl, close_fields}
 use Rattle.meaning.specs.Program.{

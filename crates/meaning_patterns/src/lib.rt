@@ -1,1 +1,2 @@
 // The lines of a pattern: everything is in specs/.
+#![tactic(auto)]

@@ -7,7 +7,7 @@ use Prim.Native.Nat.{ℕ, ◌+◌, ◌*◌, ◌/◌, ◌≤◌, ◌<◌}
 use Rattle.std.proofs.Math.Decide.{ℕ_discrete}
 use borrow.Author.Tests.{lt-ltb, le-ltb, ltb-true}
 use Rattle.number_columns.specs.Column.{pick}
-use Rattle.sheet.specs.ListLaws.{false_true}
+use Rattle.sheet.proofs.ListLaws.{false_true}
 use Rattle.sheet.specs.Line.{Line}
 use Rattle.model.specs.Cty.{TUnit}
 use Rattle.model.specs.Layout.{names_in}

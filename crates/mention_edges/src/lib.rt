@@ -1,4 +1,6 @@
 // The table of steps that the search goes by: each declaration's row is the set of the type that is its body.
+#![tactic(auto)]
+
 ghost use Rattle.std.specs.Prelude.{◌+◌, ◌*◌, ◌≤◌, ◌<◌, length};
 ghost use Rattle.mention_edges.specs.Edges.{Edge, Edges};
 

@@ -12,7 +12,7 @@ use Rattle.std.proofs.Math.ListN.{get_or-map}
 use Rattle.std.proofs.lemmas.Bool.{eqb-false}
 use Rattle.number_columns.specs.Column.{pick}
 use Rattle.sheet.specs.Line.{Line, bad, number}
-use Rattle.sheet.specs.ListLaws.{false_true}
+use Rattle.sheet.proofs.ListLaws.{false_true}
 use Rattle.model.specs.Cty.{Cty, Ctys, TUnit, TArrow, TApp, gather, gathers, names_of_cty}
 use Rattle.model.specs.Decl.{Decl, member, position}
 use Rattle.model.specs.Layout.{positions, names_in}

@@ -1,5 +1,7 @@
 // The declarations that each type names, as sets, one for each type of a sheet that passed rows 1 to 7. The set of a type
 // is the union of those of its children, which are lower, and of the name of a `TApp`: types are gone over as lines, not as trees.
+#![tactic(auto)]
+
 mod childsets;
 mod sets;
 

@@ -6,4 +6,3 @@ pub mod Layout
 pub mod Resolve
 pub mod Run
 pub mod Names
-pub mod Cases

@@ -1,1 +1,2 @@
 // The model of the source's pass.
+#![tactic(auto)]

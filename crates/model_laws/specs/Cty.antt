@@ -14,7 +14,7 @@ use Rattle.std.proofs.Math.Bool.{true, false}
 use Prim.Native.Nat.{ℕ, zero, suc, ◌+◌, ◌≤◌}
 use Rattle.std.proofs.Math.Dec.{T}
 use Rattle.number_columns.specs.Column.{pick}
-pub use Rattle.sheet.specs.ListLaws.{every_mem}
+pub use Rattle.sheet.proofs.ListLaws.{every_mem}
 use Rattle.model.specs.Cty.{
   Cty,
   Ctys,

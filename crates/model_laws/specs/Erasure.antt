@@ -11,7 +11,7 @@ use Rattle.std.proofs.Math.Bool.{true, false, not}
 use Rattle.std.proofs.Math.Dec.{T, eqb_refl}
 use Rattle.std.proofs.Math.ListN.{length-map, get_or-map}
 use Rattle.number_columns.specs.Column.{pick}
-use Rattle.sheet.specs.ListLaws.{get_or_within}
+use Rattle.sheet.proofs.ListLaws.{get_or_within}
 use Rattle.model.specs.Cty.{walks, walk, Cty, Ctys, TUnit, TAny, TExn, TVar, TInt, TFloat, TConst, TArrow, TApp, TTuple, TBuf, TRef, TInline, nil, cons, gather, gathers, names_of_cty}
 use Rattle.model.specs.Decl.{member, close, Field, Ctor, Body, TAbstract, TAbbrev, TRecord, TVariant, Dtype, Erased, Realized, has_flag, ctors_of, CtorLayout, bit, TypeInfo, Origin, here, imported, Decl, no_decl, dtype_at, origin_at, table, position}
 use Rattle.model.specs.Erasure.{local, locals, is_pure, cty_erased, ctys_erased, fields_erased, body_erased, dtype_erased, marked, rule_of, rule, start_of, start, erasure_fixpoint, Made}

@@ -8,7 +8,7 @@ use Rattle.std.proofs.Math.Bool.{true, false}
 use Rattle.std.proofs.Math.Option.{Option, none, some}
 use Rattle.std.proofs.Math.ListN.{length}
 use Rattle.number_columns.specs.Column.{pick}
-use Rattle.sheet.specs.ListLaws.{false_true, same_test}
+use Rattle.sheet.proofs.ListLaws.{false_true, same_test}
 use Rattle.model.specs.Cty.{Cty, names_of_cty}
 use Rattle.model.specs.Decl.{table, Field, Ctor, Body, TAbstract, TAbbrev, TRecord, TVariant, Dtype, NoNewtype, Realized, NoUnfold, has_flag, ctors_of, ctors_of_tydef, CtorLayout, NewtypeLayout, Layout, L_erased, L_newtype, L_struct, L_abbrev, L_opaque, Origin, here, imported, Decl, dtype_at, origin_at, position}
 use Rattle.model.specs.Erasure.{marked}

@@ -4,7 +4,7 @@ use Rattle.std.proofs.Common.{ap, ap₂, ◌∙◌, arith}
 use Rattle.std.proofs.Math.ListN
 use Rattle.std.proofs.lemmas.List.{length-map}
 use Rattle.std.proofs.Math.ListN.{get_or-eq_default}
-use Rattle.sheet.specs.ListLaws.{get_or_within}
+use Rattle.sheet.proofs.ListLaws.{get_or_within}
 use Rattle.model.specs.Decl.{bit, table}
 
 -- ---- tests

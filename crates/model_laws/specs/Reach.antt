@@ -11,7 +11,7 @@ use Prim.Native.Nat.{ℕ, zero, suc, ◌+◌, ◌<◌}
 use Rattle.std.proofs.Math.Dec.{eqb}
 use Rattle.std.proofs.Math.ListN.{length, get_or, length-set, length-replicate}
 use borrow.Author.Tests.{eqb-true, eqb-false}
-use Rattle.sheet.specs.ListLaws.{false_true}
+use Rattle.sheet.proofs.ListLaws.{false_true}
 use Rattle.model_laws.specs.Rounds.{At, Le, at_lt, cases_eq, trues_le, trues_mono}
 use Rattle.model.specs.Reach.{Reach, one, more, go, cyclic}
 use Rattle.model_laws.specs.Lists.{trues}

@@ -15,7 +15,7 @@ use Rattle.std.proofs.Math.ListN
 use Rattle.std.proofs.Math.ListN.{get_or}
 use Rattle.std.proofs.lemmas.List.{length-map}
 use Rattle.number_columns.specs.Column.{pick}
-use Rattle.sheet.specs.ListLaws.{same_test}
+use Rattle.sheet.proofs.ListLaws.{same_test}
 use Rattle.model.specs.Cty.{
   Cty,
   Ctys,

@@ -12,7 +12,7 @@ use Rattle.std.proofs.Math.Option.{Option, none, some}
 use Prim.Native.Nat.{ℕ, zero, suc, ◌≤◌, ◌<◌}
 use Rattle.std.proofs.Math.ListN.{get_or}
 use Rattle.number_columns.specs.Column.{pick}
-use Rattle.sheet.specs.ListLaws.{mem_every, Every, every_map}
+use Rattle.sheet.proofs.ListLaws.{mem_every, Every, every_map}
 use Rattle.model.specs.Cty.{
   Cty,
   Ctys,

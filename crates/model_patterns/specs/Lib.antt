@@ -1,3 +1,1 @@
 pub mod Pat
-pub mod Cases
-pub mod Laws

@@ -1,1 +1,2 @@
 // How patterns follow the layouts of their types.
+#![tactic(auto)]

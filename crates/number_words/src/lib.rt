@@ -1,4 +1,6 @@
 // Bytes taken four at a time, which is one load: a word tells each of them.
+#![tactic(auto)]
+
 ghost use Rattle.std.specs.Prelude.{◌≡◌, ◌&&◌, ◌+◌, ◌≤◌, ◌<◌, eqb, length};
 ghost use Rattle.number_words.specs.Word.{word_at, key_of};
 

@@ -12,7 +12,7 @@ use Rattle.meaning.specs.Rows.{nth_line}
 use Rattle.meaning_patterns.specs.Patterns.{kind_of, name_of, last_of, previous_of, list_to, pieces, declared_fields, miscounts, row13, good_pattern}
 use Rattle.pattern_rows.specs.LinksLaws.{good_lower, name_within}
 use Rattle.pattern_counts.specs.Counts.{field_mark, Fielded, PartCounts, miscounted}
-use Rattle.pattern_laws.specs.Pieces.{parts_count}
+use Rattle.pattern_laws.proofs.Pieces.{parts_count}
 
 -- before the first line
 pub parts_none : (qs : List Line) → PartCounts qs 0 (replicate 257 0)

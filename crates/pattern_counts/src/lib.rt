@@ -1,4 +1,6 @@
 // Row 13 of a sheet's Q lines: a `PCtor` of a declared constructor has a part for each of its declared fields (FORMAT, section 12).
+#![tactic(auto)]
+
 ghost use Rattle.std.specs.Prelude.{◌≡◌, true, List, ◌/◌, ◌≤◌, ◌<◌, length};
 ghost use Rattle.walk_cells.specs.Cells.{lines_of};
 ghost use Rattle.sheet.specs.Sheet.{first};

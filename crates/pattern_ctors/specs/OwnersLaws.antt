@@ -13,7 +13,7 @@ use Rattle.std.proofs.lemmas.List.{length-map}
 use borrow.Author.Tests.{eqb-true}
 use Rattle.number_columns.specs.Column.{pick, ◌⇒◌∥◌}
 use Rattle.sheet.specs.Line.{Line, bad, number}
-use Rattle.sheet.specs.ListLaws.{length_nil}
+use Rattle.sheet.proofs.ListLaws.{length_nil}
 use Rattle.model.specs.Cty.{Cty}
 use Rattle.model.specs.Decl.{table, Field, Ctor, TAbstract, TAbbrev, TRecord, TVariant, CtorLayout, L_opaque, TypeInfo, Origin, here, imported, no_decl, dtype_at, origin_at, ctors_of, ctors_of_tydef, close_field, close_body, close_fields, bit}
 use Rattle.model.specs.Erasure.{marked, erasure_fixpoint}

@@ -1,6 +1,8 @@
 // Where each constructor is declared: for each name three cells, its declaration's number plus one (0 where no constructor
 // has that name), its first F line and how many F lines it has. A record type is a constructor of its own name. Declarations
 // and constructors are walked from the last to the first, so that the first of a name is found, as `ctor_owner` finds it.
+#![tactic(auto)]
+
 ghost use Rattle.std.specs.Prelude.{◌≡◌, suc, ◌+◌, ◌*◌, ◌≤◌, ◌<◌, length, get_or};
 ghost use Rattle.meaning.specs.Program.{name_line};
 ghost use Rattle.meaning.specs.Rows.{count_of};

@@ -15,7 +15,7 @@ use Rattle.model_patterns.specs.Pat.{Pat, Pats, PWild, PVar, PConst, PCtor, PRec
 use Rattle.meaning.specs.Rows.{nth_line}
 use Rattle.meaning_patterns.specs.Patterns.{pattern_line, kind_of, name_of, last_of, previous_of, field_of, and_last, pattern_of, PartLines, pat_lines, part_lines, freed_lines}
 use Rattle.pattern_laws.specs.Made.{Made, made_to, only, become, made, mades}
-use Rattle.pattern_laws.specs.Pieces.{made_at}
+use Rattle.pattern_laws.proofs.Pieces.{made_at}
 use Rattle.pattern_emit.specs.Emit.{behind, own, emitted, emitted_parts, Linked}
 
 -- ---- what a line gives

@@ -1,5 +1,7 @@
 // The lines that a rewritten pattern is written as, from the marks and flags of its Q lines: the Q lines of the new
 // pattern, then a U line for each freed name. Six cells a line. A link is 0 for none, else a line's number plus one.
+#![tactic(auto)]
+
 ghost use Rattle.std.specs.Prelude.{◌≡◌, [], ◌∷◌, ◌+◌, ◌*◌, ◌/◌, ◌≤◌, ◌<◌, length};
 ghost use Rattle.sheet.specs.Line.{row};
 ghost use Rattle.model_patterns.specs.Pat.{nodes};

@@ -12,7 +12,7 @@ use Rattle.std.proofs.Math.ListN.{length, get_or}
 use borrow.Author.Tests.{eqb-true, eqb-false, eq-eqb, ne_eqb, ltb-true, ltb-false, lt-ltb, le-ltb}
 use Rattle.number_columns.specs.Column.{pick, ◌⇒◌∥◌}
 use Rattle.sheet.specs.Line.{Line}
-use Rattle.sheet.specs.ListLaws.{Every, at_every, false_true}
+use Rattle.sheet.proofs.ListLaws.{Every, at_every, false_true}
 use Rattle.model.specs.Cty.{uninline}
 use Rattle.model.specs.Decl.{Field, Ctor, Body, TAbstract, TAbbrev, TRecord, TVariant, CtorLayout, NewtypeLayout, Layout, L_erased, L_newtype, L_struct, L_abbrev, L_opaque, TypeInfo, here, dtype_at, origin_at, close_fields}
 use Rattle.model.specs.Erasure.{marked, erasure_fixpoint}
@@ -21,7 +21,7 @@ use Rattle.model.specs.Run.{run, layouts_of, layout_of_decl}
 use Rattle.model_laws.specs.Layout.{get_or_layouts, get_or_candidates}
 use Rattle.model_laws.specs.Run.{get_or_infos, length_infos, import_layout}
 use Rattle.model_patterns.specs.Pat.{named, names_one, Owner, ctor_owner}
-use Rattle.model_patterns.specs.Laws.Owners.{Named, owner_has}
+use Rattle.model_patterns.proofs.Laws.Owners.{Named, owner_has}
 use Rattle.meaning.specs.Program.{ctor_line, field_line, import_line, is, trees, dtype_of, abbreviated, layout_by, info_of, verdict_of, program}
 use Rattle.meaning_laws.specs.Program.{Suits, layout_coherent, length_program}
 use Rattle.table_declared.specs.Passed.{Passed}

@@ -17,7 +17,7 @@ use Rattle.model.specs.Layout.{newtype_of}
 use Rattle.model.specs.Run.{run, layout_of_decl}
 use Rattle.model_laws.specs.Names.{declared_cases}
 use Rattle.model_patterns.specs.Pat.{named, names_one, Owner, ctor_owner, type_layout, rewritten}
-use Rattle.model_patterns.specs.Laws.Owners.{declared_layout, foreign_layout}
+use Rattle.model_patterns.proofs.Laws.Owners.{declared_layout, foreign_layout}
 use Rattle.meaning.specs.Program.{name_line, field_line, program}
 use Rattle.meaning.specs.Rows.{nth_line, count_of}
 use Rattle.meaning_laws.specs.Program.{length_program}
@@ -31,9 +31,9 @@ use Rattle.keep_layouts.specs.States.{state, Shape, Settled}
 use Rattle.collapse_newtypes.specs.Newtypes.{one_ctor}
 use Rattle.pattern_laws.specs.Linked.{AllGood, linked_is, unshared_is, good_is, leaf_is, name_is}
 use Rattle.pattern_laws.specs.Marks.{layout_mark, kept_if, has_field, layout_flag, mark_of, flag_of, flag_by, owners_of, fields_to}
-use Rattle.pattern_laws.specs.Owners.{owners_owned}
+use Rattle.pattern_laws.proofs.Owners.{owners_owned}
 use Rattle.pattern_laws.specs.Made.{made_of}
-use Rattle.pattern_laws.specs.Rewrites.{Marked, marked_is_rewritten}
+use Rattle.pattern_laws.proofs.Rewrites.{Marked, marked_is_rewritten}
 use Rattle.pattern_owners.specs.Places.{Placed}
 use Rattle.pattern_owners.specs.PlacesLaws.{owners_low, owners_long}
 use Rattle.pattern_ctors.specs.Sites.{Sited}

@@ -1,5 +1,7 @@
 // What becomes of each Q line as a part, by the line that owns it, its place and its field: as a flag, 0 where it is dropped, 1
 // where it is kept, and 2 where it is lost, which is to say dropped and its names not freed.
+#![tactic(auto)]
+
 ghost use Rattle.std.specs.Prelude.{◌≡◌, ◌+◌, ◌-◌, ◌*◌, ◌≤◌, ◌<◌, length, get_or};
 ghost use Rattle.walk_cells.specs.Cells.{lines_of};
 ghost use Rattle.meaning.specs.Program.{field_line};

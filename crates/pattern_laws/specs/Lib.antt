@@ -1,16 +1,4 @@
 pub mod Made
 pub mod Marks
-pub mod Cases
 pub mod Grown
-pub mod Pieces
 pub mod Linked
-pub mod Nodes
-pub mod Kept
-pub mod Owners
-pub mod Steps
-pub mod Rewrites
-pub mod Few
-pub mod ReadBack
-pub mod Counts
-pub mod Written
-pub mod Again

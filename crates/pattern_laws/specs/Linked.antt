@@ -5,8 +5,8 @@ use Rattle.std.specs.Prelude.{◌≡◌, List, Bool, true, false, ◌&&◌, ◌|
 use Rattle.std.proofs.lemmas.Bool.{eqb-false, not-true, not-false}
 use Rattle.sheet.specs.Line.{Line}
 use Rattle.sheet.specs.Sheet.{first}
-use Rattle.sheet.specs.FirstLaws.{first_before}
-use Rattle.sheet.specs.ListLaws.{both, one_of, neither}
+use Rattle.sheet.proofs.FirstLaws.{first_before}
+use Rattle.sheet.proofs.ListLaws.{both, one_of, neither}
 use Rattle.meaning.specs.Rows.{nth_line, some_below}
 use Rattle.meaning_patterns.specs.Patterns.{kind_of, name_of, last_of, previous_of, field_of, linked_before, good_link, good_name, good_last, good_previous, good_pattern}
 

@@ -1,5 +1,7 @@
 // What becomes of each Q line by its kind and name, as a mark: it is wild, it is its own kind over the parts that are kept, or the
 // part that is kept stands for it.
+#![tactic(auto)]
+
 ghost use Rattle.std.specs.Prelude.{◌≡◌, ◌+◌, ◌-◌, ◌*◌, ◌≤◌, ◌<◌, length};
 ghost use Rattle.walk_cells.specs.Cells.{lines_of};
 ghost use Rattle.table_access.specs.Tables as tables;

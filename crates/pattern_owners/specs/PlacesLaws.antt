@@ -13,8 +13,8 @@ use Rattle.model_patterns.specs.Pat.{part_fields}
 use Rattle.meaning.specs.Rows.{nth_line}
 use Rattle.meaning_patterns.specs.Patterns.{kind_of, name_of, last_of, previous_of, field_of, Piece, list_to, pattern_of, piece, pieces}
 use Rattle.pattern_laws.specs.Linked.{Linked}
-use Rattle.pattern_laws.specs.Pieces.{piece_at}
-use Rattle.pattern_laws.specs.Kept.{fields_last}
+use Rattle.pattern_laws.proofs.Pieces.{piece_at}
+use Rattle.pattern_laws.proofs.Kept.{fields_last}
 use Rattle.pattern_laws.specs.Marks.{claim, owners_from, owners_of, fields_to}
 use Rattle.pattern_owners.specs.Places.{Zeros, claimed, ended, PlacedTo}
 

@@ -1,5 +1,7 @@
 // Of each Q line the line that owns it, and its place in that line's list of parts. Owners are found from the last line down:
 // a line owns its last part, and the part before a line has that line's owner. Places are found going up.
+#![tactic(auto)]
+
 ghost use Rattle.std.specs.Prelude.{◌≡◌, ◌≤◌, ◌<◌, length};
 ghost use Rattle.walk_cells.specs.Cells.{lines_of};
 ghost use Rattle.pattern_laws.specs.Linked.{Linked};

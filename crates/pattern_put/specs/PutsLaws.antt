@@ -3,11 +3,11 @@ use Rattle.std.specs.Prelude.{◌≡◌, refl, List, [], ◌∷◌, ◌++◌, �
 use Rattle.std.proofs.Common.{ap, sym, ◌∙◌, append-nil, arith, length-append, drop_of_length-le, take-suc, take_all}
 use Rattle.sheet.specs.Format.{line_bytes}
 use Rattle.sheet.specs.Line.{Line, row, bad, encode, letter, number}
-use Rattle.sheet.specs.LineLaws.{row_length}
+use Rattle.sheet.proofs.LineLaws.{row_length}
 use Rattle.sheet.specs.Sheet.{encodes}
-use Rattle.sheet.specs.SheetLaws.{encodes_append, encodes_one}
+use Rattle.sheet.proofs.SheetLaws.{encodes_append, encodes_one}
 use Rattle.sheet.specs.Output.{put_at}
-use Rattle.sheet.specs.OutputLaws.{put_more}
+use Rattle.sheet.proofs.OutputLaws.{put_more}
 use Rattle.walk_cells.specs.Cells.{lines_of}
 use Rattle.walk_cells.specs.CellsLaws.{length_lines_of}
 use Rattle.pattern_put.specs.Puts.{nth_line}

@@ -1,4 +1,6 @@
 // Writes lines that stand in cells, six to a line, into the part of an output that holds them.
+#![tactic(auto)]
+
 ghost use Rattle.std.specs.Prelude.{◌≡◌, suc, ◌*◌, ◌/◌, ◌≤◌, ◌<◌, length};
 ghost use Rattle.sheet.specs.Line.{encode};
 ghost use Rattle.sheet.specs.Output.{put_at};

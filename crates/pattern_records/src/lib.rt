@@ -1,5 +1,7 @@
 // What becomes of a part of a `PRecord`, by its field and what becomes of the record's type: as a flag, 0 where it is dropped, 1
 // where it is kept, and 2 where it is lost, which is to say dropped and its names not freed.
+#![tactic(auto)]
+
 ghost use Rattle.std.specs.Prelude.{◌≡◌, ◌+◌, ◌-◌, ◌≤◌, ◌<◌, length};
 ghost use Rattle.walk_cells.specs.Cells.{lines_of};
 ghost use Rattle.meaning.specs.Program.{field_line};

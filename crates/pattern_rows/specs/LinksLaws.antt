@@ -9,7 +9,7 @@ use borrow.Author.Tests.{lt-ltb, le-ltb, eqb-true, eqb-false, leb-true, ltb-true
 use Rattle.number_columns.specs.Column.{◌⇒◌∥◌}
 use Rattle.sheet.specs.Line.{Line}
 use Rattle.sheet.specs.Sheet.{first}
-use Rattle.sheet.specs.ListLaws.{both, false_true}
+use Rattle.sheet.proofs.ListLaws.{both, false_true}
 use Rattle.meaning.specs.Rows.{nth_line}
 use Rattle.meaning_patterns.specs.Patterns.{kind_of, name_of, last_of, previous_of, field_of, linked_before, good_link, good_name, good_last, good_previous, good_pattern}
 use Rattle.pattern_rows.specs.Links.{good_links, good_own, good_whole, good_parts, Lower, Marked, free_link}

@@ -1,4 +1,6 @@
 // Row 5 of a sheet's Q lines: the numbers of each line of its pattern are in range (FORMAT, section 12).
+#![tactic(auto)]
+
 mod pattern_lines;
 
 ghost use Rattle.std.specs.Prelude.{◌≡◌, ◌≤◌, length};

@@ -1,4 +1,6 @@
 // Standard input, read whole: what every program begins with. A read that fails is told to the caller.
+#![tactic(auto)]
+
 ghost use Rattle.std.specs.Prelude.{◌≤◌, length};
 
 use libc::STDIN_FILENO;

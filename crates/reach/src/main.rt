@@ -1,5 +1,7 @@
 // The reach index as a program: a sheet on standard input, the build's line R on standard output, and behind it, where the sheet is
 // accepted, line X of each declaration. A read or a write that fails is told on standard error.
+#![tactic(auto)]
+
 use libc::STDOUT_FILENO;
 
 // Line R, and on code 0 the lines X.

@@ -1,5 +1,7 @@
 // The reach index of each sheet that an argument names: what the program `reach` prints and, where the call accepts the sheet, the two words
 // of each declaration's set. A word that should have kept what it held, or should be 0, is told.
+#![tactic(auto)]
+
 use answer::Refusal;
 use libc::STDOUT_FILENO;
 

@@ -7,11 +7,11 @@ use Rattle.std.proofs.Math.Decide.{ℕ_discrete}
 use Rattle.std.proofs.Math.ListN.{length, drop}
 use Rattle.sheet.specs.Format.{base}
 use Rattle.sheet.specs.Line.{Line, encode, number}
-use Rattle.sheet.specs.LineLaws.{row_length}
+use Rattle.sheet.proofs.LineLaws.{row_length}
 use Rattle.sheet.specs.Sheet.{encodes}
-use Rattle.sheet.specs.SheetLaws.{encodes_append}
+use Rattle.sheet.proofs.SheetLaws.{encodes_append}
 use Rattle.sheet.specs.Output.{put_at}
-use Rattle.sheet.specs.OutputLaws.{put_more, length_put}
+use Rattle.sheet.proofs.OutputLaws.{put_more, length_put}
 use Rattle.model.specs.Decl.{Decl, Dtype, dtype_at, table, close_fields}
 use Rattle.model_laws.specs.Lists.{table_last, table_cong}
 use Rattle.meaning.specs.Program.{dtype_of, program}

@@ -1,4 +1,6 @@
 // The reach index of a sheet: for each declaration the set of those that it reaches, as bits in words; or how many these are, as lines X.
+#![tactic(auto)]
+
 ghost use Rattle.std.specs.Prelude.{◌≡◌, false, ◌+◌, ◌*◌, ◌≤◌, length};
 ghost use Rattle.sheet.specs.Format.{base};
 ghost use Rattle.sheet.specs.Sheet.{count, row1};

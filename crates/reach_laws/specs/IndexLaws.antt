@@ -8,7 +8,7 @@ use Prim.Native.Nat.{ℕ, ◌+◌, ◌*◌, ◌/◌, ◌%◌, ◌^◌, ◌-◌, 
 use Rattle.std.proofs.Math.Decide.{dec_lt}
 use native.Mathlib.Omega.{arith}
 use Rattle.std.proofs.Math.ListN.{length, get_or, get_or-eq_default}
-use Rattle.sheet.specs.ListLaws.{same_test}
+use Rattle.sheet.proofs.ListLaws.{same_test}
 use Rattle.model.specs.Decl.{Decl, no_decl, dtype_at, table}
 use Rattle.model.specs.Names.{body_names, dtype_names}
 use Rattle.model.specs.Layout.{positions}

@@ -1,1 +1,2 @@
 // Laws of the reach index: everything is in specs/.
+#![tactic(auto)]

@@ -8,7 +8,7 @@ use Rattle.std.proofs.Math.Dec.{eqb}
 use borrow.Author.Tests.{eqb-true, eqb-false}
 use Rattle.number_columns.specs.Column.{pick, ◌⇒◌∥◌}
 use Rattle.sheet.specs.Line.{Line, bad, number}
-use Rattle.sheet.specs.ListLaws.{length_nil}
+use Rattle.sheet.proofs.ListLaws.{length_nil}
 use Rattle.model.specs.Cty.{Cty, names_of_cty}
 use Rattle.model.specs.Decl.{Field, Ctor, Body, TAbstract, TAbbrev, TRecord, TVariant, Dtype, Decl, member, close_field, close_body, close_fields}
 use Rattle.model.specs.Layout.{positions, names_in}

@@ -1,4 +1,6 @@
 // The table of steps of the reach index: each declaration's row is the union of the sets of all types in its body.
+#![tactic(auto)]
+
 ghost use Rattle.std.specs.Prelude.{◌≡◌, ◌+◌, ◌*◌, ◌-◌, ◌≤◌, ◌<◌, length};
 ghost use Rattle.meaning.specs.Program.{type_line, field_line};
 ghost use Rattle.meaning.specs.Rows.{count_of};

@@ -1,5 +1,7 @@
 // The sets of the reach index, two words for each declaration that the format allows: by the names in the types of each body, and
 // then through bodies.
+#![tactic(auto)]
+
 ghost use Rattle.std.specs.Prelude.{◌≡◌, ◌*◌, ◌≤◌, length};
 ghost use Rattle.sheet.specs.Format.{base};
 ghost use Rattle.meaning.specs.Program.{type_line, program};

@@ -12,9 +12,9 @@ use Rattle.meaning.specs.Rows.{count_of}
 use Rattle.table_declared.specs.Passed.{Passed}
 use Rattle.resolve_outcomes.specs.Outcome.{app, head, argument, instance_head, counted, fits}
 use Rattle.resolve_outcomes.specs.Scratch.{part, Same}
-use Rattle.resolve_outcomes.specs.Laws.Answer.{head_plain}
-use Rattle.resolve_outcomes.specs.Laws.Call.{unfolded}
-use Rattle.resolve_outcomes.specs.Laws.Scratch.{part_none, part_last, part_set, same_refl, same_sym, same_get, same_trans, same_set}
+use Rattle.resolve_outcomes.proofs.Laws.Answer.{head_plain}
+use Rattle.resolve_outcomes.proofs.Laws.Call.{unfolded}
+use Rattle.resolve_outcomes.proofs.Laws.Scratch.{part_none, part_last, part_set, same_refl, same_sym, same_get, same_trans, same_set}
 use Rattle.resolve_kids.specs.Nodes.{y_line, kind_of, type_of}
 use Rattle.resolve_kids.specs.NodesLaws.{var_type, app_type, plain_type}
 

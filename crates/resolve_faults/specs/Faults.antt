@@ -2,13 +2,13 @@
 -- order of the declarations. Assumes nothing.
 use Rattle.std.specs.Prelude.{List, [], ◌∷◌, ℕ, ◌*◌, ◌≤◌, ◌<◌, length, ◌≡◌}
 use Rattle.sheet.specs.Line.{Line}
-use Rattle.sheet.specs.ListLaws.{Every}
+use Rattle.sheet.proofs.ListLaws.{Every}
 use Rattle.meaning.specs.Program.{field_line}
 use Rattle.meaning.specs.Rows.{count_of}
 use Rattle.model.specs.Resolve.{Result, ok}
 use Rattle.table_access.specs.Tables.{decls_of}
 use Rattle.resolve_outcomes.specs.Answer.{Told}
-use Rattle.resolve_outcomes.specs.Laws.Fuel.{Leads}
+use Rattle.resolve_outcomes.specs.Leads.{Leads}
 use Rattle.resolve_memory.specs.Slots.{Slots}
 use Rattle.keep_layouts.specs.States.{resolves_of}
 use Rattle.resolve_laws.specs.Resolver.{Setup, fuel_of, call_of, type_of_decl}

@@ -7,15 +7,15 @@ use native.Mathlib.Omega.{arith}
 use borrow.Author.Tests.{eqb-true, eqb-false, ne_eqb, ltb-true, ltb-false}
 use Rattle.number_columns.specs.Column.{pick}
 use Rattle.sheet.specs.Line.{Line}
-use Rattle.sheet.specs.ListLaws.{Every, get_or_within}
+use Rattle.sheet.proofs.ListLaws.{Every, get_or_within}
 use Rattle.model.specs.Resolve.{Result}
 use Rattle.meaning.specs.Program.{field_line}
 use Rattle.meaning.specs.Rows.{count_of}
 use Rattle.table_access.specs.Tables.{decls_of, first_of}
 use Rattle.keep_layouts.specs.Kept.{body_kind, body_last, field_type}
 use Rattle.erasure_laws.specs.BodiesLaws.{field_types, last_types, first_le}
-use Rattle.resolve_outcomes.specs.Laws.Fuel.{Leads}
-use Rattle.resolve_outcomes.specs.Laws.Answer.{answer_value}
+use Rattle.resolve_outcomes.specs.Leads.{Leads}
+use Rattle.resolve_outcomes.proofs.Laws.Answer.{answer_value}
 use Rattle.resolve_memory.specs.Slots.{Slots}
 use Rattle.keep_layouts.specs.States.{state, body_of, kept_types, resolves_of}
 use Rattle.resolve_laws.specs.Resolver.{Place, fuel_of, call_of, type_of_decl, Found}

@@ -12,7 +12,7 @@ use borrow.Author.Tests.{eqb-true, eqb-false, ne_eqb, leb-true, leb-false, le-le
 use Rattle.number_columns.specs.Column.{pick, ◌⇒◌∥◌}
 use Rattle.sheet.specs.Line.{Line, bad, letter, number}
 use Rattle.sheet.specs.Sheet.{first}
-use Rattle.sheet.specs.FirstLaws.{first_before}
+use Rattle.sheet.proofs.FirstLaws.{first_before}
 use Rattle.model.specs.Cty.{Cty, Ctys, TUnit, TAny, TExn, TVar, TInt, TFloat, TConst, TArrow, TApp, TTuple, TBuf, TRef, TInline, nil, cons, append}
 use Rattle.meaning.specs.Program.{name_line, arg_line, type_line, is, select, list_of, tree, trees_after, trees}
 use Rattle.meaning.specs.Rows.{count_of, count_before, nth_line, some_below, zeros_from, is_list, good_type, good_numbers, row5}

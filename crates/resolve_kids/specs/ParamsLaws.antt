@@ -12,7 +12,7 @@ use Rattle.meaning_laws.specs.Program.{select_append}
 use Rattle.table_access.specs.Tables.{nth, first_of}
 use Rattle.resolve_outcomes.specs.Outcome.{one, argument}
 use Rattle.resolve_outcomes.specs.Scratch.{part}
-use Rattle.resolve_outcomes.specs.Laws.Scratch.{part_none}
+use Rattle.resolve_outcomes.proofs.Laws.Scratch.{part_none}
 use Rattle.resolve_kids.specs.Params.{params_from, params_of}
 
 pub params_length : (ls : List Line) (p n : ℕ) → length (params_from ls p n) ≡ n

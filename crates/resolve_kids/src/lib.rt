@@ -1,4 +1,6 @@
 // A Y line as a node of a type, whatever its kind: its parts, from left to right; and how many parameters a declaration has.
+#![tactic(auto)]
+
 pub mod arguments;
 
 ghost use Rattle.std.specs.Prelude.{◌≡◌, ◌<◌, eqb, length};

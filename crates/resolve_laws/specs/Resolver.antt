@@ -9,7 +9,7 @@ use Rattle.model.specs.Resolve.{Result, ok}
 use Rattle.table_access.specs.Tables.{decls_of, TableOf}
 use Rattle.resolve_outcomes.specs.Outcome.{called, eval, evals, ev}
 use Rattle.resolve_outcomes.specs.Answer.{Told}
-use Rattle.resolve_outcomes.specs.Laws.Fuel.{Leads}
+use Rattle.resolve_outcomes.specs.Leads.{Leads}
 use Rattle.resolve_outcomes.specs.Scratch.{part, Same, Nodes}
 use Rattle.resolve_kids.specs.Nodes.{kind_of, type_of}
 use Rattle.resolve_kids.specs.Params.{params_of}

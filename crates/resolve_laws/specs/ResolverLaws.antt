@@ -21,12 +21,13 @@ use Rattle.table_access.specs.Tables.{decls_of}
 use Rattle.resolve_outcomes.specs.Outcome.{other, app, one, total, attached, built, argument, weight, instance_head, instance_shape, nodes, extra, called, eval, evals, entered, ev, fits}
 use Rattle.resolve_outcomes.specs.Answer.{listed, answer, Told}
 use Rattle.resolve_outcomes.specs.Scratch.{part, Same, capped, Says, Nodes}
-use Rattle.resolve_outcomes.specs.Laws.Shape.{attached_none, sizes_append}
-use Rattle.resolve_outcomes.specs.Laws.Fuel.{Leads, leads_same}
-use Rattle.resolve_outcomes.specs.Laws.Answer.{eval_plain, evals_last, size_parts, answer_value, told_stop, told_go, told_known, told_same, told_next}
-use Rattle.resolve_outcomes.specs.Laws.Scratch.{part_none, part_length, part_drop, part_same, part_join, part_set, same_refl, same_sym, same_trans, same_less, same_set, capped_add, capped_most, capped_over, capped_under}
-use Rattle.resolve_outcomes.specs.Laws.Nodes.{argument_nodes, nodes_none, nodes_append, nodes_one, nodes_drop, total_nodes, size_weight}
-use Rattle.resolve_outcomes.specs.Laws.Call.{extra_none, shape_parts, unfolded, fits_enough, fits_app, call_small, call_large, call_spent, call_nine, var_surplus}
+use Rattle.resolve_outcomes.proofs.Laws.Shape.{attached_none, sizes_append}
+use Rattle.resolve_outcomes.specs.Leads.{Leads}
+use Rattle.resolve_outcomes.proofs.Laws.Fuel.{leads_same}
+use Rattle.resolve_outcomes.proofs.Laws.Answer.{eval_plain, evals_last, size_parts, answer_value, told_stop, told_go, told_known, told_same, told_next}
+use Rattle.resolve_outcomes.proofs.Laws.Scratch.{part_none, part_length, part_drop, part_same, part_join, part_set, same_refl, same_sym, same_trans, same_less, same_set, capped_add, capped_most, capped_over, capped_under}
+use Rattle.resolve_outcomes.proofs.Laws.Nodes.{argument_nodes, nodes_none, nodes_append, nodes_one, nodes_drop, total_nodes, size_weight}
+use Rattle.resolve_outcomes.proofs.Laws.Call.{extra_none, shape_parts, unfolded, fits_enough, fits_app, call_small, call_large, call_spent, call_nine, var_surplus}
 use Rattle.resolve_kids.specs.Nodes.{y_line, kind_of, type_of, kids_of, kid_of}
 use Rattle.resolve_kids.specs.NodesLaws.{node_at, var_type, app_type, plain_type}
 use Rattle.resolve_kids.specs.Params.{params_of}

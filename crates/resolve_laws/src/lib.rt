@@ -1,4 +1,5 @@
 // What the resolution by outcomes asks and answers: the definitions and laws are in specs/. An answer is a number.
+#![tactic(auto)]
 
 // The fuel is spent; the scratch is full; codes 9 and 10. Every greater number is an outcome.
 pub const NO_FUEL: usize = 0;

@@ -5,7 +5,7 @@ use Rattle.std.proofs.Common.{⊎_elim, sym, ◌∙◌, subst, arith}
 use Rattle.model.specs.Resolve.{Result}
 use Rattle.resolve_outcomes.specs.Answer.{nine, answer}
 use Rattle.resolve_outcomes.specs.Scratch.{part}
-use Rattle.resolve_outcomes.specs.Laws.Fuel.{Leads}
+use Rattle.resolve_outcomes.specs.Leads.{Leads}
 
 -- some slot has this call and this answer
 pub record Holds (xs : List ℕ) (n : ℕ) (os : List ℕ) (r : ℕ) : Type 0 where

@@ -4,7 +4,7 @@ use Rattle.std.proofs.Common.{inl, inr, ap, ap₂, sym, ◌∙◌, subst, arith,
 use Rattle.std.proofs.lemmas.Bool.{eqb-false}
 use Rattle.resolve_outcomes.specs.Answer.{nine}
 use Rattle.resolve_outcomes.specs.Scratch.{part}
-use Rattle.resolve_outcomes.specs.Laws.Scratch.{part_none, part_last, part_length, part_set}
+use Rattle.resolve_outcomes.proofs.Laws.Scratch.{part_none, part_last, part_length, part_set}
 use Rattle.resolve_memory.specs.Slots.{Holds, Written, Put, Filled}
 
 -- ---- equal cells

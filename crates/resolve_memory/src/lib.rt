@@ -1,4 +1,6 @@
 // Remembered calls: a slot has a name, its arguments' outcomes and the answer.
+#![tactic(auto)]
+
 pub mod remembering;
 
 ghost use Rattle.std.specs.Prelude.{◌≡◌, true, ◌+◌, ◌≤◌, ◌<◌, length};

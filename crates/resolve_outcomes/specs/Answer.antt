@@ -23,7 +23,7 @@ use Rattle.model.specs.Cty.{
   append,
 }
 use Rattle.model.specs.Resolve.{Result, ok, fault, spent}
-use Rattle.resolve_outcomes.specs.Laws.Fuel.{Leads}
+use Rattle.resolve_outcomes.specs.Leads.{Leads}
 
 -- ---- parts
 -- the parts of a type, from left to right

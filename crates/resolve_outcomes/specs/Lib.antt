@@ -1,4 +1,4 @@
+pub mod Leads
 pub mod Outcome
 pub mod Answer
 pub mod Scratch
-pub mod Laws

@@ -1,6 +1,6 @@
 // The tests of a call of a declaration that is unfolded, in the order of the rows.
 ghost use Rattle.std.specs.Prelude.{◌≡◌, ◌+◌, ◌*◌, eqb, get_or};
-ghost use Rattle.resolve_outcomes.specs.Laws.Call as call;
+ghost use Rattle.resolve_outcomes.proofs.Laws.Call as call;
 ghost use Rattle.resolve_kids.specs.Params as params;
 ghost use Rattle.resolve_kids.specs.Nodes as nodes;
 ghost use Rattle.resolve_laws.specs.Resolver as resolver;

@@ -1,5 +1,7 @@
 // Rows 9 and 10 by outcomes, of a type as it stands in its declaration. An answer is a number: below
 // `VALUE` it says why there is no outcome.
+#![tactic(auto)]
+
 mod entries;
 mod recalls;
 mod resolution;

@@ -6,7 +6,7 @@ ghost use Rattle.meaning.specs.Program as program;
 ghost use Rattle.meaning.specs.Rows as rows;
 ghost use Rattle.table_access.specs.Tables as tables;
 ghost use Rattle.resolve_outcomes.specs.Scratch as scratch;
-ghost use Rattle.resolve_outcomes.specs.Laws.Call as call;
+ghost use Rattle.resolve_outcomes.proofs.Laws.Call as call;
 ghost use Rattle.resolve_kids.specs.Params as params;
 ghost use Rattle.resolve_kids.specs.Nodes as nodes;
 ghost use Rattle.resolve_weights.specs.Weigh as weigh;

@@ -11,8 +11,8 @@ use Rattle.table_declared.specs.Passed.{Passed}
 use Rattle.resolve_outcomes.specs.Outcome.{nodes, argument, weight, weights}
 use Rattle.resolve_outcomes.specs.Answer.{listed}
 use Rattle.resolve_outcomes.specs.Scratch.{capped}
-use Rattle.resolve_outcomes.specs.Laws.Answer.{weight_parts, weights_last}
-use Rattle.resolve_outcomes.specs.Laws.Scratch.{capped_small, capped_large, capped_add, capped_over, capped_under}
+use Rattle.resolve_outcomes.proofs.Laws.Answer.{weight_parts, weights_last}
+use Rattle.resolve_outcomes.proofs.Laws.Scratch.{capped_small, capped_large, capped_add, capped_over, capped_under}
 use Rattle.resolve_kids.specs.Nodes.{y_line, kind_of, type_of, kids_of}
 use Rattle.resolve_kids.specs.NodesLaws.{var_type, app_type, plain_type}
 use Rattle.resolve_weights.specs.Weigh.{kid_types}

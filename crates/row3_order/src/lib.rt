@@ -1,5 +1,7 @@
 // Row 3: the order of a sheet's lines and their counts, by their cells. The runs at its
 // front are in order, so that only the lines after them are looked at one by one.
+#![tactic(auto)]
+
 mod steps;
 
 ghost use Rattle.std.specs.Prelude.{◌≡◌, suc, length};

@@ -8,8 +8,8 @@ use borrow.Author.Tests.{eqb-true, lt-leb, ltb-true, ltb-false, not-true}
 use Rattle.number_columns.specs.Column.{pick, ◌⇒◌∥◌}
 use Rattle.sheet.specs.Format.{base}
 use Rattle.sheet.specs.Line.{Line, letter}
-use Rattle.sheet.specs.ListLaws.{both, false_true}
-use Rattle.sheet.specs.FirstLaws.{first_more}
+use Rattle.sheet.proofs.ListLaws.{both, false_true}
+use Rattle.sheet.proofs.FirstLaws.{first_more}
 use Rattle.meaning.specs.Rows.{nth_line, row4}
 use Rattle.row4_limits.specs.declared.Tally.{Tally}
 use Rattle.row4_limits.specs.Limits.{counted, past}

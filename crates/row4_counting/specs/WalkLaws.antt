@@ -11,7 +11,7 @@ use Rattle.number_columns.specs.Column.{pick}
 use Rattle.sheet.specs.Format.{Format}
 use Rattle.sheet.specs.Line.{Line, letter}
 use Rattle.sheet.specs.Sheet.{first}
-use Rattle.sheet.specs.FirstLaws.{first_more}
+use Rattle.sheet.proofs.FirstLaws.{first_more}
 use Rattle.meaning.specs.Rows.{nth_line, row4}
 use Rattle.rows_runs.specs.declared.Runs.{Runs}
 use Rattle.rows_runs.specs.RunsLaws.{upward, Spans}

@@ -1,5 +1,7 @@
 // Row 4, and what the lines of a sheet declare. The counts of the runs at its front are known, so that only the lines after
 // them are looked at one by one. A first walk only counts, and hardly jumps; where some line may be past a limit a second one finds it.
+#![tactic(auto)]
+
 ghost use Rattle.std.specs.Prelude.{◌≡◌, true, ◌&&◌, ◌+◌, ◌≤◌, ◌<◌, length};
 ghost use Rattle.number_columns.specs.Column.{pick};
 ghost use Rattle.walk_cells.specs.Cells.{lines_of};

@@ -13,7 +13,7 @@ use Rattle.number_columns.specs.Column.{pick}
 use Rattle.sheet.specs.Format.{Format, base, Wider}
 use Rattle.sheet.specs.Line.{Line, letter}
 use Rattle.sheet.specs.Sheet.{first, row1}
-use Rattle.sheet.specs.FirstLaws.{Place, first_place, first_le_at, first_found, first_none, none_first}
+use Rattle.sheet.proofs.FirstLaws.{Place, first_place, first_le_at, first_found, first_none, none_first}
 use Rattle.meaning.specs.Program.{name_line, arg_line, type_line, param_line, ctor_line, field_line, is, is_head, select}
 use Rattle.meaning.specs.Rows.{nth_line, count_before, heads_before, params_after, row4}
 use Rattle.row3_order.specs.StepLaws.{count_before_step, heads_before_step, params_after_suc, count_before_le, heads_before_le, params_after_le, heads_before_mono}

@@ -1,4 +1,6 @@
 // Row 4's counts and limits, by the letter of a line.
+#![tactic(auto)]
+
 ghost use Rattle.std.specs.Prelude.{◌≡◌};
 ghost use Rattle.sheet.specs.Format.{base};
 ghost use Rattle.row4_limits.specs.Limits as limits;

@@ -4,7 +4,7 @@ use Rattle.std.proofs.Common.{arith}
 use Rattle.std.proofs.Math.ListN.{length}
 use Rattle.sheet.specs.Line.{letter, number, Line}
 use Rattle.sheet.specs.Sheet.{first}
-use Rattle.sheet.specs.FirstLaws.{first_le, first_prefix}
+use Rattle.sheet.proofs.FirstLaws.{first_le, first_prefix}
 use Rattle.meaning.specs.Program.{name_line, type_line, arg_line}
 use Rattle.meaning.specs.Rows.{count_before, good_type, good_numbers, row5, nth_line}
 use Rattle.rows_header.specs.Header.{Counted}

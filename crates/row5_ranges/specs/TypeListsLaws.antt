@@ -6,7 +6,7 @@ use Rattle.std.proofs.Math.ListN.{get_or-map}
 use Rattle.std.proofs.lemmas.Bool.{lt-leb}
 use Rattle.sheet.specs.Line.{Line, bad, number}
 use Rattle.sheet.specs.Sheet.{first}
-use Rattle.sheet.specs.FirstLaws.{first_more}
+use Rattle.sheet.proofs.FirstLaws.{first_more}
 use Rattle.meaning.specs.Program.{name_line, arg_line, select}
 use Rattle.meaning.specs.Rows.{some_below, is_list, nth_line}
 use Rattle.rows_header.specs.Header.{Counted}

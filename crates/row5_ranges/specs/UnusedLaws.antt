@@ -6,7 +6,7 @@ use Rattle.std.proofs.Common.{arith}
 use borrow.Author.Tests.{eq-eqb, ne_eqb, lt-ltb, le-ltb, le-leb, lt-leb}
 use Rattle.sheet.specs.Line.{Line, number}
 use Rattle.sheet.specs.Sheet.{first}
-use Rattle.sheet.specs.FirstLaws.{first_none, none_first, first_le_at, first_more}
+use Rattle.sheet.proofs.FirstLaws.{first_none, none_first, first_le_at, first_more}
 use Rattle.meaning.specs.Rows.{some_below, zeros_from}
 
 -- ---- a test that holds of some number

@@ -1,5 +1,7 @@
 // Row 5: the numbers of each line are in range (FORMAT, section 5). By sections: N,
 // A and Y lines, and then the declarations.
+#![tactic(auto)]
+
 mod decl_lines;
 mod type_lists;
 mod types;

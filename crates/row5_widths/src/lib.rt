@@ -1,4 +1,6 @@
 // Row 5: the width of an integer type (FORMAT, section 3).
+#![tactic(auto)]
+
 ghost use Rattle.std.specs.Prelude.{◌≡◌};
 ghost use Rattle.meaning.specs.Rows as rows;
 

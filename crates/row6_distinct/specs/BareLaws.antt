@@ -5,8 +5,8 @@ use Rattle.std.proofs.lemmas.List.{length-map}
 use Rattle.sheet.specs.Format.{base}
 use Rattle.sheet.specs.Line.{Line, number}
 use Rattle.sheet.specs.Sheet.{first, count, lines}
-use Rattle.sheet.specs.FirstLaws.{first_congr}
-use Rattle.sheet.specs.SheetLaws.{length_lines}
+use Rattle.sheet.proofs.FirstLaws.{first_congr}
+use Rattle.sheet.proofs.SheetLaws.{length_lines}
 use Rattle.meaning.specs.Program.{name_line, arg_line, type_line, local_line, import_line, param_line, ctor_line, field_line, is, is_head}
 use Rattle.meaning.specs.Rows.{some_below, nth_line, is_ctor, same_decl, same_ctor}
 use Rattle.walk_cells.specs.Cells.{lines_of, bare}

@@ -10,7 +10,7 @@ use Rattle.number_columns.specs.Column.{pick}
 use Rattle.sheet.specs.Format.{base}
 use Rattle.sheet.specs.Line.{Line, letter, number}
 use Rattle.sheet.specs.Sheet.{first}
-use Rattle.sheet.specs.FirstLaws.{none_first, first_none}
+use Rattle.sheet.proofs.FirstLaws.{none_first, first_none}
 use Rattle.meaning.specs.Program.{name_line, arg_line, type_line}
 use Rattle.meaning.specs.Rows.{nth_line, count_of, count_before, good_numbers, row5}
 use Rattle.rows_header.specs.Header.{Headed}

@@ -6,8 +6,8 @@ use borrow.Author.Tests.{eqb-true, eqb-false, lt-ltb, ltb-true, ltb-false}
 use Rattle.number_words.specs.Word.{key_of}
 use Rattle.sheet.specs.Format.{base}
 use Rattle.sheet.specs.Sheet.{first, count, lines}
-use Rattle.sheet.specs.FirstLaws.{first_le_at}
-use Rattle.sheet.specs.SheetLaws.{line_at_length, length_lines}
+use Rattle.sheet.proofs.FirstLaws.{first_le_at}
+use Rattle.sheet.proofs.SheetLaws.{line_at_length, length_lines}
 use Rattle.meaning.specs.Program.{name_line}
 use Rattle.meaning.specs.Rows.{equal, count_of}
 use Rattle.row4_limits.specs.Limits.{counts_of}

@@ -13,8 +13,8 @@ use borrow.Author.Tests.{eqb-true, eqb-false, eq-eqb, ne_eqb, ltb-true}
 use Rattle.number_columns.specs.Column.{pick}
 use Rattle.sheet.specs.Line.{Line, letter, number, text}
 use Rattle.sheet.specs.Sheet.{first}
-use Rattle.sheet.specs.FirstLaws.{first_congr}
-use Rattle.sheet.specs.ListLaws.{both}
+use Rattle.sheet.proofs.FirstLaws.{first_congr}
+use Rattle.sheet.proofs.ListLaws.{both}
 use Rattle.meaning.specs.Program.{name_line, param_line, ctor_line, field_line, is, is_head, select}
 use Rattle.meaning.specs.Rows.{some_below, nth_line, count_of, count_before, heads_before, good_head, good_numbers, equal, is_ctor, same_decl, same_ctor, repeats, row6}
 use Rattle.rows_header.specs.Header.{Lettered}

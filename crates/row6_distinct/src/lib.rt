@@ -1,4 +1,6 @@
 // Row 6: names that are to differ, of a sheet that passed rows 1 to 5.
+#![tactic(auto)]
+
 mod repeats;
 mod respellings;
 

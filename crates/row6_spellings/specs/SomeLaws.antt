@@ -2,7 +2,7 @@
 use Rattle.std.specs.Prelude.{◌≡◌, refl, Bool, true, false, ◌||◌, ℕ, zero, suc, ◌≤◌, ◌<◌, min, ltb}
 use Rattle.std.proofs.Common.{ap, sym, ◌∙◌, arith, lt-ltb, le-ltb, ltb-true, ltb-false}
 use Rattle.sheet.specs.Sheet.{first}
-use Rattle.sheet.specs.FirstLaws.{Place, first_place, place_unique, first_congr, first_found}
+use Rattle.sheet.proofs.FirstLaws.{Place, first_place, place_unique, first_congr, first_found}
 use Rattle.meaning.specs.Rows.{some_below}
 
 -- ---- tests of some number below n

@@ -12,12 +12,12 @@ use Rattle.number_columns.specs.Column.{pick, write}
 use Rattle.number_columns.specs.ColumnLaws.{write_length}
 use Rattle.sheet.specs.Format.{line_bytes, text_bytes}
 use Rattle.sheet.specs.Line.{Line, named, row, bad, lettered, padded, encode, letter, text}
-use Rattle.sheet.specs.LineLaws.{Graphic, Fits, length_padded, decode_fits}
+use Rattle.sheet.proofs.LineLaws.{Graphic, Fits, length_padded, decode_fits}
 use Rattle.sheet.specs.Sheet.{first, count, line_at, line, lines}
-use Rattle.sheet.specs.SheetLaws.{length_lines, get_or_lines, encode_line, line_good}
+use Rattle.sheet.proofs.SheetLaws.{length_lines, get_or_lines, encode_line, line_good}
 use Rattle.meaning.specs.Program.{name_line, is}
 use Rattle.meaning.specs.Rows.{some_below, nth_line, count_of, count_before, equal}
-use Rattle.sheet.specs.FirstLaws.{none_first, first_none}
+use Rattle.sheet.proofs.FirstLaws.{none_first, first_none}
 use Rattle.row3_order.specs.StepLaws.{count_before_step, count_before_le, count_before_mono}
 use Rattle.rows_header.specs.OrderLaws.{Ordered, ordered_lines, name_before}
 use Rattle.row6_spellings.specs.Spellings.{Ranged, respelled, text_at, spelled_before}

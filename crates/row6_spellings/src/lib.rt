@@ -1,4 +1,6 @@
 // Row 6, the names' spellings: of a sheet that passed rows 1 to 5.
+#![tactic(auto)]
+
 ghost use Rattle.std.specs.Prelude.{◌≡◌, ◌<◌};
 ghost use Rattle.sheet.specs.Sheet as sheet;
 ghost use Rattle.meaning.specs.Rows as rows;

@@ -12,7 +12,7 @@ use borrow.Author.Tests.{eq-eqb, ne_eqb, eqb-true, eqb-false, leb-true, leb-fals
 use Rattle.number_columns.specs.Column.{pick, ◌⇒◌∥◌}
 use Rattle.sheet.specs.Line.{Line, bad, letter, number}
 use Rattle.sheet.specs.Sheet.{first}
-use Rattle.sheet.specs.FirstLaws.{first_none}
+use Rattle.sheet.proofs.FirstLaws.{first_none}
 use Rattle.meaning.specs.Program.{name_line, arg_line, type_line, local_line, import_line, ctor_line, field_line, verdict_line, is, is_head}
 use Rattle.meaning.specs.Rows.{last_head, kept_after, ctors_after, tag_in, good_verdicts, row7, nth_line}
 use Rattle.rows_header.specs.Header.{Headed, Lettered}

@@ -1,4 +1,6 @@
 // Row 7: keep numbers and verdicts (FORMAT, section 5).
+#![tactic(auto)]
+
 mod verdict_lines;
 
 ghost use Rattle.std.specs.Prelude.{◌≡◌, ◌/◌, ◌≤◌, ◌<◌, length};

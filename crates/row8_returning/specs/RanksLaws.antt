@@ -3,7 +3,7 @@ use Rattle.std.specs.Prelude.{◌≡◌, List, true, false, ℕ, ◌+◌, ◌*�
 use Rattle.std.proofs.Common.{sym, ◌∙◌, arith, length-set, get_or-set_same, get_or-set_other}
 use Rattle.std.proofs.Math.Decide.{ℕ_discrete, dec_lt}
 use Rattle.sheet.specs.Sheet.{first}
-use Rattle.sheet.specs.FirstLaws.{first_none, first_found}
+use Rattle.sheet.proofs.FirstLaws.{first_none, first_found}
 use Rattle.model.specs.Reach.{cyclic}
 use Rattle.set_bits.specs.Bits.{has}
 use Rattle.set_search.specs.Search.{Steps, steps}

@@ -12,7 +12,7 @@ use Rattle.std.proofs.Math.ListN.{length, get_or, get_or-eq_default}
 use borrow.Author.Tests.{eqb-true, eqb-false, eq-eqb, ne_eqb, lt-ltb, le-ltb, ltb-true, ltb-false}
 use Rattle.number_columns.specs.Column.{pick, ◌⇒◌∥◌}
 use Rattle.sheet.specs.Line.{Line}
-use Rattle.sheet.specs.FirstLaws.{first_le, first_before}
+use Rattle.sheet.proofs.FirstLaws.{first_le, first_before}
 use Rattle.model.specs.Cty.{Cty, names_of_cty}
 use Rattle.model.specs.Decl.{Decl, dtype_at, position, close}
 use Rattle.model.specs.Layout.{positions, names_in, type_names, steps}

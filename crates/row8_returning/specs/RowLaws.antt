@@ -5,7 +5,7 @@ use Rattle.std.proofs.Common.{sym, ◌∙◌}
 use mathlib.Core.List.{List, [], ◌∷◌}
 use Rattle.number_columns.specs.Column.{pick}
 use Rattle.sheet.specs.Sheet.{first}
-use Rattle.sheet.specs.FirstLaws.{first_congr}
+use Rattle.sheet.proofs.FirstLaws.{first_congr}
 use Rattle.model.specs.Reach.{cyclic}
 use Rattle.model.specs.Run.{layouts_of, unfold_next, returns}
 use Rattle.meaning.specs.Program.{program}

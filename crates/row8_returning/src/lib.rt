@@ -1,4 +1,6 @@
 // Row 8: whether an unfolded name returns to itself, by what is reached through the bodies of unfolded declarations.
+#![tactic(auto)]
+
 mod ranks;
 
 ghost use Rattle.std.specs.Prelude.{◌≡◌, ◌+◌, ◌*◌, ◌<◌, length};

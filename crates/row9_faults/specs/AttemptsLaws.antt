@@ -7,7 +7,7 @@ use Rattle.std.proofs.lemmas.Bool.{eqb-false}
 use Rattle.number_columns.specs.Column.{pick, ◌⇒◌∥◌}
 use Rattle.sheet.specs.Format.{base}
 use Rattle.sheet.specs.Line.{Line}
-use Rattle.sheet.specs.ListLaws.{Every}
+use Rattle.sheet.proofs.ListLaws.{Every}
 use Rattle.model.specs.Cty.{Cty}
 use Rattle.model.specs.Decl.{Decl, close}
 use Rattle.model.specs.Resolve.{Result, ok, fault, spent, resolve_checked}
@@ -22,8 +22,8 @@ use Rattle.resolve_kids.specs.Nodes.{type_of}
 use Rattle.resolve_kids.specs.Params.{params_of}
 use Rattle.resolve_outcomes.specs.Outcome.{outcome, mapped}
 use Rattle.resolve_outcomes.specs.Answer.{nine, answer, Told}
-use Rattle.resolve_outcomes.specs.Laws.Fuel.{Leads}
-use Rattle.resolve_outcomes.specs.Laws.Answer.{answer_value, told_known}
+use Rattle.resolve_outcomes.specs.Leads.{Leads}
+use Rattle.resolve_outcomes.proofs.Laws.Answer.{answer_value, told_known}
 use Rattle.resolve_memory.specs.Slots.{Slots, slots_none}
 use Rattle.keep_layouts.specs.States.{lay_of, resolves_of}
 use Rattle.keep_laws.specs.StatesLaws.{resolves_are}

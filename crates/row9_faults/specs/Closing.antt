@@ -16,8 +16,8 @@ use Rattle.model_laws.specs.Cty.{attach_nil, subst_none}
 use Rattle.model_laws.specs.Resolve.{Unspent}
 use Rattle.resolve_outcomes.specs.Outcome.{coded, nodes, head, other, app, one, outcome, mapped, shapes, total, attached, built, argument, weight, weights, instance_head, instance_shape, Next, extra, surplus_called, called, eval, evals, entered, ev}
 use Rattle.resolve_outcomes.specs.Answer.{nine, answer, Told}
-use Rattle.resolve_outcomes.specs.Laws.Ev.{ev_law}
-use Rattle.resolve_outcomes.specs.Laws.Fuel.{leads_unspent}
+use Rattle.resolve_outcomes.proofs.Laws.Ev.{ev_law}
+use Rattle.resolve_outcomes.proofs.Laws.Fuel.{leads_unspent}
 use Rattle.keep_layouts.specs.States.{closed}
 
 argument_unbound : (ps os : List ℕ) (v : ℕ) → member v ps ≡ false → argument ps os v ≡ one

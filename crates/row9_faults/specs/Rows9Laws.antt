@@ -6,7 +6,7 @@ use mathlib.Core.List.{List, [], ◌∷◌}
 use Rattle.std.proofs.Math.Bool.{not}
 use Rattle.sheet.specs.Format.{base}
 use Rattle.sheet.specs.Sheet.{first}
-use Rattle.sheet.specs.FirstLaws.{first_place, place_unique, first_none}
+use Rattle.sheet.proofs.FirstLaws.{first_place, place_unique, first_none}
 use Rattle.meaning.specs.Program.{program}
 use Rattle.answer.specs.declared.Refusal.TheVariants.{Accepted, Refused}
 use Rattle.answer.specs.Answer.{refusal}

@@ -1,4 +1,6 @@
 // Rows 9 and 10: the first declaration that meets a fault, and its code.
+#![tactic(auto)]
+
 mod attempts;
 
 ghost use Rattle.std.specs.Prelude.{◌≡◌, [], ◌∷◌, ◌≤◌};

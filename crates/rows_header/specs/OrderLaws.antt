@@ -10,14 +10,14 @@ use borrow.Author.Tests.{eqb-true, eqb-false, leb-true, lt-ltb, le-ltb, ltb-true
 use Rattle.number_columns.specs.Column.{pick, ◌⇒◌∥◌}
 use Rattle.sheet.specs.Line.{Line, bad, letter, number}
 use Rattle.sheet.specs.Sheet.{first, count, line, lines_from, lines, row2}
-use Rattle.sheet.specs.FirstLaws.{none_first}
-use Rattle.sheet.specs.ListLaws.{false_true}
+use Rattle.sheet.proofs.FirstLaws.{none_first}
+use Rattle.sheet.proofs.ListLaws.{false_true}
 use Rattle.meaning.specs.declared.Due.{Due}
 use Rattle.meaning.specs.declared.Due.TheVariants.{Header, Within, Broken}
 use Rattle.model.specs.Decl.{table}
 use Rattle.meaning.specs.Program.{name_line, arg_line, type_line, param_line, field_line, ctor_line, verdict_line, is, select}
 use Rattle.meaning.specs.Rows.{count_of, count_before, raw, raws, announced, due_header, due, due_after, is_broken, row3}
-use Rattle.sheet.specs.SheetLaws.{letter_good, length_lines, get_or_lines}
+use Rattle.sheet.proofs.SheetLaws.{letter_good, length_lines, get_or_lines}
 use Rattle.model_laws.specs.Lists.{length_table}
 use Rattle.rows_header.specs.Header.{header, Headed}
 

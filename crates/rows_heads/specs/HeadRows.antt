@@ -10,7 +10,7 @@ use Rattle.number_columns.specs.Column.{pick}
 use Rattle.sheet.specs.Format.{Format}
 use Rattle.sheet.specs.Line.{Line}
 use Rattle.sheet.specs.Sheet.{first}
-use Rattle.sheet.specs.FirstLaws.{first_place, place_unique, first_le, first_holds, first_before}
+use Rattle.sheet.proofs.FirstLaws.{first_place, place_unique, first_le, first_holds, first_before}
 use Rattle.model.specs.Decl.{Decl}
 use Rattle.model.specs.Run.{layouts_of, returns, decl_fault, resolves, lay, layout_of_decl}
 use Rattle.meaning.specs.Program.{is_head, program}
@@ -21,7 +21,7 @@ use Rattle.row3_order.specs.StepLaws.{heads_before_step, heads_before_mono}
 use Rattle.row4_limits.specs.Limits.{start}
 use Rattle.row4_limits.specs.LimitsLaws.{start_past, start_within, start_head, start_counts}
 use Rattle.table_access.specs.Tables.{decls_of}
-use Rattle.sheet.specs.ListLaws.{Every}
+use Rattle.sheet.proofs.ListLaws.{Every}
 use Rattle.model_laws.specs.Fuel.{NoReturn}
 use Rattle.model_laws.specs.Resolve.{Resolved}
 use Rattle.answer_laws.specs.Left.{lines_no_return, lines_resolved}

@@ -7,8 +7,8 @@ use Rattle.number_columns.specs.Column.{pick}
 use Rattle.sheet.specs.Format.{base}
 use Rattle.sheet.specs.Line.{Line, letter, is_bad}
 use Rattle.sheet.specs.Sheet.{first, count, line_at, line, lines_from, lines, row1, row2}
-use Rattle.sheet.specs.FirstLaws.{first_le, first_none, none_first}
-use Rattle.sheet.specs.SheetLaws.{get_or_lines, length_lines}
+use Rattle.sheet.proofs.FirstLaws.{first_le, first_none, none_first}
+use Rattle.sheet.proofs.SheetLaws.{get_or_lines, length_lines}
 use Rattle.model.specs.Decl.{table}
 use Rattle.meaning.specs.Program.{is, name_line}
 use Rattle.meaning.specs.Rows.{count_of, count_before, raw}

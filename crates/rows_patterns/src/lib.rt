@@ -1,5 +1,7 @@
 // Rows 3, 4 and 5 of a sheet's Q lines (FORMAT, sections 5 and 12), between those of the declarations before them: the sheet's
 // first refusal, from that of its declarations alone.
+#![tactic(auto)]
+
 ghost use Rattle.std.specs.Prelude.{◌≡◌, ◌++◌, false, not, ◌+◌, ◌*◌, ◌≤◌, ◌<◌, length};
 ghost use Rattle.number_columns.specs.Column.{pick};
 ghost use Rattle.sheet.specs.Format.{base};

@@ -3,11 +3,11 @@ use Rattle.std.specs.Prelude.{◌≡◌, List, [], ◌∷◌, map, false, ◌&&�
 use Rattle.std.proofs.Common.{ap, sym, ◌∙◌, arith, ltb-false}
 use Rattle.sheet.specs.Format.{base}
 use Rattle.sheet.specs.Line.{Line, number, text}
-use Rattle.sheet.specs.ListLaws.{neither}
-use Rattle.sheet.specs.LineLaws.{Fits}
+use Rattle.sheet.proofs.ListLaws.{neither}
+use Rattle.sheet.proofs.LineLaws.{Fits}
 use Rattle.sheet.specs.Sheet.{first, count, lines, row2}
-use Rattle.sheet.specs.FirstLaws.{first_before, none_first}
-use Rattle.sheet.specs.SheetLaws.{AllFit, line_good, fit_lines}
+use Rattle.sheet.proofs.FirstLaws.{first_before, none_first}
+use Rattle.sheet.proofs.SheetLaws.{AllFit, line_good, fit_lines}
 use Rattle.walk_cells.specs.Cells.{lines_of, bare}
 use Rattle.meaning.specs.Program.{name_line, is}
 use Rattle.meaning.specs.Rows.{nth_line, equal, repeats, row6}

@@ -10,7 +10,7 @@ use borrow.Author.Tests.{lt-ltb, le-ltb, ltb-false}
 use Rattle.sheet.specs.Format.{base}
 use Rattle.sheet.specs.Line.{is_bad}
 use Rattle.sheet.specs.Sheet.{first, count, line, lines, row1, row2}
-use Rattle.sheet.specs.FirstLaws.{first_le}
+use Rattle.sheet.proofs.FirstLaws.{first_le}
 use Rattle.answer.specs.declared.Refusal.{Refusal}
 use Rattle.answer.specs.declared.Refusal.TheVariants.{Accepted, Refused}
 use Rattle.meaning.specs.Rows.{raws, row3, row4, row5, row6, row7}

@@ -1,5 +1,7 @@
 // Rows 2 to 7 (FORMAT, section 5), in the order in which they are tested, of bytes that passed row 1. Row 2 puts the lines into lent
 // cells, and here the rows of cells become those of bytes.
+#![tactic(auto)]
+
 ghost use Rattle.std.specs.Prelude.{map, ◌≡◌, false, ◌*◌, length};
 ghost use Rattle.sheet.specs.Format.{base};
 ghost use Rattle.sheet.specs.Sheet.{count, lines, row1, row2};

@@ -8,7 +8,7 @@ use Rattle.std.proofs.Math.ListN.{length}
 use borrow.Author.Tests.{eqb-true, eqb-false, ne_eqb, eq-eqb, le-leb, leb-true, leb-false}
 use Rattle.sheet.specs.Line.{Line, letter}
 use Rattle.sheet.specs.Sheet.{first}
-use Rattle.sheet.specs.FirstLaws.{first_le, first_holds, first_before, first_none, first_more, first_found}
+use Rattle.sheet.proofs.FirstLaws.{first_le, first_holds, first_before, first_none, first_more, first_found}
 use Rattle.meaning.specs.Program.{name_line, arg_line, type_line, is}
 use Rattle.meaning.specs.Rows.{nth_line}
 use Rattle.rows_runs.specs.declared.Runs.{Runs}

@@ -1,4 +1,6 @@
 // The runs of N, A and Y lines at the front of a sheet, by the letters of its cells.
+#![tactic(auto)]
+
 ghost use Rattle.std.specs.Prelude.{◌≡◌, ◌≤◌, length};
 ghost use Rattle.walk_cells.specs.Cells.{lines_of};
 ghost use Rattle.rows_runs.specs.Runs as runs;

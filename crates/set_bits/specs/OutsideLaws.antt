@@ -6,7 +6,7 @@ use Rattle.std.proofs.Math.Decide.{dec_lt}
 use Rattle.std.specs.Int.Bits.{bit_and, bit_xor, differ}
 use Rattle.std.specs.Int.Count.{count_trailing_zeros}
 use Rattle.sheet.specs.Sheet.{first}
-use Rattle.sheet.specs.FirstLaws.{place_unique, first_place}
+use Rattle.sheet.proofs.FirstLaws.{place_unique, first_place}
 use Rattle.set_bits.specs.Bits.{digit, has}
 use Rattle.set_bits.specs.BitsLaws.{digit_lt, digit_and, digit_xor, lowest_set, lowest_below, lowest_within}
 use Rattle.set_bits.specs.Outside.{outside}

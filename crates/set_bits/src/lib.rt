@@ -1,4 +1,6 @@
 // Sets of numbers as bits in words. A slice of words may hold many sets: `at` is where the words of one begin.
+#![tactic(auto)]
+
 ghost use Rattle.std.specs.Prelude.{◌≡◌, ◌+◌, ◌*◌, ◌/◌, ◌≤◌, ◌<◌, length};
 ghost use Rattle.sheet.specs.Sheet as sheet;
 ghost use Rattle.set_bits.specs.Bits as bits;

@@ -6,7 +6,7 @@ use mathlib.Core.List.{List, Memᴰ}
 use Prim.Native.Nat.{ℕ, zero, suc, ◌+◌, ◌*◌, ◌/◌, ◌%◌, ◌^◌, ◌≤◌, ◌<◌, ◌-◌}
 use Rattle.std.proofs.Math.Arith.{lt-one}
 use Rattle.std.specs.Int.Count.{ones, ones_step}
-use Rattle.sheet.specs.ListLaws.{same_test}
+use Rattle.sheet.proofs.ListLaws.{same_test}
 use Rattle.model.specs.Decl.{bit, table}
 use Rattle.model.specs.Reach.{Reach, one, more, cyclic}
 use Rattle.model_laws.specs.Lists.{true_of, trues, length_table, get_or_table, table_cong}

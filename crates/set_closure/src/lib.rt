@@ -1,5 +1,7 @@
 // What every node reaches: the rows of a table of steps, made the rows of what is reached by way of one node after the other; and
 // how many these are, as the ones of the words of a row.
+#![tactic(auto)]
+
 ghost use Rattle.std.specs.Prelude.{◌≡◌, ◌+◌, ◌*◌, ◌≤◌, ◌<◌, length};
 ghost use Rattle.set_search.specs.Search.{Steps};
 ghost use Rattle.set_closure.specs.Closure.{Rows, Through};

@@ -4,8 +4,8 @@ use Rattle.std.proofs.Common.{ap, ◌∙◌, arith, length-set, get_or-set_same,
 use mathlib.Core.List.{List, Memᴰ}
 use Rattle.std.proofs.Math.Decide.{ℕ_discrete}
 use Rattle.number_columns.specs.Column.{pick}
-use Rattle.sheet.specs.ListLaws.{contrary}
-use Rattle.sheet.specs.FirstLaws.{first_before, first_congr}
+use Rattle.sheet.proofs.ListLaws.{contrary}
+use Rattle.sheet.proofs.FirstLaws.{first_before, first_congr}
 use Rattle.model.specs.Decl.{bit}
 use Rattle.model.specs.Reach.{Reach, cyclic}
 use Rattle.model_laws.specs.Reach.{rank_less, rank_bound, cyclic_complete}

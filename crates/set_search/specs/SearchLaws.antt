@@ -7,7 +7,7 @@ use mathlib.Core.List.{List, ◌∷◌, Memᴰ}
 use Rattle.std.proofs.Math.Bool.{true, false}
 use Rattle.std.proofs.Math.Decide.{ℕ_discrete}
 use Rattle.number_columns.specs.Column.{pick}
-use Rattle.sheet.specs.ListLaws.{false_true, same_test}
+use Rattle.sheet.proofs.ListLaws.{false_true, same_test}
 use Rattle.model.specs.Reach.{Reach, one, more, cyclic}
 use Rattle.model_laws.specs.Lists.{trues}
 use Rattle.model_laws.specs.Rounds.{le_antisym}

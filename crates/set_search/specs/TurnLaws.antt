@@ -4,9 +4,9 @@ use Rattle.std.proofs.Common.{sym, ◌∙◌, inl, mul-le-mul_right, arith, leng
 use mathlib.Core.List.{List, [], ◌∷◌, Memᴰ}
 use Rattle.std.proofs.Math.Bool.{true, false, not}
 use borrow.Author.Tests.{not-true}
-use Rattle.sheet.specs.ListLaws.{both, contrary}
+use Rattle.sheet.proofs.ListLaws.{both, contrary}
 use Rattle.sheet.specs.Sheet.{first}
-use Rattle.sheet.specs.FirstLaws.{first_holds, first_before}
+use Rattle.sheet.proofs.FirstLaws.{first_holds, first_before}
 use Rattle.model.specs.Reach.{Reach, cyclic}
 use Rattle.model_laws.specs.Lists.{trues, length_table, get_or_table, true_of}
 use Rattle.model_laws.specs.Rounds.{At, at_lt, cases_eq}

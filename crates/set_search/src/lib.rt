@@ -1,4 +1,6 @@
 // The search through a table of steps: what a node reaches, left where it reaches itself.
+#![tactic(auto)]
+
 pub mod loops;
 
 ghost use Rattle.std.specs.Prelude.{◌≤◌, ◌<◌, length};

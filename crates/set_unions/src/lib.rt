@@ -1,4 +1,6 @@
 // Unions of sets as bits in words (`set_bits`).
+#![tactic(auto)]
+
 ghost use Rattle.std.specs.Prelude.{◌⊎◌, ◌≡◌, ◌+◌, ◌≤◌, length};
 ghost use Rattle.set_bits.specs.Bits as bits;
 

@@ -1,11 +1,4 @@
 pub mod Format
-pub mod FormatLaws
 pub mod Line
 pub mod Sheet
-pub mod ListLaws
-pub mod FirstLaws
-pub mod LetterLaws
-pub mod LineLaws
-pub mod SheetLaws
 pub mod Output
-pub mod OutputLaws

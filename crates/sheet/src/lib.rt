@@ -1,1 +1,2 @@
 // Lines of a sheet.
+#![tactic(auto)]

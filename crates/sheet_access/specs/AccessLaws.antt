@@ -7,8 +7,8 @@ use borrow.Author.Tests.{lt-ltb}
 use Rattle.sheet.specs.Format.{text_bytes}
 use Rattle.sheet.specs.Line.{decode, letter, number, text}
 use Rattle.sheet.specs.Sheet.{count, line_at, line, row2}
-use Rattle.sheet.specs.LineLaws.{letter_decode, number_decode}
-use Rattle.sheet.specs.SheetLaws.{line_good, text_part, text_le}
+use Rattle.sheet.proofs.LineLaws.{letter_decode, number_decode}
+use Rattle.sheet.proofs.SheetLaws.{line_good, text_part, text_le}
 use Rattle.sheet_lines.specs.Shape.{shape_of, text_in}
 use Rattle.sheet_lines.specs.ShapeLaws.{text_in_shape}
 use Rattle.sheet_access.specs.declared.Letter.TheVariants.{Byte}

@@ -1,4 +1,6 @@
 // The letters, numbers and texts of a sheet's lines, of any bytes and at any place.
+#![tactic(auto)]
+
 ghost use Rattle.std.specs.Prelude.{◌≡◌};
 ghost use Rattle.sheet_lines.specs.Shape.{text_in};
 ghost use Rattle.sheet_access.specs.Access.{letter_at, cell_at, text_at};

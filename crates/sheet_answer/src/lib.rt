@@ -1,4 +1,6 @@
 // The line R that a program writes: code, place and rounds.
+#![tactic(auto)]
+
 ghost use Rattle.std.specs.Prelude.{◌≡◌, ◌∷◌, [], length};
 ghost use Rattle.sheet.specs.Line.{row, encode};
 ghost use Rattle.sheet_answer.specs.Shown.{shown};

@@ -1,4 +1,6 @@
 // Reads each sheet that an argument names, and writes what is read of it.
+#![tactic(auto)]
+
 ghost use Rattle.std.specs.Prelude.{◌≤◌, length};
 
 use libc::STDOUT_FILENO;

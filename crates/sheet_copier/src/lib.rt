@@ -1,4 +1,6 @@
 // Copies lines into the part of an output that holds them.
+#![tactic(auto)]
+
 ghost use Rattle.std.specs.Prelude.{◌≡◌, length};
 
 // A copy of lines' bytes, into a part as long.

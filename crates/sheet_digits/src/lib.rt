@@ -1,4 +1,6 @@
 // Writing numbers in columns.
+#![tactic(auto)]
+
 ghost use Rattle.std.specs.Prelude.{◌≡◌, length};
 ghost use Rattle.number_columns.specs.Column as col;
 

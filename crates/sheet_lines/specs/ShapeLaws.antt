@@ -9,7 +9,7 @@ use Rattle.number_columns.specs.declared.Number.TheVariants.{Value, Bad}
 use Rattle.number_columns.specs.Column.{pick}
 use Rattle.sheet.specs.Format.{text_bytes}
 use Rattle.sheet.specs.Line.{Line, named, row, bad, spelling, spaces, proper, lettered, cell, is_value, value, decode, decode_named, decode_row, text}
-use Rattle.sheet.specs.LineLaws.{lettered_other}
+use Rattle.sheet.proofs.LineLaws.{lettered_other}
 use Rattle.sheet_lines.specs.Text.{text_length}
 use Rattle.sheet_lines.specs.declared.Shape.TheVariants.{Named, Row, Bad as NoLine}
 use Rattle.sheet_lines.specs.Shape.{shape_of, named_shape, text_in}

@@ -1,4 +1,6 @@
 // Reading one line of a sheet of six columns.
+#![tactic(auto)]
+
 pub mod texts;
 
 ghost use Rattle.std.specs.Prelude.{◌≡◌, ◌≤◌, ◌<◌, length};

@@ -4,8 +4,8 @@ use Rattle.std.proofs.Common.{ap, ltb-false}
 use Rattle.number_columns.specs.Column.{pick}
 use Rattle.sheet.specs.Line.{Line, decode, cell, text}
 use Rattle.sheet.specs.Sheet.{count, line_at, line, text_of, name_text}
-use Rattle.sheet.specs.LineLaws.{Decoded, as_named, as_row, as_bad, decoded}
-use Rattle.sheet.specs.SheetLaws.{line_past}
+use Rattle.sheet.proofs.LineLaws.{Decoded, as_named, as_row, as_bad, decoded}
+use Rattle.sheet.proofs.SheetLaws.{line_past}
 use Rattle.sheet_access.specs.declared.Cell.{Cell}
 use Rattle.sheet_access.specs.declared.Cell.TheVariants.{Value, Bad, Past}
 use Rattle.sheet_access.specs.Access.{cell_of, cell_at, text_at}

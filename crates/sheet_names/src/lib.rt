@@ -1,4 +1,6 @@
 // The spellings of names, of any bytes.
+#![tactic(auto)]
+
 ghost use Rattle.std.specs.Prelude.{◌≡◌};
 ghost use Rattle.sheet.specs.Sheet.{name_text};
 

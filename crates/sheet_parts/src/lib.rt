@@ -1,4 +1,6 @@
 // The parts of a sheet of six columns that its readers are lent: the bytes of a line, the columns of a number; and the letters that a line may have.
+#![tactic(auto)]
+
 ghost use Rattle.std.specs.Prelude.{◌≡◌, ◌+◌, ◌*◌, ◌≤◌, ◌<◌, length, take, drop};
 ghost use Rattle.sheet.specs.Line.{lettered};
 ghost use Rattle.sheet.specs.Sheet.{count, line_at};

@@ -7,8 +7,8 @@ use Rattle.number_columns.specs.Column.{write}
 use Rattle.number_columns.specs.ColumnLaws.{write_length}
 use Rattle.sheet.specs.Format.{line_bytes}
 use Rattle.sheet.specs.Line.{row, writes, encode}
-use Rattle.sheet.specs.LineLaws.{length_writes}
-use Rattle.sheet.specs.OutputLaws.{part_more}
+use Rattle.sheet.proofs.LineLaws.{length_writes}
+use Rattle.sheet.proofs.OutputLaws.{part_more}
 
 -- the byte that is stored last
 set_last : (p d : List ℕ) (n v : ℕ) → length p ≡ n → length d ≡ 1 → set (p ++ d) n v ≡ p ++ (v ∷ [])

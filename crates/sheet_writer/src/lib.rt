@@ -1,4 +1,6 @@
 // Writes lines of a letter and five numbers into the parts of an output that hold them.
+#![tactic(auto)]
+
 ghost use Rattle.std.specs.Prelude.{◌≡◌, suc, ◌*◌, ◌≤◌, length};
 ghost use Rattle.sheet.specs.Line.{row, encode};
 ghost use Rattle.sheet.specs.Output.{put_at};

@@ -11,8 +11,8 @@ use Rattle.std.proofs.Math.Seq.{get_or-append_seam}
 use Rattle.std.proofs.lemmas.Bool.{not-false}
 use Rattle.number_columns.specs.Column.{pick, ◌⇒◌∥◌}
 use Rattle.sheet.specs.Line.{Line, bad, letter, number}
-use Rattle.sheet.specs.FirstLaws.{none_first}
-use Rattle.sheet.specs.ListLaws.{false_true, both, one_of}
+use Rattle.sheet.proofs.FirstLaws.{none_first}
+use Rattle.sheet.proofs.ListLaws.{false_true, both, one_of}
 use Rattle.model.specs.Decl.{NewtypeLayout, Body, TAbstract, TAbbrev, TRecord, TVariant, Dtype, CtorLayout, Layout, L_erased, L_newtype, L_struct, L_abbrev, L_opaque, Origin, here, imported, dtype_at, origin_at, close_fields}
 use Rattle.model.specs.Erasure.{marked, erasure_fixpoint}
 use Rattle.model.specs.Layout.{collapse, newtype_of, dropped, candidates_of, passes_of, ctor_layouts, layout_of_body, layout_of}

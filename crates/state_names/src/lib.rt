@@ -1,4 +1,6 @@
 // What becomes of each declaration's name, in two cells, from its verdict.
+#![tactic(auto)]
+
 ghost use Rattle.std.specs.Prelude.{◌≡◌, ◌+◌, ◌*◌, ◌<◌, length};
 ghost use Rattle.sheet.specs.Format.{base};
 ghost use Rattle.number_columns.specs.Column.{pick};

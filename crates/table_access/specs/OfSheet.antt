@@ -5,8 +5,8 @@ use Rattle.std.proofs.lemmas.List.{length-map}
 use Rattle.sheet.specs.Format.{base}
 use Rattle.sheet.specs.Line.{Line, letter, number}
 use Rattle.sheet.specs.Sheet.{count, lines, row1, row2}
-use Rattle.sheet.specs.SheetLaws.{AllFit, fit_lines, line_good, length_lines}
-use Rattle.sheet.specs.FirstLaws.{first_congr}
+use Rattle.sheet.proofs.SheetLaws.{AllFit, fit_lines, line_good, length_lines}
+use Rattle.sheet.proofs.FirstLaws.{first_congr}
 use Rattle.walk_cells.specs.Cells.{bare}
 use Rattle.meaning_bares.specs.ProgramLaws.{map_bare, program_bare}
 use Rattle.meaning_bares.specs.RowLaws.{count_bare, row3_bare, row4_bare, row5_bare, row7_bare, repeats_bare}

@@ -1,5 +1,7 @@
 // What the passes after row 7 read of a sheet, from one table of cells: the lines, and where each stands that is asked for by its number.
 // `Tabled` says what the cells mean; every contract below is an equation with the lines that stand in the table.
+#![tactic(auto)]
+
 ghost use Rattle.std.specs.Prelude.{◌≡◌, ◌+◌, ◌≤◌, ◌<◌, length, get_or};
 ghost use Rattle.sheet.specs.Line as line;
 ghost use Rattle.model.specs.Decl as decl;

@@ -9,7 +9,7 @@ use Rattle.std.proofs.lemmas.List.{length-map}
 use Rattle.sheet.specs.Format.{Format}
 use Rattle.sheet.specs.Line.{Line}
 use Rattle.sheet.specs.Sheet.{first}
-use Rattle.sheet.specs.FirstLaws.{first_congr}
+use Rattle.sheet.proofs.FirstLaws.{first_congr}
 use Rattle.walk_cells.specs.Cells.{bare}
 use Rattle.model.specs.Decl.{Decl}
 use Rattle.model.specs.Run.{layouts_of, returns, decl_fault}

@@ -10,8 +10,8 @@ use Rattle.std.proofs.Math.ListN.{length, get_or-append}
 use Rattle.std.proofs.Math.Seq.{take-length, get_or-append_seam}
 use Rattle.number_columns.specs.Column.{pick}
 use Rattle.sheet.specs.Line.{Line, bad, letter}
-use Rattle.sheet.specs.FirstLaws.{none_first}
-use Rattle.sheet.specs.ListLaws.{Every, every_at, false_true, neither}
+use Rattle.sheet.proofs.FirstLaws.{none_first}
+use Rattle.sheet.proofs.ListLaws.{Every, every_at, false_true, neither}
 use Rattle.meaning.specs.declared.Due.{Due}
 use Rattle.meaning.specs.declared.Due.TheVariants.{Header, Broken}
 use Rattle.model.specs.Decl.{here, imported, Decl, no_decl, dtype_at, origin_at, close_fields}

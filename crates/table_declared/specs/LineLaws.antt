@@ -3,7 +3,7 @@ use Rattle.std.specs.Prelude.{◌≡◌, refl, List, [], ◌∷◌, Bool, true, 
 use Rattle.std.proofs.Common.{ap, arith}
 use Rattle.std.proofs.lemmas.Bool.{not-false}
 use Rattle.sheet.specs.Line.{Line}
-use Rattle.sheet.specs.FirstLaws.{none_first}
+use Rattle.sheet.proofs.FirstLaws.{none_first}
 use Rattle.meaning.specs.Program.{is, select}
 use Rattle.meaning.specs.Rows.{nth_line, count_of, count_before, good_numbers, row5}
 use Rattle.table_declared.specs.Passed.{Passed}

@@ -4,10 +4,10 @@ use Rattle.std.specs.Prelude.{◌≡◌, List, map, true, ℕ, suc, ◌+◌, ◌
 use Rattle.std.proofs.Common.{ap, sym, ◌∙◌, arith}
 use borrow.Author.Tests.{eq-eqb, lt-ltb, le-ltb}
 use Rattle.sheet.specs.Format.{Format, base, largest, Wider}
-use Rattle.sheet.specs.FormatLaws.{base_wider}
+use Rattle.sheet.proofs.FormatLaws.{base_wider}
 use Rattle.sheet.specs.Line.{Line, letter, number}
-use Rattle.sheet.specs.FirstLaws.{first_place, place_unique}
-use Rattle.sheet.specs.ListLaws.{contrary}
+use Rattle.sheet.proofs.FirstLaws.{first_place, place_unique}
+use Rattle.sheet.proofs.ListLaws.{contrary}
 use Rattle.model.specs.Decl.{position}
 use Rattle.model.specs.Names.{Distinct}
 use Rattle.model_laws.specs.Names.{position_le}

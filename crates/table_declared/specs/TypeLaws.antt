@@ -13,8 +13,8 @@ use borrow.Author.Tests.{ltb-true, ltb-false, leb-true, leb-false, eqb-true, not
 use Rattle.number_columns.specs.Column.{pick}
 use Rattle.sheet.specs.Line.{Line, bad, letter, number}
 use Rattle.sheet.specs.Sheet.{first}
-use Rattle.sheet.specs.FirstLaws.{first_before}
-use Rattle.sheet.specs.ListLaws.{both, contrary}
+use Rattle.sheet.proofs.FirstLaws.{first_before}
+use Rattle.sheet.proofs.ListLaws.{both, contrary}
 use Rattle.model.specs.Cty.{Cty, TUnit, TApp, TTuple, TBuf, TRef, TInline, cons}
 use Rattle.meaning.specs.Program.{name_line, type_line, select, list_of, tree, trees_after, trees}
 use Rattle.meaning.specs.Rows.{some_below, nth_line, count_of, zeros_from, is_list, good_type, good_numbers}

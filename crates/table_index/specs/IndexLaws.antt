@@ -11,7 +11,7 @@ use Rattle.std.proofs.Math.Seq.{get_or-set_other}
 use borrow.Author.Tests.{ltb-true, ltb-false, lt-ltb, le-ltb, eq-eqb, ne_eqb}
 use Rattle.number_columns.specs.Column.{pick, ◌⇒◌∥◌}
 use Rattle.sheet.specs.Line.{Line, letter, number}
-use Rattle.sheet.specs.ListLaws.{both, false_true}
+use Rattle.sheet.proofs.ListLaws.{both, false_true}
 use Rattle.model.specs.Decl.{Dtype, dtype_at, position, close_fields}
 use Rattle.meaning.specs.Program.{name_line, type_line, local_line, import_line, param_line, ctor_line, field_line, is, is_head, dtype_of, program}
 use Rattle.meaning.specs.Rows.{nth_line, count_of, count_before, heads_before, good_head, good_numbers}

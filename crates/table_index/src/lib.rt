@@ -1,4 +1,6 @@
 // The header and the index of a table, behind lines whose cells already stand in it: one walk over the declarations' lines.
+#![tactic(auto)]
+
 ghost use Rattle.std.specs.Prelude.{◌≡◌, true, suc, ◌+◌, ◌*◌, ◌≤◌, ◌<◌, length, get_or, set};
 ghost use Rattle.number_columns.specs.Column.{pick};
 ghost use Rattle.sheet.specs.Line.{letter};

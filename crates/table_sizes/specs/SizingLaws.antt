@@ -3,7 +3,7 @@ use Rattle.std.specs.Prelude.{◌≡◌, refl, List, [], ◌∷◌, Bool, true, 
 use Rattle.std.proofs.Common.{ap, sym, ◌∙◌, arith, eqb-true}
 use Rattle.std.proofs.Math.Seq.{take-length}
 use Rattle.sheet.specs.Line.{Line, letter}
-use Rattle.sheet.specs.ListLaws.{false_true}
+use Rattle.sheet.proofs.ListLaws.{false_true}
 use Rattle.meaning.specs.declared.Due.{Due}
 use Rattle.meaning.specs.declared.Due.TheVariants.{Header, Within, Broken}
 use Rattle.meaning.specs.Program.{name_line, arg_line, type_line, param_line, ctor_line, field_line, verdict_line, select}

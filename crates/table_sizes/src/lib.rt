@@ -1,4 +1,6 @@
 // How many lines of each kind there are and how many cells their table needs; its header, and cells of one value.
+#![tactic(auto)]
+
 ghost use Rattle.std.specs.Prelude.{◌≡◌, ◌++◌, ◌+◌, ◌≤◌, ◌<◌, length, drop};
 ghost use Rattle.table_access.specs.Tables as tables;
 ghost use Rattle.table_sizes.specs.Sizing as sizing;

@@ -12,11 +12,11 @@ use Rattle.std.proofs.Math.Seq.{take-length}
 use borrow.Author.Tests.{eqb-true, eqb-false, leb-true, ltb-false, le-leb, ne_eqb, not-true, not-false}
 use Rattle.number_columns.specs.Column.{pick}
 use Rattle.sheet.specs.Line.{Line, named, row, bad, letter, number}
-use Rattle.sheet.specs.LineLaws.{Fits, five_numbers}
+use Rattle.sheet.proofs.LineLaws.{Fits, five_numbers}
 use Rattle.sheet.specs.Sheet.{lines}
-use Rattle.sheet.specs.SheetLaws.{AllFit, fit_lines, line_good}
-use Rattle.sheet.specs.FirstLaws.{first_before, none_first, first_le}
-use Rattle.sheet.specs.ListLaws.{contrary, both, false_true, every_at}
+use Rattle.sheet.proofs.SheetLaws.{AllFit, fit_lines, line_good}
+use Rattle.sheet.proofs.FirstLaws.{first_before, none_first, first_le}
+use Rattle.sheet.proofs.ListLaws.{contrary, both, false_true, every_at}
 use Rattle.model.specs.Decl.{bit, tag_number, layout_number}
 use Rattle.model.specs.Erasure.{cty_erased, marked, erasure_fixpoint}
 use Rattle.model.specs.Layout.{ctor_tag}

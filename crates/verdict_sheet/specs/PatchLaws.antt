@@ -12,7 +12,7 @@ use Rattle.std.proofs.Math.Seq.{take_at, drop_at}
 use Rattle.number_columns.specs.Column.{shown, write}
 use Rattle.number_columns.specs.ColumnLaws.{write_length}
 use Rattle.sheet.specs.Line.{row, writes, encode}
-use Rattle.sheet.specs.LineLaws.{row_length}
+use Rattle.sheet.proofs.LineLaws.{row_length}
 
 -- ---- a store in a part of a list
 set_right : (xs ys : List ℕ) (n j a : ℕ) → length xs ≡ n → set (xs ++ ys) (n + j) a ≡ xs ++ set ys j a

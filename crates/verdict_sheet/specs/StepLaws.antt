@@ -8,7 +8,7 @@ use Rattle.number_columns.specs.Column.{pick, ◌⇒◌∥◌, write}
 use Rattle.sheet.specs.Line.{Line, letter, number}
 use Rattle.sheet.specs.Sheet.{lines}
 use Rattle.sheet.specs.Format.{base}
-use Rattle.sheet.specs.ListLaws.{get_or_within}
+use Rattle.sheet.proofs.ListLaws.{get_or_within}
 use Rattle.model.specs.Decl.{Dtype, Body, TAbstract, TAbbrev, TRecord, TVariant, CtorLayout, NewtypeLayout, Layout, L_erased, L_newtype, L_struct, L_abbrev, L_opaque, Decl, bit, layout_number, origin_at, here}
 use Rattle.model.specs.Erasure.{cty_erased, marked, erasure_fixpoint}
 use Rattle.model.specs.Layout.{collapse, layout_of_body, layout_of}

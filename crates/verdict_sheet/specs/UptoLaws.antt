@@ -11,10 +11,10 @@ use borrow.Author.Tests.{eqb-true, not-false}
 use Rattle.number_columns.specs.Column.{write}
 use Rattle.sheet.specs.Format.{base}
 use Rattle.sheet.specs.Line.{Line, row, bad, letter, encode}
-use Rattle.sheet.specs.LineLaws.{Fits}
+use Rattle.sheet.proofs.LineLaws.{Fits}
 use Rattle.sheet.specs.Sheet.{count, line_at, lines, encodes, row1}
-use Rattle.sheet.specs.SheetLaws.{AllFit, encodes_append, encodes_one, length_encodes, length_lines, get_or_lines, encodes_lines, line_good, letter_good}
-use Rattle.sheet.specs.ListLaws.{neither, every_append, every_left, every_right}
+use Rattle.sheet.proofs.SheetLaws.{AllFit, encodes_append, encodes_one, length_encodes, length_lines, get_or_lines, encodes_lines, line_good, letter_good}
+use Rattle.sheet.proofs.ListLaws.{neither, every_append, every_left, every_right}
 use Rattle.model.specs.Run.{run}
 use Rattle.meaning.specs.Program.{program}
 use Rattle.meaning.specs.Rows.{nth_line}

@@ -1,4 +1,6 @@
 // The verdict sheet: a copy of the sheet, in which local declarations' D, F and V lines have single bytes changed, and their C lines get tags.
+#![tactic(auto)]
+
 mod overlay;
 
 ghost use Rattle.std.specs.Prelude.{◌≡◌, suc, ◌≤◌, ◌<◌, length};

@@ -1,4 +1,6 @@
 // The letters and numbers of lines that were decoded into cells, six to a line.
+#![tactic(auto)]
+
 pub mod format;
 
 ghost use Rattle.std.specs.Prelude.{◌≡◌, ◌/◌, ◌<◌, length, get_or};

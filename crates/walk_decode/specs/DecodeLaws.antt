@@ -15,8 +15,8 @@ use Rattle.number_columns.specs.Column.{pick}
 use Rattle.sheet.specs.Format.{line_bytes, text_bytes}
 use Rattle.sheet.specs.Line.{Line, named, bad, proper, spelling, spaces, cell, is_value, value, decode_named, decode_row, is_bad}
 use Rattle.sheet.specs.Sheet.{count, line, line_at, lines, lines_from}
-use Rattle.sheet.specs.SheetLaws.{within_count, length_lines}
-use Rattle.sheet.specs.OutputLaws.{part_more}
+use Rattle.sheet.proofs.SheetLaws.{within_count, length_lines}
+use Rattle.sheet.proofs.OutputLaws.{part_more}
 use Rattle.sheet_lines.specs.Text.{text_length}
 use Rattle.walk_cells.specs.Cells.{line_cells, cells, lines_of, bare}
 use Rattle.walk_cells.specs.CellsLaws.{cells_append, length_cells, lines_cells}

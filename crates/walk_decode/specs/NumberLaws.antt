@@ -14,7 +14,7 @@ use Rattle.number_columns.specs.declared.Scan.{Scan}
 use Rattle.number_columns.specs.declared.Scan.TheVariants.{Blank, Zero, In, Broken}
 use Rattle.number_columns.specs.declared.Number.TheVariants.{Value, Bad}
 use Rattle.number_columns.specs.Column.{pick, digit, step, scan, told, read}
-use Rattle.sheet.specs.ListLaws.{both}
+use Rattle.sheet.proofs.ListLaws.{both}
 
 -- ---- the last two columns
 is_digit : (d : ℕ) → 48 ≤ d → d ≤ 57 → digit d ≡ true

@@ -1,4 +1,6 @@
 // Row 2 and the decoding of lines, in one walk: each line's letter and numbers go into six lent cells. For numbers of six to nine columns.
+#![tactic(auto)]
+
 mod numbers;
 
 ghost use Rattle.std.specs.Prelude.{◌≡◌, [], ◌∷◌, ◌+◌, ◌*◌, ◌≤◌, ◌<◌, length, get_or};

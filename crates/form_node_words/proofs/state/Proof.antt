@@ -3,7 +3,7 @@ use mathlib.Core.Path.{sym}
 use Prim.Native.Nat.{◌*◌}
 use native.Mathlib.Omega.{arith}
 use lib.ListN.{get_or-eq_default}
-use Rattle.sheet.specs.ListLaws.{get_or_within}
+use Rattle.sheet.proofs.ListLaws.{get_or_within}
 use borrow.Author.Rules.{rules}
 use Rattle.form_node_words.proofs.state.Statement.{statement}
 use Rattle.form_node_words.proofs.state.Tie as tie

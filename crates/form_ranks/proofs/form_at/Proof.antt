@@ -2,7 +2,7 @@
 use mathlib.Core.Path.{◌≡◌}
 use Prim.Native.Nat.{ℕ, ◌*◌, ◌≤◌, ◌<◌}
 use native.Mathlib.Omega.{arith}
-use Rattle.sheet.specs.ListLaws.{get_or_within}
+use Rattle.sheet.proofs.ListLaws.{get_or_within}
 use Rattle.keep_layouts.specs.States.{Open}
 use Rattle.form_normal.specs.RanksLaws.{asked_body, reached_same, reached_more}
 use borrow.Author.Rules.{rules}

@@ -1,7 +1,7 @@
 -- `left_places::put_line` meets its contract: the line goes to its own 32 bytes. Assumes nothing.
 use native.Mathlib.Omega.{arith}
 use Rattle.sheet.specs.Line.{row}
-use Rattle.sheet.specs.LineLaws.{row_length}
+use Rattle.sheet.proofs.LineLaws.{row_length}
 use Rattle.left_places.specs.PlacesLaws.{line_room, line_writes}
 use borrow.Author.Rules.{rules}
 use Rattle.left_places.proofs.put_line.Statement.{statement}

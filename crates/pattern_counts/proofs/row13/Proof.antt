@@ -9,7 +9,7 @@ use lib.ListN.{length}
 use borrow.Author.Rules.{rules}
 use borrow.Author.Tests.{not-false}
 use Rattle.sheet.specs.Sheet.{first}
-use Rattle.sheet.specs.FirstLaws.{none_first, first_more, first_found}
+use Rattle.sheet.proofs.FirstLaws.{none_first, first_more, first_found}
 use Rattle.walk_cells.specs.Cells.{lines_of}
 use Rattle.walk_cells.specs.CellsLaws.{length_lines_of}
 use Rattle.model.specs.Decl.{Decl}

@@ -7,11 +7,11 @@ use Rattle.pattern_emit.specs.StepLaws.{mark_at}
 use Rattle.pattern_emit.proofs.mark_to.Statement.{statement}
 use Rattle.pattern_emit.proofs.mark_to.Tie as tie
 
-returns : tie.Need-returns
+returns : tie.Need-returns-then-k-eq0
 unfolding mark_to
-returns c = rw c.if1.true
+returns c = rw c.if-k-eq0.true
 
-returns-2 : tie.Need-returns-2
+returns-2 : tie.Need-returns
 returns-2 c = sym (mark_at _ _ (omega arith))
 
 pub mark_to_spec : {M : Type 1} → statement M

@@ -6,19 +6,19 @@ use Rattle.pattern_emit.specs.PutLaws.{put_one}
 use Rattle.pattern_emit.proofs.put_line.Statement.{statement}
 use Rattle.pattern_emit.proofs.put_line.Tie as tie
 
-slice-write-out-2 : tie.Need-slice-write-out-2
+slice-write-out-2 : tie.Need-bounds-out-i-2
 slice-write-out-2 c = simp length-set (omega arith)
 
-slice-write-out-3 : tie.Need-slice-write-out-3
+slice-write-out-3 : tie.Need-bounds-out-i-3
 slice-write-out-3 c = simp length-set (omega arith)
 
-slice-write-out-4 : tie.Need-slice-write-out-4
+slice-write-out-4 : tie.Need-bounds-out-i-4
 slice-write-out-4 c = simp length-set (omega arith)
 
-slice-write-out-5 : tie.Need-slice-write-out-5
+slice-write-out-5 : tie.Need-bounds-out-i-5
 slice-write-out-5 c = simp length-set (omega arith)
 
-slice-write-out-6 : tie.Need-slice-write-out-6
+slice-write-out-6 : tie.Need-bounds-out-i-6
 slice-write-out-6 c = simp length-set (omega arith)
 
 returns : tie.Need-returns

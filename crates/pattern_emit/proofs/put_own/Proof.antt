@@ -6,30 +6,30 @@ use Rattle.pattern_emit.specs.StepLaws.{own_line, own_name, own_nothing}
 use Rattle.pattern_emit.proofs.put_own.Statement.{statement}
 use Rattle.pattern_emit.proofs.put_own.Tie as tie
 
-returns : tie.Need-returns
+returns : tie.Need-returns-then-kind-ne1
 returns c =
-    let s = c.before.before.before in let a = s.args in
-    put_same _ [] _ _ _ _ (own_nothing a.names a.kind a.name a.last a.previous a.field c.before.if1.true c.if2.true) (put_none a.out.now a.at)
+    let s = c in let a = s.args in
+    put_same _ [] _ _ _ _ (own_nothing a.names a.kind a.name a.last a.previous a.field c.if-names.true c.if-kind-ne1.true) (put_none a.out.now a.at)
 
-put-line-requires : tie.Need-put-line-requires
+put-line-requires : tie.Need-put_line-requires
 put-line-requires c κs =
-    let s = c.before.before.before.before in let a = s.args in
-    room_same _ _ _ _ (own_name a.names a.kind a.name a.last a.previous a.field c.before.before.if1.true c.before.if2.false) s.requires
+    let s = c in let a = s.args in
+    room_same _ _ _ _ (own_name a.names a.kind a.name a.last a.previous a.field c.if-names.true c.if-kind-ne1.false) s.requires
 
-returns-2 : tie.Need-returns-2
+returns-2 : tie.Need-returns-then-names
 returns-2 c =
-    let s = c.before.before.before.before.before.before.before in let a = s.args in
-    put_same _ _ _ _ _ _ (own_name a.names a.kind a.name a.last a.previous a.field c.before.before.before.before.before.if1.true c.before.before.before.before.if2.false) c.before.before.put_line.ensures
+    let s = c in let a = s.args in
+    put_same _ _ _ _ _ _ (own_name a.names a.kind a.name a.last a.previous a.field c.if-names.true c.if-kind-ne1.false) c.put_line.ensures
 
-put-line-requires-2 : tie.Need-put-line-requires-2
+put-line-requires-2 : tie.Need-put_line-requires-2
 put-line-requires-2 c κs =
-    let s = c.before.before.before in let a = s.args in
-    room_same _ _ _ _ (own_line a.names a.kind a.name a.last a.previous a.field c.before.if1.false) s.requires
+    let s = c in let a = s.args in
+    room_same _ _ _ _ (own_line a.names a.kind a.name a.last a.previous a.field c.if-names.false) s.requires
 
-returns-3 : tie.Need-returns-3
+returns-3 : tie.Need-returns
 returns-3 c =
-    let s = c.before.before.before.before.before.before in let a = s.args in
-    put_same _ _ _ _ _ _ (own_line a.names a.kind a.name a.last a.previous a.field c.before.before.before.before.if1.false) c.before.before.put-line2.ensures
+    let s = c in let a = s.args in
+    put_same _ _ _ _ _ _ (own_line a.names a.kind a.name a.last a.previous a.field c.if-names.false) c.put_line-2.ensures
 
 pub put_own_spec : {M : Type 1} → statement M
 put_own_spec =

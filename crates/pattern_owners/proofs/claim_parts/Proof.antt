@@ -7,27 +7,27 @@ use Rattle.pattern_owners.specs.Places.{claimed}
 use Rattle.pattern_owners.proofs.claim_parts.Statement.{statement}
 use Rattle.pattern_owners.proofs.claim_parts.Tie as tie
 
-number-requires : tie.Need-number-requires
-number-requires c κs = let a = c.before.before.before in (omega (arith, a.requires.0.1, length_lines_of a.args.q.now), omega arith)
+number-requires : tie.Need-number-last-requires
+number-requires c κs = let a = c in (omega (arith, a.requires.0.1, length_lines_of a.args.q.now), omega arith)
 
-number-requires-2 : tie.Need-number-requires-2
-number-requires-2 c κs = let a = c.before.before.before.before in (omega (arith, a.requires.0.1, length_lines_of a.args.q.now), omega arith)
+number-requires-2 : tie.Need-number-previous-requires
+number-requires-2 c κs = let a = c in (omega (arith, a.requires.0.1, length_lines_of a.args.q.now), omega arith)
 
 claim-requires : tie.Need-claim-requires
 claim-requires c κs =
-    let a = c.before.before.before.before.before.before in
-    omega (arith, c.before.before.number.ensures, a.requires.0.0.last a.args.i a.requires.0.1, a.requires.0.1, a.requires.1)
+    let a = c in
+    omega (arith, c.number-last.ensures, a.requires.0.0.last a.args.i a.requires.0.1, a.requires.0.1, a.requires.1)
 
 claim-requires-2 : tie.Need-claim-requires-2
 claim-requires-2 c κs =
-    let a = c.before.before.before.before.before.before.before.before.before.before in
-    omega (arith, c.before.before.before.before.before.number2.ensures, a.requires.0.0.previous a.args.i a.requires.0.1, a.requires.0.1, a.requires.1, c.before.before.before.claim.auto.0)
+    let a = c in
+    omega (arith, c.number-previous.ensures, a.requires.0.0.previous a.args.i a.requires.0.1, a.requires.0.1, a.requires.1, c.claim.auto.own)
 
 returns : tie.Need-returns
 unfolding claimed
 returns c =
-    let b = c.before.before.before in
-    rw (c.before.before.claim2.ensures, b.before.before.before.claim.ensures, b.before.before.before.before.before.number2.ensures, b.before.before.before.before.before.before.number.ensures, add-one)
+    let b = c in
+    rw (c.claim-2.ensures, b.claim.ensures, b.number-previous.ensures, b.number-last.ensures, add-one)
 
 pub claim_parts_spec : {M : Type 1} → statement M
 claim_parts_spec =

@@ -2,7 +2,7 @@
 use mathlib.Core.Path.{sym, ◌∙◌}
 use native.Mathlib.Omega.{arith}
 use Rattle.resolve_outcomes.specs.Scratch.{part}
-use Rattle.resolve_outcomes.specs.Laws.Scratch.{part_length}
+use Rattle.resolve_outcomes.proofs.Laws.Scratch.{part_length}
 use Rattle.resolve_kids.specs.Nodes.{type_of}
 use Rattle.resolve_kids.specs.Params.{params_of}
 use Rattle.resolve_calls.specs.CallsLaws.{fits_same, fits_newtype, fits_few, fits_more}

@@ -1,7 +1,7 @@
 -- `resolve_types::resolved` meets its contract: measured first, then evaluated with fuel for a chain through all declarations. Assumes nothing.
 use native.Mathlib.Omega.{arith}
-use Rattle.resolve_outcomes.specs.Laws.Nodes.{nodes_none}
-use Rattle.resolve_outcomes.specs.Laws.Scratch.{part_none}
+use Rattle.resolve_outcomes.proofs.Laws.Nodes.{nodes_none}
+use Rattle.resolve_outcomes.proofs.Laws.Scratch.{part_none}
 use Rattle.resolve_laws.specs.Resolver.{fuel_of}
 use Rattle.resolve_laws.specs.ResolverLaws.{type_ten, type_node}
 use borrow.Author.Rules.{rules}

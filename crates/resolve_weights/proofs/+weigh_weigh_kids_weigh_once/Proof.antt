@@ -5,7 +5,7 @@ use Prim.Native.Nat.{◌+◌, ◌-◌, ◌*◌, ◌≤◌, ℕ, ◌<◌}
 use native.Mathlib.Omega.{arith}
 use borrow.Author.Rules.{rules}
 use Rattle.resolve_outcomes.specs.Scratch.{part, capped}
-use Rattle.resolve_outcomes.specs.Laws.Scratch.{capped_most}
+use Rattle.resolve_outcomes.proofs.Laws.Scratch.{capped_most}
 use Rattle.resolve_kids.specs.Nodes.{kids_of, kid_of, type_of}
 use Rattle.resolve_kids.specs.NodesLaws.{node_at}
 use Rattle.resolve_kids.specs.Params.{params_of}

@@ -5,7 +5,7 @@ use native.Mathlib.Omega.{arith}
 use native.Mathlib.Numerals.{add-one}
 use lib.ListN.{length}
 use borrow.Author.Rules.{rules}
-use Rattle.sheet.specs.ListLaws.{false_true}
+use Rattle.sheet.proofs.ListLaws.{false_true}
 use Rattle.walk_cells.specs.Cells.{lines_of}
 use Rattle.walk_cells.specs.CellsLaws.{length_lines_of}
 use Rattle.row4_counting.specs.Quickly.{Right}

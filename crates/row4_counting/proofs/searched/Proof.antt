@@ -6,7 +6,7 @@ use native.Mathlib.Numerals.{add-one}
 use lib.ListN.{length}
 use borrow.Author.Rules.{rules}
 use Rattle.sheet.specs.Format.{base}
-use Rattle.sheet.specs.FirstLaws.{first_more, first_found}
+use Rattle.sheet.proofs.FirstLaws.{first_more, first_found}
 use Rattle.walk_cells.specs.Cells.{lines_of}
 use Rattle.walk_cells.specs.CellsLaws.{length_lines_of}
 use Rattle.meaning.specs.Rows.{row4}

@@ -2,7 +2,7 @@
 use Prim.Native.Nat.{◌≤◌}
 use native.Mathlib.Omega.{arith}
 use borrow.Author.Tests.{leb-true, not-false}
-use Rattle.sheet.specs.ListLaws.{false_true}
+use Rattle.sheet.proofs.ListLaws.{false_true}
 use Rattle.row4_counting.specs.Quickly.{sum}
 use Rattle.row4_counting.proofs.whole.Statement.{statement}
 use Rattle.row4_counting.proofs.whole.Tie as tie

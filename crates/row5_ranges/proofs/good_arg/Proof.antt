@@ -4,11 +4,11 @@ use borrow.Author.Tests.{lt-ltb, le-ltb}
 use Rattle.row5_ranges.proofs.good_arg.Statement.{statement}
 use Rattle.row5_ranges.proofs.good_arg.Tie as tie
 
-returns : tie.Need-returns
-returns c = rw (← c.before.number.ensures, le-ltb _ _ c.if1.true)
+returns : tie.Need-returns-then-number-types
+returns c = rw (← c.number.ensures, le-ltb _ _ c.if-number-types.true)
 
-returns-2 : tie.Need-returns-2
-returns-2 c = rw (c.zeros_from.ensures, ← c.before.before.number.ensures, lt-ltb _ _ c.before.if1.false)
+returns-2 : tie.Need-returns
+returns-2 c = rw (c.zeros_from.ensures, ← c.number.ensures, lt-ltb _ _ c.if-number-types.false)
 
 pub good_arg_spec : {M : Type 1} → statement M
 good_arg_spec =

@@ -9,7 +9,7 @@ use borrow.Author.Rules.{rules}
 use Rattle.sheet.specs.Sheet.{first}
 use Rattle.walk_cells.specs.Cells.{lines_of}
 use Rattle.walk_cells.specs.CellsLaws.{length_lines_of}
-use Rattle.sheet.specs.FirstLaws.{first_more, first_found}
+use Rattle.sheet.proofs.FirstLaws.{first_more, first_found}
 use Rattle.rows_header.specs.Header.{Headed}
 use Rattle.rows_header.specs.LettersLaws.{lettered}
 use Rattle.rows_header.specs.OrderLaws.{from_le}

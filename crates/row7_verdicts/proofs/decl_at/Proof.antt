@@ -8,37 +8,37 @@ use borrow.Author.Rules.{rules}
 use Rattle.row7_verdicts.proofs.decl_at.Statement.{statement}
 use Rattle.row7_verdicts.proofs.decl_at.Tie as tie
 
-returns : tie.Need-returns
+returns : tie.Need-returns-then-letter-eq73
 returns c =
-    let x = c.before.before.before.before in
-    let a = x.before.before.args in
-    decl_import a.d (nth_line (lines_of a.t.now) a.i) x.letter.result x.letter.ensures a.i c.before.before.if2.true c.picked.result (rw (← c.before.number.ensures) c.picked.ensures)
+    let x = c in
+    let a = x.args in
+    decl_import a.d (nth_line (lines_of a.t.now) a.i) x.letter-letter.result x.letter-letter.ensures a.i c.if-letter-eq73.true c.picked-step.result (rw (← c.number.ensures) c.picked-step.ensures)
 
-returns-2 : tie.Need-returns-2
+returns-2 : tie.Need-returns-then-letter-gt70
 returns-2 c =
-    let x = c.before.before in
-    let a = x.before.before.args in
-    decl_later a.d (nth_line (lines_of a.t.now) a.i) x.letter.result x.letter.ensures a.i c.before.if1.true c.if2.false
+    let x = c in
+    let a = x.args in
+    decl_later a.d (nth_line (lines_of a.t.now) a.i) x.letter-letter.result x.letter-letter.ensures a.i c.if-letter-gt70.true c.if-letter-eq73.false
 
-returns-3 : tie.Need-returns-3
+returns-3 : tie.Need-returns-then-letter-eq68
 returns-3 c =
-    let x = c.before.before in
-    let a = x.before.before.args in
-    decl_local a.d (nth_line (lines_of a.t.now) a.i) x.letter.result x.letter.ensures a.i c.if3.true
+    let x = c in
+    let a = x.args in
+    decl_local a.d (nth_line (lines_of a.t.now) a.i) x.letter-letter.result x.letter-letter.ensures a.i c.if-letter-eq68.true
 
-add-t14 : tie.Need-overflow-add-t14
+add-t14 : tie.Need-overflow_add-result
 add-t14 c =
-    let n = c.before.before.before.before in
-    record { fits = omega (arith, pick_le (eqb n.before.before.before.letter.result 70) n.number2.result) }
+    let n = c in
+    record { fits = omega (arith, pick_le (eqb n.letter-letter.result 70) n.number-third.result) }
 
-returns-4 : tie.Need-returns-4
+returns-4 : tie.Need-returns
 returns-4 c =
-    let n = c.before.before.before.before in
-    let x = n.before.before.before in
-    let a = x.before.before.args in
+    let n = c in
+    let x = n in
+    let a = x.args in
     let l = nth_line (lines_of a.t.now) a.i in
-    let m = told a.d l x.letter.result x.letter.ensures x.before.before.requires.1.0 n.before.before.if1.false n.before.if3.false in
-    rw (c.before.before.before.picked2.ensures, c.before.picked3.ensures) (decl_member a.d l x.letter.result x.letter.ensures a.i m x.before.before.requires.1.1 n.number2.result n.number2.ensures)
+    let m = told a.d l x.letter-letter.result x.letter-letter.ensures x.requires.1.0 n.if-letter-gt70.false n.if-letter-eq68.false in
+    rw (c.picked-keep.ensures, c.picked-tag.ensures) (decl_member a.d l x.letter-letter.result x.letter-letter.ensures a.i m x.requires.1.1 n.number-third.result n.number-third.ensures)
 
 pub decl_at_spec : {M : Type 1} → statement M
 decl_at_spec =

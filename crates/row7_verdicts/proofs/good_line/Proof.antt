@@ -8,26 +8,26 @@ use borrow.Author.Rules.{rules}
 use Rattle.row7_verdicts.proofs.good_line.Statement.{statement}
 use Rattle.row7_verdicts.proofs.good_line.Tie as tie
 
-returns : tie.Need-returns
-returns c = rw (c.declared_verdict.ensures, ← c.before.before.before.letter.ensures, c.before.if2.true)
+returns : tie.Need-returns-then-letter-eq86
+returns c = rw (c.declared_verdict.ensures, ← c.letter-letter.ensures, c.if-letter-eq86.true)
 
-returns-2 : tie.Need-returns-2
+returns-2 : tie.Need-returns-then-letter-gt70
 returns-2 c =
-    let x = c.before.before.letter.result in
-    rw (← c.before.before.letter.ensures, ne_eqb x 67 (λ q. omega (arith, c.before.if1.true)), ne_eqb x 70 (λ q. omega (arith, c.before.if1.true)), ne_eqb x 86 c.if2.false)
+    let x = c.letter-letter.result in
+    rw (← c.letter-letter.ensures, ne_eqb x 67 (λ q. omega (arith, c.if-letter-gt70.true)), ne_eqb x 70 (λ q. omega (arith, c.if-letter-gt70.true)), ne_eqb x 86 c.if-letter-eq86.false)
 
-returns-3 : tie.Need-returns-3
-returns-3 c = rw (← c.before.before.letter.ensures, c.if3.true)
+returns-3 : tie.Need-returns-then-letter-eq68
+returns-3 c = rw (← c.letter-letter.ensures, c.if-letter-eq68.true)
 
-returns-4 : tie.Need-returns-4
+returns-4 : tie.Need-returns
 returns-4 c =
-    let n = c.before.before in
-    let x = n.before.before.before in
-    let a = x.before.before.args in
+    let n = c in
+    let x = n in
+    let a = x.args in
     let s = lines_of a.t.now in
     let l = nth_line s a.i in
-    let m = told a.d l x.letter.result x.letter.ensures x.before.before.requires.2 n.before.before.if1.false n.before.if3.false in
-    rw c.picked.ensures (good_member a.d l x.letter.result x.letter.ensures m (nth_line s a.d.head) x.before.before.requires.1 n.number.result n.number.ensures)
+    let m = told a.d l x.letter-letter.result x.letter-letter.ensures x.requires.2 n.if-letter-gt70.false n.if-letter-eq68.false in
+    rw c.picked.ensures (good_member a.d l x.letter-letter.result x.letter-letter.ensures m (nth_line s a.d.head) x.requires.1 n.number-third.result n.number-third.ensures)
 
 pub good_line_spec : {M : Type 1} → statement M
 good_line_spec =

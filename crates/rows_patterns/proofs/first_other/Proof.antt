@@ -9,7 +9,7 @@ use borrow.Author.Rules.{rules}
 use borrow.Author.Tests.{eq-eqb, ne_eqb}
 use Rattle.sheet.specs.Line.{letter}
 use Rattle.sheet.specs.Sheet.{first, count}
-use Rattle.sheet.specs.FirstLaws.{first_more, first_found}
+use Rattle.sheet.proofs.FirstLaws.{first_more, first_found}
 use Rattle.meaning.specs.Program.{is}
 use Rattle.meaning.specs.Rows.{raw}
 use Rattle.meaning_patterns.specs.Patterns.{pattern_line}

@@ -7,7 +7,7 @@ use borrow.Author.Rules.{rules}
 use Rattle.sheet.specs.Sheet.{first}
 use Rattle.walk_cells.specs.Cells.{lines_of}
 use Rattle.walk_cells.specs.CellsLaws.{length_lines_of}
-use Rattle.sheet.specs.FirstLaws.{first_more, first_found}
+use Rattle.sheet.proofs.FirstLaws.{first_more, first_found}
 use Rattle.rows_runs.specs.Runs.{run_end}
 use Rattle.rows_runs.specs.RunsLaws.{ends, run_begin, run_stays, run_stops}
 use Rattle.rows_runs.proofs.run_end.Statement.{statement}

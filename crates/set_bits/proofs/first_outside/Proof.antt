@@ -11,7 +11,7 @@ use lib.ListN.{get_or}
 use mir.Syntax.{w64}
 use mir.Val.{Fits}
 use borrow.Author.Rules.{rules}
-use Rattle.sheet.specs.FirstLaws.{first_none}
+use Rattle.sheet.proofs.FirstLaws.{first_none}
 use Rattle.set_bits.specs.Outside.{outside}
 use Rattle.set_bits.specs.OutsideLaws.{outside_more, outside_found}
 use Rattle.set_bits.proofs.first_outside.Statement.{statement}

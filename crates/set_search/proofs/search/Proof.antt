@@ -6,16 +6,16 @@ use Prim.Native.Nat.{◌-◌, ◌≤◌}
 use native.Mathlib.Omega.{arith}
 use lib.ListN.{length, length-set}
 use borrow.Author.Rules.{rules}
-use Rattle.sheet.specs.ListLaws.{contrary}
+use Rattle.sheet.proofs.ListLaws.{contrary}
 use Rattle.set_search.specs.TurnLaws.{Outer, Inner, outer_begin, outer_end, outer_row, outer_place, outer_in, outer_twice, outer_node, outer_next, outer_less, inner_next, inner_twice, inner_small, inner_in, inner_less, inner_found, inner_more, inner_done}
 use Rattle.set_search.proofs.search.Statement.{statement}
 use Rattle.set_search.proofs.search.Tie as tie
 
-abbrev invariant-loop : tie.invariant-loop
+abbrev invariant-loop : tie.invariant-loop-name
 invariant-loop steps words n start marks₀ queue₀ none head last₀ found₀ node row name₀ marks queue last found name =
     Inner steps words n start marks queue head last node row name × (found ≡ false) × (length marks ≡ length marks₀) × (length queue ≡ length queue₀)
 
-abbrev decreases-loop : tie.decreases-loop
+abbrev decreases-loop : tie.decreases-loop-name
 decreases-loop steps words n start marks₀ queue₀ none head last₀ found₀ node row name₀ marks queue last found name = n - last
 
 abbrev invariant-search : tie.invariant-search
@@ -26,96 +26,96 @@ abbrev decreases-search : tie.decreases-search
 decreases-search steps words n start marks₀ queue₀ none head₀ last₀ found₀ marks queue head last found = n - head
 
 -- the head is at an entry
-inside : (c : tie.In-search invariant-loop decreases-loop invariant-search decreases-search) → c.before.search.head ≤ c.before.search.new
+inside : (c : tie.In-search invariant-loop decreases-loop invariant-search decreases-search) → c.search.head ≤ c.search.new
 inside c = omega (arith, c.search-test.true)
 
-cast-queue : tie.Need-overflow-cast-queue invariant-loop decreases-loop invariant-search decreases-search
-cast-queue c = omega (arith, c.before.before.before.before.before.before.before.requires.0.wide, c.before.before.before.before.before.before.before.requires.0.limit)
+cast-queue : tie.Need-overflow_cast-queue invariant-loop decreases-loop invariant-search decreases-search
+cast-queue c = omega (arith, c.requires.0.wide, c.requires.0.limit)
 
-mul-none : tie.Need-overflow-mul-none invariant-loop decreases-loop invariant-search decreases-search
-mul-none c = omega (arith, c.before.before.before.before.before.before.before.requires.0.limit)
+mul-none : tie.Need-overflow_mul-none invariant-loop decreases-loop invariant-search decreases-search
+mul-none c = omega (arith, c.requires.0.limit)
 
 search-holds : tie.Need-search-init invariant-loop decreases-loop invariant-search decreases-search
 search-holds c =
-    let p = c.before.before.before.before.before.before.before.requires in
-    let a = c.before.before.before.before.before.before.before.args in
-    (rw c.before.before.clear.ensures (outer_begin a.steps.now a.words a.n a.start a.marks.now a.queue.now p.0 p.1.0 p.1.1.0 p.1.1.1), refl, refl, refl)
+    let p = c.requires in
+    let a = c.args in
+    (rw c.clear.ensures (outer_begin a.steps.now a.words a.n a.start a.marks.now a.queue.now p.0 p.1.0 p.1.1.0 p.1.1.1), refl, refl, refl)
 
-mul-node : tie.Need-overflow-mul-node invariant-loop decreases-loop invariant-search decreases-search
-mul-node c = record { fits = outer_twice _ _ _ _ _ _ _ _ c.before.search.invariant.0 (inside c) }
+mul-node : tie.Need-offset_bounds-queue-head invariant-loop decreases-loop invariant-search decreases-search
+mul-node c = record { fits = outer_twice _ _ _ _ _ _ _ _ c.search.invariant.0 (inside c) }
 
-slice-read-node : tie.Need-slice-read-node invariant-loop decreases-loop invariant-search decreases-search
-slice-read-node c = outer_in _ _ _ _ _ _ _ _ c.before.before.search.invariant.0 (inside c.before)
+slice-read-node : tie.Need-bounds-queue-head invariant-loop decreases-loop invariant-search decreases-search
+slice-read-node c = outer_in _ _ _ _ _ _ _ _ c.search.invariant.0 (inside c.before)
 
-cast-node : tie.Need-overflow-cast-node invariant-loop decreases-loop invariant-search decreases-search
-cast-node c = record { fits = outer_node _ _ _ _ _ _ _ _ c.before.before.search.invariant.0 (inside c.before) }
+cast-node : tie.Need-overflow_cast-node invariant-loop decreases-loop invariant-search decreases-search
+cast-node c = record { fits = outer_node _ _ _ _ _ _ _ _ c.search.invariant.0 (inside c.before) }
 
-mul-row : tie.Need-overflow-mul-row invariant-loop decreases-loop invariant-search decreases-search
-mul-row c = record { fits = outer_place _ _ _ _ _ _ _ _ c.before.before.search.invariant.0 (inside c.before) }
+mul-row : tie.Need-overflow_mul-row invariant-loop decreases-loop invariant-search decreases-search
+mul-row c = record { fits = outer_place _ _ _ _ _ _ _ _ c.search.invariant.0 (inside c.before) }
 
-first-outside-requires : tie.Need-first-outside-requires invariant-loop decreases-loop invariant-search decreases-search
-first-outside-requires c κs = (c.before.before.before.search.invariant.0.table.limit, (omega (arith, outer_row _ _ _ _ _ _ _ _ c.before.before.before.search.invariant.0 (inside c.before.before)), omega (arith, c.before.before.before.search.invariant.0.marks_long)))
+first-outside-requires : tie.Need-first_outside-name-requires invariant-loop decreases-loop invariant-search decreases-search
+first-outside-requires c κs = (c.search.invariant.0.table.limit, (omega (arith, outer_row _ _ _ _ _ _ _ _ c.search.invariant.0 (inside c.before)), omega (arith, c.search.invariant.0.marks_long)))
 
-loop-holds : tie.Need-loop-init invariant-loop decreases-loop invariant-search decreases-search
+loop-holds : tie.Need-loop-name-init invariant-loop decreases-loop invariant-search decreases-search
 loop-holds c =
-    let s = c.before.before.before.before.search in
-    (record { outer = s.invariant.0; inside = inside c.before.before.before; entry = refl; at = refl; is = c.first_outside.ensures }, s.invariant.1, refl, refl)
+    let s = c.search in
+    (record { outer = s.invariant.0; inside = inside c.before.before; entry = refl; at = refl; is = c.first_outside-name.ensures }, s.invariant.1, refl, refl)
 
 insert-requires : tie.Need-insert-requires invariant-loop decreases-loop invariant-search decreases-search
-insert-requires c κs = omega (arith, c.before.before.before.loop.invariant.0.outer.marks_long, c.before.before.before.loop.invariant.0.outer.table.wide, c.before.before.before.loop.invariant.0.outer.start, c.before.before.loop-test.true)
+insert-requires c κs = omega (arith, c.loop-name.invariant.0.outer.marks_long, c.loop-name.invariant.0.outer.table.wide, c.loop-name.invariant.0.outer.start, c.loop-name-test.true)
 
-add-last : tie.Need-overflow-add-last invariant-loop decreases-loop invariant-search decreases-search
-add-last c = record { fits = inner_next _ _ _ _ _ _ _ _ _ _ _ c.before.before.before.before.before.before.loop.invariant.0 }
+add-last : tie.Need-overflow_add-last invariant-loop decreases-loop invariant-search decreases-search
+add-last c = record { fits = inner_next _ _ _ _ _ _ _ _ _ _ _ c.loop-name.invariant.0 }
 
-cast-queue-2 : tie.Need-overflow-cast-queue-2 invariant-loop decreases-loop invariant-search decreases-search
-cast-queue-2 c = record { fits = inner_small _ _ _ _ _ _ _ _ _ _ _ c.before.before.before.before.before.before.loop.invariant.0 c.before.before.before.before.before.loop-test.true }
+cast-queue-2 : tie.Need-overflow_cast-queue-in-loop-name invariant-loop decreases-loop invariant-search decreases-search
+cast-queue-2 c = record { fits = inner_small _ _ _ _ _ _ _ _ _ _ _ c.loop-name.invariant.0 c.loop-name-test.true }
 
-mul-queue : tie.Need-overflow-mul-queue invariant-loop decreases-loop invariant-search decreases-search
-mul-queue c = record { fits = inner_twice _ _ _ _ _ _ _ _ _ _ _ c.before.before.before.before.before.before.loop.invariant.0 }
+mul-queue : tie.Need-offset_bounds-queue-last invariant-loop decreases-loop invariant-search decreases-search
+mul-queue c = record { fits = inner_twice _ _ _ _ _ _ _ _ _ _ _ c.loop-name.invariant.0 }
 
-slice-write-queue-2 : tie.Need-slice-write-queue-2 invariant-loop decreases-loop invariant-search decreases-search
-slice-write-queue-2 c = inner_in _ _ _ _ _ _ _ _ _ _ _ c.before.before.before.before.before.before.loop.invariant.0 c.before.before.before.before.before.loop-test.true c.before.before.before.before.if1.false
+slice-write-queue-2 : tie.Need-bounds-queue-last invariant-loop decreases-loop invariant-search decreases-search
+slice-write-queue-2 c = inner_in _ _ _ _ _ _ _ _ _ _ _ c.loop-name.invariant.0 c.loop-name-test.true c.if-name-start.false
 
-first-outside-requires-2 : tie.Need-first-outside-requires-2 invariant-loop decreases-loop invariant-search decreases-search
-first-outside-requires-2 c κs = (c.before.before.before.before.before.before.before.loop.invariant.0.outer.table.limit, (outer_row _ _ _ _ _ _ _ _ c.before.before.before.before.before.before.before.before.before.before.before.before.search.invariant.0 (inside c.before.before.before.before.before.before.before.before.before.before.before), omega (arith, c.before.before.before.insert.auto.0, c.before.before.before.before.before.before.before.loop.invariant.0.outer.marks_long)))
+first-outside-requires-2 : tie.Need-first_outside-name-requires-in-loop-name invariant-loop decreases-loop invariant-search decreases-search
+first-outside-requires-2 c κs = (c.loop-name.invariant.0.outer.table.limit, (outer_row _ _ _ _ _ _ _ _ c.search.invariant.0 (inside c.before.before.before.before.before.before.before.before.before), omega (arith, c.insert.auto.s, c.loop-name.invariant.0.outer.marks_long)))
 
-loop-less : tie.Need-loop-smaller invariant-loop decreases-loop invariant-search decreases-search
-loop-less c = inner_less _ _ _ _ _ _ _ _ _ _ _ c.before.before.before.before.before.before.before.before.loop.invariant.0
+loop-less : tie.Need-loop-name-smaller invariant-loop decreases-loop invariant-search decreases-search
+loop-less c = inner_less _ _ _ _ _ _ _ _ _ _ _ c.loop-name.invariant.0
 
-loop-again : tie.Need-loop-preserved invariant-loop decreases-loop invariant-search decreases-search
+loop-again : tie.Need-loop-name-preserved invariant-loop decreases-loop invariant-search decreases-search
 loop-again c =
-    let s = c.before.before.before.before.before.before.before.before.loop in
-    let e = c.before.before.before.before.insert.ensures in
-    (rw e (inner_more _ _ _ _ _ _ _ _ _ _ _ s.invariant.0 c.before.before.before.before.before.before.before.loop-test.true c.before.before.before.before.before.before.if1.false _ (rw e at c.first-outside2.ensures)), s.invariant.1, c.before.before.before.before.insert.auto.0 ∙ s.invariant.2, simp length-set s.invariant.3)
+    let s = c.loop-name in
+    let e = c.insert.ensures in
+    (rw e (inner_more _ _ _ _ _ _ _ _ _ _ _ s.invariant.0 c.loop-name-test.true c.if-name-start.false _ (rw e at c.first_outside-name-in-loop-name.ensures)), s.invariant.1, c.insert.auto.s ∙ s.invariant.2, simp length-set s.invariant.3)
 
-add-head : tie.Need-overflow-add-head invariant-loop decreases-loop invariant-search decreases-search
-add-head c = record { fits = outer_next _ _ _ _ _ _ _ _ c.before.before.before.before.before.before.search.invariant.0 (inside c.before.before.before.before.before) }
+add-head : tie.Need-overflow_add-head invariant-loop decreases-loop invariant-search decreases-search
+add-head c = record { fits = outer_next _ _ _ _ _ _ _ _ c.search.invariant.0 (inside c.before.before.before.before) }
 
 search-less : tie.Need-search-smaller invariant-loop decreases-loop invariant-search decreases-search
-search-less c = outer_less _ _ _ _ _ _ _ _ c.before.before.before.before.before.before.search.invariant.0 (inside c.before.before.before.before.before)
+search-less c = outer_less _ _ _ _ _ _ _ _ c.search.invariant.0 (inside c.before.before.before.before)
 
 search-again : tie.Need-search-preserved invariant-loop decreases-loop invariant-search decreases-search
 search-again c =
-    let s = c.before.loop in
-    (inner_done _ _ _ _ _ _ _ _ _ _ _ s.invariant.0 c.loop-test.false, s.invariant.1, s.invariant.2 ∙ c.before.before.before.before.before.before.search.invariant.2, s.invariant.3 ∙ c.before.before.before.before.before.before.search.invariant.3)
+    let s = c.loop-name in
+    (inner_done _ _ _ _ _ _ _ _ _ _ _ s.invariant.0 c.loop-name-test.false, s.invariant.1, s.invariant.2 ∙ c.search.invariant.2, s.invariant.3 ∙ c.search.invariant.3)
 
-same_length : tie.Need-same-length invariant-loop decreases-loop invariant-search decreases-search
-same_length c = ⊎_elim (λ w. ap length w.1 ∙ c.before.before.search.invariant.2 ∙ c.before.before.before.before.before.clear.auto.0) (λ w. ap length w.7 ∙ w.4.inv.2 ∙ c.before.before.search.invariant.2 ∙ c.before.before.before.before.before.clear.auto.0) c.before.search-test.branch
+same_length : tie.Need-shape_of-marks-then-found invariant-loop decreases-loop invariant-search decreases-search
+same_length c = ⊎_elim (λ w. ap length w.1 ∙ c.search.invariant.2 ∙ c.clear.auto.s) (λ w. ap length w.7 ∙ w.4.inv.2 ∙ c.search.invariant.2 ∙ c.clear.auto.s) c.search-test.branch
 
-same-length-2 : tie.Need-same-length-2 invariant-loop decreases-loop invariant-search decreases-search
-same-length-2 c = ⊎_elim (λ w. ap length w.2 ∙ c.before.before.search.invariant.3 ∙ length-set c.before.before.before.before.before.before.before.before.before.before.args.queue.now 0 _) (λ w. ap length w.8 ∙ w.4.inv.3 ∙ c.before.before.search.invariant.3 ∙ length-set c.before.before.before.before.before.before.before.before.before.before.args.queue.now 0 _) c.before.search-test.branch
+same-length-2 : tie.Need-shape_of-queue-then-found invariant-loop decreases-loop invariant-search decreases-search
+same-length-2 c = ⊎_elim (λ w. ap length w.2 ∙ c.search.invariant.3 ∙ length-set c.args.queue.now 0 _) (λ w. ap length w.8 ∙ w.4.inv.3 ∙ c.search.invariant.3 ∙ length-set c.args.queue.now 0 _) c.search-test.branch
 
-returns : tie.Need-returns invariant-loop decreases-loop invariant-search decreases-search
-returns c = ⊎_elim (λ w. contrary c.before.search-test.found c.if2.true (w.4 ∙ c.before.before.search.invariant.1)) (λ w. rw w.7 (inner_found _ _ _ _ _ _ _ _ _ _ _ w.4.inv.0 w.5.taken w.6.taken)) c.before.search-test.branch
+returns : tie.Need-returns-then-found invariant-loop decreases-loop invariant-search decreases-search
+returns c = ⊎_elim (λ w. contrary c.search-test.found c.if-found.true (w.4 ∙ c.search.invariant.1)) (λ w. rw w.7 (inner_found _ _ _ _ _ _ _ _ _ _ _ w.4.inv.0 w.5.taken w.6.taken)) c.search-test.branch
 
-same-length-3 : tie.Need-same-length-3 invariant-loop decreases-loop invariant-search decreases-search
-same-length-3 c = ⊎_elim (λ w. ap length w.1 ∙ c.before.before.search.invariant.2 ∙ c.before.before.before.before.before.clear.auto.0) (λ w. ap length w.7 ∙ w.4.inv.2 ∙ c.before.before.search.invariant.2 ∙ c.before.before.before.before.before.clear.auto.0) c.before.search-test.branch
+same-length-3 : tie.Need-shape_of-marks invariant-loop decreases-loop invariant-search decreases-search
+same-length-3 c = ⊎_elim (λ w. ap length w.1 ∙ c.search.invariant.2 ∙ c.clear.auto.s) (λ w. ap length w.7 ∙ w.4.inv.2 ∙ c.search.invariant.2 ∙ c.clear.auto.s) c.search-test.branch
 
-same-length-4 : tie.Need-same-length-4 invariant-loop decreases-loop invariant-search decreases-search
-same-length-4 c = ⊎_elim (λ w. ap length w.2 ∙ c.before.before.search.invariant.3 ∙ length-set c.before.before.before.before.before.before.before.before.before.before.args.queue.now 0 _) (λ w. ap length w.8 ∙ w.4.inv.3 ∙ c.before.before.search.invariant.3 ∙ length-set c.before.before.before.before.before.before.before.before.before.before.args.queue.now 0 _) c.before.search-test.branch
+same-length-4 : tie.Need-shape_of-queue invariant-loop decreases-loop invariant-search decreases-search
+same-length-4 c = ⊎_elim (λ w. ap length w.2 ∙ c.search.invariant.3 ∙ length-set c.args.queue.now 0 _) (λ w. ap length w.8 ∙ w.4.inv.3 ∙ c.search.invariant.3 ∙ length-set c.args.queue.now 0 _) c.search-test.branch
 
-returns-2 : tie.Need-returns-2 invariant-loop decreases-loop invariant-search decreases-search
-returns-2 c = ⊎_elim (λ w. rw (w.1, w.3) (outer_end _ _ _ _ _ _ _ _ c.before.before.search.invariant.0 w.0.left)) (λ w. contrary c.before.search-test.found w.10 c.if2.false) c.before.search-test.branch
+returns-2 : tie.Need-returns invariant-loop decreases-loop invariant-search decreases-search
+returns-2 c = ⊎_elim (λ w. rw (w.1, w.3) (outer_end _ _ _ _ _ _ _ _ c.search.invariant.0 w.0.left)) (λ w. contrary c.search-test.found w.10 c.if-found.false) c.search-test.branch
 
 pub search_spec : {M : Type 1} → statement M
 search_spec =

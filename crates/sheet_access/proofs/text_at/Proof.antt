@@ -4,7 +4,7 @@ use Prim.Native.Nat.{◌≤◌}
 use native.Mathlib.Omega.{arith}
 use native.Mathlib.Nat.{add-sub_cancel_left}
 use Rattle.sheet.specs.Line.{decode}
-use Rattle.sheet.specs.SheetLaws.{line_past}
+use Rattle.sheet.proofs.SheetLaws.{line_past}
 use Rattle.sheet_lines.specs.Shape.{shape_of, text_in}
 use Rattle.sheet_access.specs.Access.{text_at}
 use Rattle.sheet_access.specs.AccessLaws.{text_fits, text_lent}

@@ -3,7 +3,7 @@
 use mathlib.Core.Path.{◌≡◌, ◌∙◌, ap, sym}
 use borrow.Author.Rules.{rules}
 use Rattle.sheet_lines.specs.Shape.{shape_of}
-use Rattle.sheet.specs.LineLaws.{decode_short}
+use Rattle.sheet.proofs.LineLaws.{decode_short}
 use Rattle.sheet_lines.specs.ShapeLaws.{decode_last, decode_is_named, decode_is_row, decode_unknown}
 use Rattle.sheet_lines.proofs.read_line.Statement.{statement}
 use Rattle.sheet_lines.proofs.read_line.Tie as tie

@@ -20,14 +20,14 @@ spelling_by c x e =
 returns : tie.Need-returns-then-m-n
 returns c =
     let m = c.in-Value in
-    let same : m.given.0.0 ≡ c.args.n = omega (arith, c.if-m-n.true) in
-    c.text_at.ensures ∙ sym (spelling_by c.before.before.before _ m.given.1 ∙ rw (eq-eqb _ _ same))
+    let same : c.in-Value.m ≡ c.args.n = omega (arith, c.if-m-n.true) in
+    c.text_at.ensures ∙ sym (spelling_by c.before.before.before _ c.in-Value.is ∙ rw (eq-eqb _ _ same))
 
 returns-2 : tie.Need-returns-else-m-n
 returns-2 c =
     let m = c.in-Value in
-    let other : (m.given.0.0 ≡ c.args.n) → ⊥ = λ e. omega (arith, c.if-m-n.false, e) in
-    sym (spelling_by c.before.before.before _ m.given.1 ∙ rw (ne_eqb _ _ other))
+    let other : (c.in-Value.m ≡ c.args.n) → ⊥ = λ e. omega (arith, c.if-m-n.false, e) in
+    sym (spelling_by c.before.before.before _ c.in-Value.is ∙ rw (ne_eqb _ _ other))
 
 returns-3 : tie.Need-returns-in-Bad
 returns-3 c = sym (spelling_by c.before.before _ c.in-Bad.is)

@@ -1,6 +1,6 @@
 -- `sheet_parts::has_numbers` meets its contract, letter by letter. Assumes nothing.
 use mathlib.Core.Path.{sym}
-use Rattle.sheet.specs.LetterLaws.{lettered_single, lettered_c, lettered_d, lettered_q, lettered_none}
+use Rattle.sheet.proofs.LetterLaws.{lettered_single, lettered_c, lettered_d, lettered_q, lettered_none}
 use Rattle.sheet_parts.proofs.has_numbers.Statement.{statement}
 use Rattle.sheet_parts.proofs.has_numbers.Tie as tie
 

@@ -3,7 +3,7 @@ use native.Mathlib.Nat.{add-sub_cancel_left, mul_comm}
 use native.Mathlib.Omega.{arith}
 use lib.ListN.{length-take, length-drop}
 use Rattle.sheet.specs.Sheet.{line_at}
-use Rattle.sheet.specs.SheetLaws.{within_count}
+use Rattle.sheet.proofs.SheetLaws.{within_count}
 use borrow.Author.Rules.{rules}
 use Rattle.sheet_parts.proofs.line_bytes.Statement.{statement}
 use Rattle.sheet_parts.proofs.line_bytes.Tie as tie

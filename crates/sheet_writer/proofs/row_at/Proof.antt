@@ -3,7 +3,7 @@ use mathlib.Core.Path.{◌∙◌, ap}
 use Prim.Native.Nat.{◌+◌, ◌*◌}
 use native.Mathlib.Omega.{arith}
 use Rattle.sheet.specs.Output.{put_at}
-use Rattle.sheet.specs.OutputLaws.{part_put}
+use Rattle.sheet.proofs.OutputLaws.{part_put}
 use borrow.Author.Rules.{rules}
 use Rattle.sheet_writer.proofs.row_at.Statement.{statement}
 use Rattle.sheet_writer.proofs.row_at.Tie as tie

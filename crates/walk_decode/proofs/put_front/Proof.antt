@@ -12,77 +12,77 @@ use Rattle.walk_decode.specs.DecodeLaws.{length_stored, Filled, filled_begin, fi
 use Rattle.walk_decode.proofs.put_front.Statement.{statement}
 use Rattle.walk_decode.proofs.put_front.Tie as tie
 
-abbrev invariant-loop : tie.invariant-loop
+abbrev invariant-loop : tie.invariant-loop-k
 invariant-loop l w c₀ at₀ k₀ c at k = (k ≤ 2) × (at ≡ 1 + k * w) × Filled w l c k
 
-abbrev decreases-loop : tie.decreases-loop
+abbrev decreases-loop : tie.decreases-loop-k
 decreases-loop l w c₀ at₀ k₀ c at k = 2 - k
 
 -- number k lies within the line
-inside : (c : tie.In-loop invariant-loop decreases-loop) → c.before.loop.at + c.before.before.before.before.before.args.w ≤ 5 * c.before.before.before.before.before.args.w + 1
-inside c = let l = c.before.loop in rw l.invariant.1 (within c.before.before.before.before.before.args.w l.k (omega arith))
+inside : (c : tie.In-loop-k invariant-loop decreases-loop) → c.loop-k.at + c.args.w ≤ 5 * c.args.w + 1
+inside c = let l = c.loop-k in rw l.invariant.1 (within c.args.w l.k (omega arith))
 
-cast-c : tie.Need-overflow-cast-c invariant-loop decreases-loop
-cast-c c = omega (arith, c.shared-slice-known2.given 0)
+cast-c : tie.Need-overflow_cast-c invariant-loop decreases-loop
+cast-c c = omega (arith, c.shared_slice_known-2-1.given 0)
 
-loop-holds : tie.Need-loop-init invariant-loop decreases-loop
-loop-holds c = (omega arith, omega arith, filled_begin c.before.before.before.args.w c.before.before.before.args.l.now c.before.before.before.args.c.now c.before.before.before.requires.3)
+loop-holds : tie.Need-loop-k-init invariant-loop decreases-loop
+loop-holds c = (omega arith, omega arith, filled_begin c.args.w c.args.l.now c.args.c.now c.requires.3)
 
-add-end : tie.Need-overflow-add-end invariant-loop decreases-loop
+add-end : tie.Need-overflow_add-end invariant-loop decreases-loop
 add-end c = omega (arith, inside c)
 
-sub-put-number : tie.Need-overflow-sub-put-number invariant-loop decreases-loop
+sub-put-number : tie.Need-slice_bounds-put_number-count invariant-loop decreases-loop
 sub-put-number c = omega arith
 
-part-put-number-start : tie.Need-slice-bounds-put-number-start invariant-loop decreases-loop
+part-put-number-start : tie.Need-slice_bounds-put_number-start invariant-loop decreases-loop
 part-put-number-start c = omega arith
 
-part-put-number-end : tie.Need-slice-bounds-put-number-end invariant-loop decreases-loop
+part-put-number-end : tie.Need-slice_bounds-put_number-end invariant-loop decreases-loop
 part-put-number-end c = omega (arith, inside c)
 
-put-number-requires : tie.Need-put-number-requires invariant-loop decreases-loop
+put-number-requires : tie.Need-put_number-requires invariant-loop decreases-loop
 put-number-requires c κs =
-    let l = c.before.before.before.loop in
-    let a = c.before.before.before.before.before.before.before in
+    let l = c.loop-k in
+    let a = c in
     let i = inside c.before.before in
     (simp (add-sub_cancel_left, length-take, length-drop) (omega arith), simp (add-sub_cancel_left, length-take, length-drop) (omega arith), omega (arith, l.invariant.2.six))
 
 -- what put_number read is the cell
-told : (c : tie.After-put-number invariant-loop decreases-loop)
-    → (c.put-number.result ≡ is_value (cell c.before.before.before.before.before.before.before.before.args.w c.before.before.before.before.before.before.before.before.args.l.now c.before.before.before.before.loop.k))
-    × (c.put-number.new.1.0 ≡ stored (cell c.before.before.before.before.before.before.before.before.args.w c.before.before.before.before.before.before.before.before.args.l.now c.before.before.before.before.loop.k) c.before.before.before.before.loop.c (1 + c.before.before.before.before.loop.k))
+told : (c : tie.After-put_number invariant-loop decreases-loop)
+    → (c.put_number.result ≡ is_value (cell c.args.w c.args.l.now c.loop-k.k))
+    × (c.put_number.new.c ≡ stored (cell c.args.w c.args.l.now c.loop-k.k) c.loop-k.c (1 + c.loop-k.k))
 unfolding cell
 told c =
-    let l = c.before.before.before.before.loop in
-    (rw (c.put-number.ensures.0, add-sub_cancel_left, l.invariant.1), rw (c.put-number.ensures.1, add-sub_cancel_left, l.invariant.1))
+    let l = c.loop-k in
+    (rw (c.put_number.ensures.0, add-sub_cancel_left, l.invariant.1), rw (c.put_number.ensures.1, add-sub_cancel_left, l.invariant.1))
 
-same_length : tie.Need-same-length invariant-loop decreases-loop
+same_length : tie.Need-shape_of-c-then-not-put_number invariant-loop decreases-loop
 same_length c =
-    let l = c.before.before.before.before.before.before.before.loop in
-    ap length (told c.before.before.before).1 ∙ (length_stored (cell c.before.before.before.before.before.before.before.before.before.before.before.args.w c.before.before.before.before.before.before.before.before.before.before.before.args.l.now l.k) l.c (1 + l.k) ∙ (l.invariant.2.six ∙ sym c.before.before.before.before.before.before.before.before.before.before.before.requires.3))
+    let l = c.loop-k in
+    ap length (told c.before.before.before).1 ∙ (length_stored (cell c.args.w c.args.l.now l.k) l.c (1 + l.k) ∙ (l.invariant.2.six ∙ sym c.requires.3))
 
-returns : tie.Need-returns invariant-loop decreases-loop
+returns : tie.Need-returns-then-not-put_number invariant-loop decreases-loop
 returns c =
-    let l = c.before.before.before.before.before.before.before.loop in
-    let a = c.before.before.before.before.before.before.before.before.before.before.before in
-    let p = none_row a.args.w a.args.l.now _ l.k (omega arith) (sym (told c.before.before.before).0 ∙ not-true c.before.before.before.put-number.result c.if1.true) in
+    let l = c.loop-k in
+    let a = c in
+    let p = none_row a.args.w a.args.l.now _ l.k (omega arith) (sym (told c.before.before.before).0 ∙ c.if-not-put_number.true) in
     not_begun a.args.w a.args.l.now _ p
 
-loop-again : tie.Need-loop-preserved invariant-loop decreases-loop
+loop-again : tie.Need-loop-k-preserved invariant-loop decreases-loop
 loop-again c =
-    let l = c.before.before.before.before.before.before.before.loop in
-    let a = c.before.before.before.before.before.before.before.before.before.before.before in
+    let l = c.loop-k in
+    let a = c in
     let e = told c.before.before.before in
     let m : l.k + 1 ≡ suc l.k = omega arith in
-    (omega arith, rw (l.invariant.1, m, suc-mul l.k a.args.w) (omega arith), rw e.1 (filled_more a.args.w a.args.l.now l.c l.k _ (omega arith) l.invariant.2 refl (sym e.0 ∙ not-false c.before.before.before.put-number.result c.if1.false)))
+    (omega arith, rw (l.invariant.1, m, suc-mul l.k a.args.w) (omega arith), rw e.1 (filled_more a.args.w a.args.l.now l.c l.k _ (omega arith) l.invariant.2 refl (sym e.0 ∙ c.if-not-put_number.false)))
 
-same-length-2 : tie.Need-same-length-2 invariant-loop decreases-loop
-same-length-2 c = c.before.loop.invariant.2.six ∙ sym c.before.before.before.before.before.requires.3
+same-length-2 : tie.Need-shape_of-c invariant-loop decreases-loop
+same-length-2 c = c.loop-k.invariant.2.six ∙ sym c.requires.3
 
-returns-2 : tie.Need-returns-2 invariant-loop decreases-loop
+returns-2 : tie.Need-returns invariant-loop decreases-loop
 returns-2 c =
-    let l = c.before.loop in
-    let a = c.before.before.before.before.before in
+    let l = c.loop-k in
+    let a = c in
     let e : l.k ≡ 2 = omega arith in
     begun a.args.w a.args.l.now l.c (rw e at l.invariant.2)
 

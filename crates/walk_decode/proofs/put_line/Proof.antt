@@ -6,24 +6,24 @@ use Rattle.walk_decode.specs.DecodeLaws.{put_bad}
 use Rattle.walk_decode.proofs.put_line.Statement.{statement}
 use Rattle.walk_decode.proofs.put_line.Tie as tie
 
-returns : tie.Need-returns
-returns c = let a = c.before.before.before.before.args in put_bad _ _ (decode_last a.w a.l.now c.if1.true)
+returns : tie.Need-returns-then-l-w-ne10
+returns c = let a = c.args in put_bad _ _ (decode_last a.w a.l.now c.if-l-w-ne10.true)
 
-returns-2 : tie.Need-returns-2
+returns-2 : tie.Need-returns-then-l-eq78
 returns-2 c =
-    let a = c.before.before.before.before.before.before.before.before.before.before.args in
-    rw (decode_is_named a.w a.l.now c.before.before.before.before.before.before.if1.false c.before.before.before.before.if2.true) c.before.before.put-named.ensures
+    let a = c.args in
+    rw (decode_is_named a.w a.l.now c.if-l-w-ne10.false c.if-l-eq78.true) c.put_named.ensures
 
-returns-3 : tie.Need-returns-3
+returns-3 : tie.Need-returns-then-has_numbers
 returns-3 c =
-    let a = c.before.before.before.before.before.before.before.before.before.before.before.before.before.args in
-    let h = c.before.before.before.before in
-    rw (decode_is_row a.w a.l.now c.before.before.before.before.before.before.before.before.before.if1.false (sym h.before.has-numbers.ensures ∙ h.if3.true)) c.before.before.put-row.ensures
+    let a = c.args in
+    let h = c in
+    rw (decode_is_row a.w a.l.now c.if-l-w-ne10.false (sym h.has_numbers.ensures ∙ h.if-has_numbers.true)) c.put_row.ensures
 
-returns-4 : tie.Need-returns-4
+returns-4 : tie.Need-returns
 returns-4 c =
-    let a = c.before.before.before.before.before.before.before.before.before.args in
-    put_bad _ _ (decode_unknown a.w a.l.now c.before.before.before.before.before.if1.false c.before.before.before.if2.false (sym c.before.has-numbers.ensures ∙ c.if3.false))
+    let a = c.args in
+    put_bad _ _ (decode_unknown a.w a.l.now c.if-l-w-ne10.false c.if-l-eq78.false (sym c.has_numbers.ensures ∙ c.if-has_numbers.false))
 
 pub put_line_spec : {M : Type 1} → statement M
 put_line_spec =

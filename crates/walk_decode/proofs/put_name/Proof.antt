@@ -6,7 +6,7 @@ use Rattle.walk_decode.specs.DecodeLaws.{named_set}
 use Rattle.walk_decode.proofs.put_name.Statement.{statement}
 use Rattle.walk_decode.proofs.put_name.Tie as tie
 
-slice-write-c-5 : tie.Need-slice-write-c-5
+slice-write-c-5 : tie.Need-bounds-c-5
 slice-write-c-5 c = simp length-set (omega arith)
 
 returns : tie.Need-returns

@@ -16,40 +16,40 @@ use Rattle.walk_decode.proofs.put_named.Statement.{statement}
 use Rattle.walk_decode.proofs.put_named.Tie as tie
 
 -- what put_short read is the cell
-told : (c : tie.After-put-short)
-    → (c.put-short.result ≡ is_value (cell c.before.before.before.before.before.args.w c.before.before.before.before.before.args.l.now 0))
-    × (c.put-short.new.1.0 ≡ stored (cell c.before.before.before.before.before.args.w c.before.before.before.before.before.args.l.now 0) c.before.before.before.before.before.args.c.now 1)
+told : (c : tie.After-put_short)
+    → (c.put_short.result ≡ is_value (cell c.args.w c.args.l.now 0))
+    × (c.put_short.new.c ≡ stored (cell c.args.w c.args.l.now 0) c.args.c.now 1)
 unfolding cell
 told c =
-    let e : 1 + 0 * c.before.before.before.before.before.args.w ≡ 1 = omega arith in
-    (rw (c.put-short.ensures.0, add-sub_cancel_left, e), rw (c.put-short.ensures.1, add-sub_cancel_left, e))
+    let e : 1 + 0 * c.args.w ≡ 1 = omega arith in
+    (rw (c.put_short.ensures.0, add-sub_cancel_left, e), rw (c.put_short.ensures.1, add-sub_cancel_left, e))
 
 -- and the text's length is that of the text
-text : (c : tie.After-text-length) → c.length_of_text.result ≡ text_length (take (4 * c.before.before.before.before.before.before.before.before.before.before.args.w) (drop (1 + c.before.before.before.before.before.before.before.before.before.before.args.w) c.before.before.before.before.before.before.before.before.before.before.args.l.now))
+text : (c : tie.After-text_length) → c.text_length.result ≡ text_length (take (4 * c.args.w) (drop (1 + c.args.w) c.args.l.now))
 text c =
-    let w = c.before.before.before.before.before.before.before.before.before.before.args.w in
+    let w = c.args.w in
     let e : 5 * w + 1 - (1 + w) ≡ 4 * w = omega arith in
-    rw (c.length_of_text.ensures, e)
+    rw (c.text_length.ensures, e)
 
-returns : tie.Need-returns
+returns : tie.Need-returns-then-not-put_short
 returns c =
-    let a = c.before.before.before.before.before.before.before.before.args in
-    number_none a.w a.l.now _ (sym (told c.before.before.before).0 ∙ not-true c.before.before.before.put-short.result c.if1.true)
+    let a = c.args in
+    number_none a.w a.l.now _ (sym (told c.before.before.before).0 ∙ c.if-not-put_short.true)
 
-returns-2 : tie.Need-returns-2
+returns-2 : tie.Need-returns-then-text_length-eq0
 returns-2 c =
-    let a = c.before.before.before.before.before.before.before.before.before.before.before.args in
-    text_none a.w a.l.now _ (sym (text c.before) ∙ c.if2.true)
+    let a = c.args in
+    text_none a.w a.l.now _ (sym (text c.before) ∙ c.if-text_length-eq0.true)
 
-returns-3 : tie.Need-returns-3
+returns-3 : tie.Need-returns
 returns-3 c =
-    let a = c.before.before.before.before.before.before.before.before.before.before.before.before.before.before.before in
-    let p = c.before.before.before.before.before.before.before.before.before.before in
-    let q = c.before.before.before.before.before.before.before in
-    let e = told p in
-    let v : is_value (cell a.args.w a.args.l.now 0) ≡ true = sym e.0 ∙ not-false p.put-short.result q.if1.false in
-    let n : cell a.args.w a.args.l.now 0 ≡ Value (get_or p.put-short.new.1.0 1 0) = rw e.1 (stored_value _ a.args.c.now 1 (omega (arith, a.requires.3)) v) in
-    named_put a.args.w a.args.l.now _ (get_or p.put-short.new.1.0 1 0) n (omega (arith, text c.before.before.before.before.before, c.before.before.before.before.if2.false)) c.before.before.put-name.ensures
+    let a = c in
+    let p = c in
+    let q = c in
+    let e = told p.before.before.before.before.before.before.before.before.before.before in
+    let v : is_value (cell a.args.w a.args.l.now 0) ≡ true = sym e.0 ∙ q.if-not-put_short.false in
+    let n : cell a.args.w a.args.l.now 0 ≡ Value (get_or p.put_short.new.c 1 0) = rw e.1 (stored_value _ a.args.c.now 1 (omega (arith, a.requires.3)) v) in
+    named_put a.args.w a.args.l.now _ (get_or p.put_short.new.c 1 0) n (omega (arith, text c.before.before.before.before.before, c.if-text_length-eq0.false)) c.put_name.ensures
 
 pub put_named_spec : {M : Type 1} → statement M
 put_named_spec =

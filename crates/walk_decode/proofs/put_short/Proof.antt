@@ -3,11 +3,11 @@ use borrow.Author.Rules.{rules}
 use Rattle.walk_decode.proofs.put_short.Statement.{statement}
 use Rattle.walk_decode.proofs.put_short.Tie as tie
 
-returns : tie.Need-returns
-returns c = (rw (← c.before.before.before.short-number.ensures, c.before.v.given.1), rw (← c.before.before.before.short-number.ensures, c.before.v.given.1))
+returns : tie.Need-returns-in-Value
+returns c = (rw (← c.short_number.ensures, c.in-Value.is), rw (← c.short_number.ensures, c.in-Value.is))
 
-returns-2 : tie.Need-returns-2
-returns-2 c = (rw (← c.before.before.short-number.ensures, c.enum_told.given.1), rw (← c.before.before.short-number.ensures, c.enum_told.given.1))
+returns-2 : tie.Need-returns-in-Bad
+returns-2 c = (rw (← c.short_number.ensures, c.in-Bad.is), rw (← c.short_number.ensures, c.in-Bad.is))
 
 pub put_short_spec : {M : Type 1} → statement M
 put_short_spec =

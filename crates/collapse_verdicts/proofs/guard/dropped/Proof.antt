@@ -1,6 +1,6 @@
 -- `collapse_verdicts::guard::dropped` meets its contract: the search goes by the names in what the guard goes on through. Assumes nothing.
 use borrow.Author.Rules.{rules}
-use Rattle.collapse_verdicts.specs.GuardLaws.{guard_steps, guarded}
+use Rattle.collapse_verdicts.proofs.GuardLaws.{guard_steps, guarded}
 use Rattle.collapse_verdicts.proofs.guard.dropped.Statement.{statement}
 use Rattle.table_access.specs.Tables.{lines_in}
 use Rattle.collapse_verdicts.proofs.guard.dropped.Tie as tie

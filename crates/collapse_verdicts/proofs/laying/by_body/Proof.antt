@@ -1,7 +1,7 @@
 -- `collapse_verdicts::laying::by_body` meets its contract, by the body kind. Assumes nothing.
 use borrow.Author.Rules.{rules}
 use Rattle.table_declared.specs.DeclLaws.{whole_at}
-use Rattle.collapse_verdicts.specs.LayingLaws.{body_opaque, body_abbrev, body_ctors}
+use Rattle.collapse_verdicts.proofs.LayingLaws.{body_opaque, body_abbrev, body_ctors}
 use Rattle.collapse_verdicts.proofs.laying.by_body.Statement.{statement}
 use Rattle.table_access.specs.Tables.{lines_in}
 use Rattle.collapse_verdicts.proofs.laying.by_body.Tie as tie

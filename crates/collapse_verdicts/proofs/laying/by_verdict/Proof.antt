@@ -1,7 +1,7 @@
 -- `collapse_verdicts::laying::by_verdict` meets its contract, by the V line's second number. Assumes nothing.
 use mathlib.Core.Path.{sym, ◌∙◌}
 use borrow.Author.Rules.{rules}
-use Rattle.collapse_verdicts.specs.LayingLaws.{import_erased, import_newtype, import_struct, import_abbrev, import_plain, import_opaque}
+use Rattle.collapse_verdicts.proofs.LayingLaws.{import_erased, import_newtype, import_struct, import_abbrev, import_plain, import_opaque}
 use Rattle.collapse_verdicts.proofs.laying.by_verdict.Statement.{statement}
 use Rattle.table_access.specs.Tables.{lines_in}
 use Rattle.collapse_verdicts.proofs.laying.by_verdict.Tie as tie

@@ -8,7 +8,7 @@ use Rattle.table_declared.specs.PassedLaws.{decls_within}
 use Rattle.table_access.specs.Tables.{decls_of, lines_in}
 use Rattle.collapse_candidates.specs.CandidatesLaws.{mark_is}
 use Rattle.collapse_verdicts.specs.Laying.{Partly}
-use Rattle.collapse_verdicts.specs.LayingLaws.{partly_none, partly_next, partly_all}
+use Rattle.collapse_verdicts.proofs.LayingLaws.{partly_none, partly_next, partly_all}
 use Rattle.collapse_verdicts.proofs.laying.lay_out.Statement.{statement}
 use Rattle.collapse_verdicts.proofs.laying.lay_out.Tie as tie
 

@@ -1,7 +1,7 @@
 -- `collapse_verdicts::laying::layout_of` meets its contract, by the declaration's letter and mark. Assumes nothing.
 use mathlib.Core.Path.{sym, ◌∙◌}
 use borrow.Author.Rules.{rules}
-use Rattle.collapse_verdicts.specs.LayingLaws.{local_erased, local_kept}
+use Rattle.collapse_verdicts.proofs.LayingLaws.{local_erased, local_kept}
 use Rattle.collapse_verdicts.proofs.laying.layout_of.Statement.{statement}
 use Rattle.table_access.specs.Tables.{lines_in}
 use Rattle.collapse_verdicts.proofs.laying.layout_of.Tie as tie

@@ -5,25 +5,25 @@ use borrow.Author.Rules.{rules}
 use Rattle.pattern_rows.proofs.pattern_lines.good_last.Statement.{statement}
 use Rattle.pattern_rows.proofs.pattern_lines.good_last.Tie as tie
 
-returns : tie.Need-returns
+returns : tie.Need-returns-then-kind-le2
 unfolding good_last
-returns c = let m = c.before in rw (← m.before.number.ensures, le-leb _ _ c.if1.true, ← m.number2.ensures)
+returns c = let m = c in rw (← m.number-kind.ensures, le-leb _ _ c.if-kind-le2.true, ← m.number-last.ensures)
 
-returns-2 : tie.Need-returns-2
+returns-2 : tie.Need-returns-then-last-eq0
 unfolding good_last
-returns-2 c = let m = c.before.before in rw (← m.before.number.ensures, lt-leb _ _ c.before.if1.false, ← m.number2.ensures, c.if2.true)
+returns-2 c = let m = c in rw (← m.number-kind.ensures, lt-leb _ _ c.if-kind-le2.false, ← m.number-last.ensures, c.if-last-eq0.true)
 
-returns-3 : tie.Need-returns-3
+returns-3 : tie.Need-returns-then-kind-eq4
 unfolding good_last
 returns-3 c =
-    let m = c.before.before.before.before in
-    rw (← m.before.number.ensures, c.if3.true, ← m.number2.ensures, ne_eqb _ 0 c.before.before.if2.false, c.before.number3.ensures)
+    let m = c in
+    rw (← m.number-kind.ensures, c.if-kind-eq4.true, ← m.number-last.ensures, ne_eqb _ 0 c.if-last-eq0.false, c.number-field.ensures)
 
-returns-4 : tie.Need-returns-4
+returns-4 : tie.Need-returns
 unfolding good_last
 returns-4 c =
-    let m = c.before.before.before.before in
-    rw (← m.before.number.ensures, lt-leb _ _ c.before.before.before.if1.false, ne_eqb _ 4 c.if3.false, ← m.number2.ensures, ne_eqb _ 0 c.before.before.if2.false, c.before.number3.ensures)
+    let m = c in
+    rw (← m.number-kind.ensures, lt-leb _ _ c.if-kind-le2.false, ne_eqb _ 4 c.if-kind-eq4.false, ← m.number-last.ensures, ne_eqb _ 0 c.if-last-eq0.false, c.number-field.ensures)
 
 pub good_last_spec : {M : Type 1} → statement M
 good_last_spec =

@@ -7,11 +7,11 @@ use Rattle.pattern_rows.proofs.pattern_lines.good_links.Tie as tie
 
 returns : tie.Need-returns
 returns c =
-    let k = c.before.before.before in
-    let m = k.before.before in
-    let s = m.before.before.before in
+    let k = c in
+    let m = k in
+    let s = m in
     let free = link_free (lines_of s.args.q.now) s.args.i s.args.linked.now s.requires.1 s.requires.0.1 in
-    rw (c.both2.ensures, c.before.either.ensures, c.before.before.both.ensures, k.good-link2.ensures, k.before.good_link.ensures, free m.before.number.result, free m.number2.result, ← m.before.number.ensures, ← m.number2.ensures)
+    rw (c.both.ensures, c.either.ensures, c.both-free.ensures, k.good_link-2.ensures, k.good_link.ensures, free m.number-last.result, free m.number-previous.result, ← m.number-last.ensures, ← m.number-previous.ensures)
 
 pub good_links_spec : {M : Type 1} → statement M
 good_links_spec =

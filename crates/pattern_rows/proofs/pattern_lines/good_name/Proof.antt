@@ -5,26 +5,26 @@ use borrow.Author.Rules.{rules}
 use Rattle.pattern_rows.proofs.pattern_lines.good_name.Statement.{statement}
 use Rattle.pattern_rows.proofs.pattern_lines.good_name.Tie as tie
 
-returns : tie.Need-returns
+returns : tie.Need-returns-in-1
 unfolding good_name
-returns c = rw (← c.before.before.number.ensures, c.match.keys1, c.before.number2.ensures)
+returns c = rw (← c.number-kind.ensures, c.in-1.is, c.number-name.ensures)
 
-returns-2 : tie.Need-returns-2
+returns-2 : tie.Need-returns-in-2
 unfolding good_name
-returns-2 c = rw (← c.before.before.number.ensures, c.match.keys2)
+returns-2 c = rw (← c.number-kind.ensures, c.in-2.is)
 
-returns-3 : tie.Need-returns-3
+returns-3 : tie.Need-returns-in-3
 unfolding good_name
-returns-3 c = rw (← c.before.before.number.ensures, c.match.keys3, c.before.number2.ensures)
+returns-3 c = rw (← c.number-kind.ensures, c.in-3.is, c.number-name.ensures)
 
-returns-4 : tie.Need-returns-4
+returns-4 : tie.Need-returns-in-4
 unfolding good_name
-returns-4 c = rw (← c.before.before.number.ensures, c.match.keys4, c.before.number2.ensures)
+returns-4 c = rw (← c.number-kind.ensures, c.in-4.is, c.number-name.ensures)
 
-returns-5 : tie.Need-returns-5
+returns-5 : tie.Need-returns-in_default
 unfolding good_name
 returns-5 c =
-    rw (← c.before.before.number.ensures, ne_eqb _ 2 c.match.rest.0.0.1, ne_eqb _ 1 c.match.rest.0.0.0.1, ne_eqb _ 3 c.match.rest.0.1, ne_eqb _ 4 c.match.rest.1, c.before.number2.ensures)
+    rw (← c.number-kind.ensures, ne_eqb _ 2 c.in_default.in_default-own.rest.0.0.1, ne_eqb _ 1 c.in_default.in_default-own.rest.0.0.0.1, ne_eqb _ 3 c.in_default.in_default-own.rest.0.1, ne_eqb _ 4 c.in_default.in_default-own.rest.1, c.number-name.ensures)
 
 pub good_name_spec : {M : Type 1} → statement M
 good_name_spec =

@@ -6,8 +6,8 @@ use Rattle.pattern_rows.proofs.pattern_lines.good_own.Tie as tie
 
 returns : tie.Need-returns
 returns c =
-    let k = c.before.before in
-    rw (c.both2.ensures, c.before.both.ensures, k.good_name.ensures, k.before.number2.ensures, k.before.before.number.ensures)
+    let k = c in
+    rw (c.both-2.ensures, c.both.ensures, k.good_name.ensures, k.number-field.ensures, k.number-kind.ensures)
 
 pub good_own_spec : {M : Type 1} → statement M
 good_own_spec =

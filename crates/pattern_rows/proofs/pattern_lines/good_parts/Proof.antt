@@ -6,8 +6,8 @@ use Rattle.pattern_rows.proofs.pattern_lines.good_parts.Tie as tie
 
 returns : tie.Need-returns
 returns c =
-    let k = c.before.before in
-    rw (c.both2.ensures, c.before.good_whole.ensures, k.both.ensures, k.before.good_last.ensures, k.before.before.good_previous.ensures)
+    let k = c in
+    rw (c.both-2.ensures, c.good_whole.ensures, k.both.ensures, k.good_last.ensures, k.good_previous.ensures)
 
 pub good_parts_spec : {M : Type 1} → statement M
 good_parts_spec =

@@ -5,21 +5,21 @@ use borrow.Author.Rules.{rules}
 use Rattle.pattern_rows.proofs.pattern_lines.good_previous.Statement.{statement}
 use Rattle.pattern_rows.proofs.pattern_lines.good_previous.Tie as tie
 
-returns : tie.Need-returns
+returns : tie.Need-returns-then-previous-eq0
 unfolding good_previous
-returns c = rw (← c.before.number.ensures, c.if1.true)
+returns c = rw (← c.number-previous.ensures, c.if-previous-eq0.true)
 
-returns-2 : tie.Need-returns-2
+returns-2 : tie.Need-returns-then-field-eq0
 unfolding good_previous
 returns-2 c =
-    let m = c.before.before.before.before in
-    rw (← m.number.ensures, ne_eqb _ 0 c.before.before.before.if1.false, ← c.before.before.number2.ensures, c.if2.true, c.before.number3.ensures)
+    let m = c in
+    rw (← m.number-previous.ensures, ne_eqb _ 0 c.if-previous-eq0.false, ← c.number-field.ensures, c.if-field-eq0.true, c.number-before.ensures)
 
-returns-3 : tie.Need-returns-3
+returns-3 : tie.Need-returns
 unfolding good_previous
 returns-3 c =
-    let m = c.before.before.before.before in
-    rw (← m.number.ensures, ne_eqb _ 0 c.before.before.before.if1.false, ← c.before.before.number2.ensures, ne_eqb _ 0 c.if2.false, c.before.number3.ensures)
+    let m = c in
+    rw (← m.number-previous.ensures, ne_eqb _ 0 c.if-previous-eq0.false, ← c.number-field.ensures, ne_eqb _ 0 c.if-field-eq0.false, c.number-before.ensures)
 
 pub good_previous_spec : {M : Type 1} → statement M
 good_previous_spec =

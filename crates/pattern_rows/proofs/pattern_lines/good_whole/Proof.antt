@@ -9,15 +9,15 @@ use borrow.Author.Rules.{rules}
 use Rattle.pattern_rows.proofs.pattern_lines.good_whole.Statement.{statement}
 use Rattle.pattern_rows.proofs.pattern_lines.good_whole.Tie as tie
 
-returns : tie.Need-returns
+returns : tie.Need-returns-then-i-q
 returns c =
-    let a = c.before.before.args in
-    rw (ne_eqb (suc a.i) (length (lines_of a.q.now)) (λ e. c.if1.true (omega (arith, length_lines_of a.q.now))))
+    let a = c.args in
+    rw (ne_eqb (suc a.i) (length (lines_of a.q.now)) (λ e. c.if-i-q.true (omega (arith, length_lines_of a.q.now))))
 
-returns-2 : tie.Need-returns-2
+returns-2 : tie.Need-returns
 returns-2 c =
-    let a = c.before.before.before.before.before.args in
-    rw (eq-eqb (suc a.i) (length (lines_of a.q.now)) (omega (arith, length_lines_of a.q.now, c.before.before.before.if1.false)), c.both.ensures, c.before.number2.ensures, c.before.before.number.ensures)
+    let a = c.args in
+    rw (eq-eqb (suc a.i) (length (lines_of a.q.now)) (omega (arith, length_lines_of a.q.now, c.if-i-q.false)), c.both.ensures, c.number-2.ensures, c.number.ensures)
 
 pub good_whole_spec : {M : Type 1} → statement M
 good_whole_spec =

@@ -5,7 +5,7 @@ use native.Mathlib.Omega.{arith}
 use borrow.Author.Rules.{rules}
 use Rattle.resolve_outcomes.specs.Outcome as outcome
 use Rattle.resolve_outcomes.specs.Scratch.{part, Says}
-use Rattle.resolve_outcomes.specs.Laws.Scratch.{built_small, built_large, capped_over, capped_under}
+use Rattle.resolve_outcomes.proofs.Laws.Scratch.{built_small, built_large, capped_over, capped_under}
 use Rattle.resolve_outcomes.proofs.sums.built.Statement.{statement}
 use Rattle.resolve_outcomes.proofs.sums.built.Tie as tie
 

@@ -2,7 +2,7 @@
 use mathlib.Core.Path.{sym}
 use native.Mathlib.Omega.{arith}
 use borrow.Author.Rules.{rules}
-use Rattle.resolve_outcomes.specs.Laws.Scratch.{capped_small, capped_large}
+use Rattle.resolve_outcomes.proofs.Laws.Scratch.{capped_small, capped_large}
 use Rattle.resolve_outcomes.proofs.sums.more.Statement.{statement}
 use Rattle.resolve_outcomes.proofs.sums.more.Tie as tie
 

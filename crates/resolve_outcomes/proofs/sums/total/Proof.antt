@@ -4,7 +4,7 @@ use Prim.Native.Nat.{◌+◌, ◌-◌, ◌≤◌}
 use native.Mathlib.Omega.{arith}
 use Rattle.resolve_outcomes.specs.Outcome as outcome
 use Rattle.resolve_outcomes.specs.Scratch.{part, capped}
-use Rattle.resolve_outcomes.specs.Laws.Scratch.{sum_none, sum_more, capped_most}
+use Rattle.resolve_outcomes.proofs.Laws.Scratch.{sum_none, sum_more, capped_most}
 use Rattle.resolve_outcomes.proofs.sums.total.Statement.{statement}
 use Rattle.resolve_outcomes.proofs.sums.total.Tie as tie
 use Rattle.resolve_outcomes.proofs.sums.total.Reads as reads

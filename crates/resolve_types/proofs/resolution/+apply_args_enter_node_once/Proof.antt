@@ -6,7 +6,7 @@ use native.Mathlib.Omega.{arith}
 use lib.ListN.{length}
 use borrow.Author.Rules.{rules}
 use Rattle.resolve_outcomes.specs.Scratch.{part, Nodes}
-use Rattle.resolve_outcomes.specs.Laws.Scratch.{part_same}
+use Rattle.resolve_outcomes.proofs.Laws.Scratch.{part_same}
 use Rattle.resolve_laws.specs.Resolver.{evals_of, call_of, Again, Done}
 use Rattle.resolve_laws.specs.ResolverLaws.{node_var, node_again, node_stop, node_built, node_full, joined_args, node_apply, args_none, again_none, again_kept, args_more, args_again, args_stop, args_full, args_done, unfolded_here, body_here, apply_enter, kid_below, name_within, apply_kept}
 use borrow.Fn.Kinds.{In}

@@ -4,17 +4,17 @@ use Rattle.meaning.specs.Rows.{due}
 use Rattle.row3_order.proofs.steps.due.Statement.{statement}
 use Rattle.row3_order.proofs.steps.due.Tie as tie
 
-returns : tie.Need-returns
+returns : tie.Need-returns-in-Header
 unfolding due
-returns c = rw c.before.before.q.given.1 c.header.ensures
+returns c = rw c.in-Header.is c.header.ensures
 
-returns-2 : tie.Need-returns-2
+returns-2 : tie.Need-returns-in-Within
 unfolding due
-returns-2 c = rw c.before.before.q2.given.1 c.within.ensures
+returns-2 c = rw c.in-Within.is c.within.ensures
 
-returns-3 : tie.Need-returns-3
+returns-3 : tie.Need-returns-in-Broken
 unfolding due
-returns-3 c = rw c.enum_told.given.1
+returns-3 c = rw c.in-Broken.is
 
 pub due_spec : {M : Type 1} → statement M
 due_spec =

@@ -12,42 +12,42 @@ use Rattle.row3_order.proofs.steps.header.Statement.{statement}
 use Rattle.row3_order.proofs.steps.header.Tie as tie
 
 -- what is read is the line's letter
-read : (c : tie.After-letter) → letter (nth_line (lines_of c.before.before.args.t.now) c.before.before.args.i) ≡ c.letter.result
-read c = sym c.letter.ensures
+read : (c : tie.After-letter-letter) → letter (nth_line (lines_of c.args.t.now) c.args.i) ≡ c.letter-letter.result
+read c = sym c.letter-letter.ensures
 
-returns : tie.Need-returns
+returns : tie.Need-returns-in-78
 unfolding due_header
-returns c = rw (read c.before.before, c.before.match.keys1) c.later.ensures
+returns c = rw (read c.before.before, c.in-78.is) c.later.ensures
 
-returns-2 : tie.Need-returns-2
+returns-2 : tie.Need-returns-in-65
 unfolding due_header
-returns-2 c = rw (read c.before.before, c.before.match.keys2) c.later2.ensures
+returns-2 c = rw (read c.before.before, c.in-65.is) c.later-in-65.ensures
 
-returns-3 : tie.Need-returns-3
+returns-3 : tie.Need-returns-in-89
 unfolding due_header
-returns-3 c = rw (read c.before.before, c.before.match.keys3) c.later3.ensures
+returns-3 c = rw (read c.before.before, c.in-89.is) c.later-in-89.ensures
 
-returns-4 : tie.Need-returns-4
+returns-4 : tie.Need-returns-in-68
 returns-4 c =
     rw (
       c.announced.ensures,
-      c.before.before.before.number.ensures,
-      c.before.before.number2.ensures,
-      c.before.number3.ensures,
-      due_head _ _ _ (read c.before.before.before.before.before) c.before.before.before.before.match.keys4,
+      c.number.ensures,
+      c.number-in-68.ensures,
+      c.number-in-68-2.ensures,
+      due_head _ _ _ (read c.before.before.before.before.before) c.in-68.is,
     )
 
-returns-5 : tie.Need-returns-5
+returns-5 : tie.Need-returns-in_default
 unfolding due_header
 returns-5 c =
-    let r = c.match.rest in
+    let r = c.in_default.in_default-own.rest in
     rw (
       read c.before,
-      ne_eqb _ _ r.0.0.0.1,
-      ne_eqb _ _ r.0.0.1,
-      ne_eqb _ _ r.0.1,
-      ne_eqb _ _ (λ e. r.1 (inl e)),
-      ne_eqb _ _ (λ e. r.1 (inr e)),
+      ne_eqb _ _ c.in_default.in_default-own.rest.0.0.0.1,
+      ne_eqb _ _ c.in_default.in_default-own.rest.0.0.1,
+      ne_eqb _ _ c.in_default.in_default-own.rest.0.1,
+      ne_eqb _ _ (λ e. c.in_default.in_default-own.rest.1 (inl e)),
+      ne_eqb _ _ (λ e. c.in_default.in_default-own.rest.1 (inr e)),
     )
 
 pub header_spec : {M : Type 1} → statement M

@@ -7,8 +7,8 @@ use Rattle.row5_ranges.proofs.decl_lines.good_head.Tie as tie
 returns : tie.Need-returns
 unfolding good_head
 returns c =
-    let m = c.before.before.before in
-    rw (c.both2.ensures, c.before.good_last.ensures, c.before.before.both.ensures, m.number4.ensures, m.before.number3.ensures, m.before.before.number2.ensures, m.before.before.before.number.ensures)
+    let m = c in
+    rw (c.both-2.ensures, c.good_last.ensures, c.both.ensures, m.number-kind.ensures, m.number-last.ensures, m.number-flags.ensures, m.number-name.ensures)
 
 pub good_head_spec : {M : Type 1} → statement M
 good_head_spec =

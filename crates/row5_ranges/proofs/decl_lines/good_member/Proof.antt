@@ -4,55 +4,55 @@ use borrow.Author.Rules.{rules}
 use Rattle.row5_ranges.proofs.decl_lines.good_member.Statement.{statement}
 use Rattle.row5_ranges.proofs.decl_lines.good_member.Tie as tie
 
-number-requires : tie.Need-number-requires
+number-requires : tie.Need-number-name-requires
 number-requires c κs = search rules
 
-cast-name : tie.Need-overflow-cast-name
+cast-name : tie.Need-overflow_cast-name
 cast-name c = search rules
 
-number-requires-2 : tie.Need-number-requires-2
+number-requires-2 : tie.Need-number-second-requires
 number-requires-2 c κs = search rules
 
-cast-second : tie.Need-overflow-cast-second
+cast-second : tie.Need-overflow_cast-second
 cast-second c = search rules
 
-picked-requires : tie.Need-picked-requires
+picked-requires : tie.Need-picked-tested-requires
 picked-requires c κs = search rules
 
-picked-requires-2 : tie.Need-picked-requires-2
+picked-requires-2 : tie.Need-picked-end-requires
 picked-requires-2 c κs = search rules
 
-returns : tie.Need-returns
+returns : tie.Need-returns-then-tested-end
 returns c =
-    let m = c.before.before.before in
-    rw (← m.number2.ensures, ← c.before.before.picked.ensures, ← c.before.picked2.ensures, le-ltb c.before.before.picked.result c.before.picked2.result c.if1.true)
+    let m = c in
+    rw (← m.number-second.ensures, ← c.picked-tested.ensures, ← c.picked-end.ensures, le-ltb c.picked-tested.result c.picked-end.result c.if-tested-end.true)
 
-number-requires-3 : tie.Need-number-requires-3
+number-requires-3 : tie.Need-number-requires
 number-requires-3 c κs = search rules
 
-number-requires-4 : tie.Need-number-requires-4
+number-requires-4 : tie.Need-number-requires-2
 number-requires-4 c κs = search rules
 
-both-requires : tie.Need-both-requires
+both-requires : tie.Need-both-unused-requires
 both-requires c κs = search rules
 
-both-requires-2 : tie.Need-both-requires-2
+both-requires-2 : tie.Need-both-requires
 both-requires-2 c κs = search rules
 
-returns-2 : tie.Need-returns-2
+returns-2 : tie.Need-returns
 returns-2 c =
-    let q = c.before.before.before.before.before in
-    let m = q.before.before in
+    let q = c in
+    let m = q in
     rw (
-      c.both2.ensures,
-      c.before.both.ensures,
-      c.before.before.number4.ensures,
-      c.before.before.before.number3.ensures,
-      ← m.number2.ensures,
-      ← m.before.number.ensures,
-      ← q.before.picked.ensures,
-      ← q.picked2.ensures,
-      lt-ltb q.before.picked.result q.picked2.result c.before.before.before.before.if1.false,
+      c.both.ensures,
+      c.both-unused.ensures,
+      c.number-2.ensures,
+      c.number.ensures,
+      ← m.number-second.ensures,
+      ← m.number-name.ensures,
+      ← q.picked-tested.ensures,
+      ← q.picked-end.ensures,
+      lt-ltb q.picked-tested.result q.picked-end.result c.if-tested-end.false,
     )
 
 pub good_member_spec : {M : Type 1} → statement M

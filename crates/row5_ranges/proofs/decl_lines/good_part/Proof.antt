@@ -14,41 +14,41 @@ use borrow.Author.Rules.{rules}
 use Rattle.row5_ranges.proofs.decl_lines.good_part.Statement.{statement}
 use Rattle.row5_ranges.proofs.decl_lines.good_part.Tie as tie
 
-letter-requires : tie.Need-letter-requires
+letter-requires : tie.Need-letter-letter-requires
 letter-requires c κs = search rules
 
-good-later-requires : tie.Need-good-later-requires
+good-later-requires : tie.Need-good_later-requires
 good-later-requires c κs = search rules
 
-returns : tie.Need-returns
+returns : tie.Need-returns-then-letter-gt70
 returns c = search rules
 
-good-head-requires : tie.Need-good-head-requires
+good-head-requires : tie.Need-good_head-requires
 good-head-requires c κs = search rules
 
-returns-2 : tie.Need-returns-2
+returns-2 : tie.Need-returns-then-letter-eq68
 unfolding good_numbers
 returns-2 c =
-    let m = c.before.before.before in
-    let p = m.before.before.requires in
-    rw (c.good_head.ensures, ← m.letter.ensures, c.before.if2.true, ← p.0.names_are, ← p.0.types_are)
+    let m = c in
+    let p = m.requires in
+    rw (c.good_head.ensures, ← m.letter-letter.ensures, c.if-letter-eq68.true, ← p.0.names_are, ← p.0.types_are)
 
-good-member-requires : tie.Need-good-member-requires
+good-member-requires : tie.Need-good_member-requires
 good-member-requires c κs = search rules
 
-returns-3 : tie.Need-returns-3
+returns-3 : tie.Need-returns
 unfolding good_numbers
 returns-3 c =
-    let m = c.before.before.before in
-    let s = m.before.before in
+    let m = c in
+    let s = m in
     let a = s.args in
     let p = s.requires in
-    let x = m.letter.result in
-    let e = m.letter.ensures in
+    let x = m.letter-letter.result in
+    let e = m.letter-letter.ensures in
     let ls = lines_of a.t.now in
     let l = nth_line ls a.i in
     let i : a.i < length ls = omega (arith, p.1, length_lines_of a.t.now) in
-    let k = (lettered ls p.0.in_order a.i (omega (arith, p.0.names_are, p.0.args_are, p.0.types_are, p.1)) i).member (omega (arith, c.before.before.if1.false)) (λ q. c.before.if2.false (e ∙ q)) in
+    let k = (lettered ls p.0.in_order a.i (omega (arith, p.0.names_are, p.0.args_are, p.0.types_are, p.1)) i).member (omega (arith, c.if-letter-gt70.false)) (λ q. c.if-letter-eq68.false (e ∙ q)) in
     ⊎_elim
     (λ (q : letter l ≡ 67). rw (c.good_member.ensures, e, q, ← (ctor_good a.names a.types l), ← p.0.names_are))
     (λ (q : letter l ≡ 70). rw (c.good_member.ensures, e, q, ← (field_good a.names a.types l), ← p.0.names_are, ← p.0.types_are))

@@ -11,66 +11,66 @@ use Rattle.row5_ranges.specs.TypeListsLaws.{too_high, list_empty, list_past, lis
 use Rattle.row5_ranges.proofs.type_lists.is_list.Statement.{statement}
 use Rattle.row5_ranges.proofs.type_lists.is_list.Tie as tie
 
-abbrev invariant-loop : tie.invariant-loop
+abbrev invariant-loop : tie.invariant-loop-j
 invariant-loop t names args types y at k from j₀ j = (j ≤ k) × (first (too_high (types_of (lines_of t)) y at) j ≡ j)
 
-abbrev decreases-loop : tie.decreases-loop
+abbrev decreases-loop : tie.decreases-loop-j
 decreases-loop t names args types y at k from j₀ j = k - j
 
-returns : tie.Need-returns invariant-loop decreases-loop
+returns : tie.Need-returns-then-k-eq0 invariant-loop decreases-loop
 returns c =
-    let a = c.before.before.args in
-    sym (list_empty (types_of (lines_of a.t.now)) a.y a.at a.k c.if1.true)
+    let a = c.args in
+    sym (list_empty (types_of (lines_of a.t.now)) a.y a.at a.k c.if-k-eq0.true)
 
-returns-2 : tie.Need-returns-2 invariant-loop decreases-loop
+returns-2 : tie.Need-returns-then-at-k invariant-loop decreases-loop
 returns-2 c =
-    let a = c.before.before.before.args in
-    sym (list_past (types_of (lines_of a.t.now)) a.y a.at a.k c.before.if1.false (omega (arith, args_length (lines_of a.t.now) a.names a.args a.types c.before.before.before.requires.0)))
+    let a = c.args in
+    sym (list_past (types_of (lines_of a.t.now)) a.y a.at a.k c.if-k-eq0.false (omega (arith, args_length (lines_of a.t.now) a.names a.args a.types c.requires.0)))
 
-add-from : tie.Need-overflow-add-from invariant-loop decreases-loop
+add-from : tie.Need-overflow_add-from invariant-loop decreases-loop
 add-from c =
-    let a = c.before.before.before.args in
-    let p = c.before.before.before.requires.0 in
+    let a = c.args in
+    let p = c.requires.0 in
     omega (arith, args_within (lines_of a.t.now) a.names a.args a.types p, length_lines_of a.t.now)
 
-loop-holds : tie.Need-loop-init invariant-loop decreases-loop
+loop-holds : tie.Need-loop-j-init invariant-loop decreases-loop
 unfolding first
 loop-holds c = (omega arith, refl)
 
-add-number : tie.Need-overflow-add-number invariant-loop decreases-loop
+add-number : tie.Need-overflow_add-from-in-loop-j invariant-loop decreases-loop
 add-number c =
-    let a = c.before.before.before.before.before.args in
-    let p = c.before.before.before.before.before.requires.0 in
+    let a = c.args in
+    let p = c.requires.0 in
     omega (arith, args_within (lines_of a.t.now) a.names a.args a.types p, length_lines_of a.t.now)
 
 number-requires : tie.Need-number-requires invariant-loop decreases-loop
 number-requires c κs =
-    let a = c.before.before.before.before.before.args in
-    let p = c.before.before.before.before.before.requires.0 in
+    let a = c.args in
+    let p = c.requires.0 in
     (omega (arith, args_within (lines_of a.t.now) a.names a.args a.types p, length_lines_of a.t.now), omega arith)
 
-returns-3 : tie.Need-returns-3 invariant-loop decreases-loop
+returns-3 : tie.Need-returns-then-number-y invariant-loop decreases-loop
 returns-3 c =
-    let a = c.before.before.before.before.before.before.before.args in
-    let p = c.before.before.before.before.before.before.before.requires.0 in
-    let j = c.before.before.before.loop.j in
+    let a = c.args in
+    let p = c.requires.0 in
+    let j = c.loop-j.j in
     let t = arg_type_from (lines_of a.t.now) a.names a.args a.types p a.at j (omega arith) in
-    sym (list_found (types_of (lines_of a.t.now)) a.y a.at a.k c.before.before.before.before.before.if1.false (omega (arith, args_length (lines_of a.t.now) a.names a.args a.types p)) j (omega arith) (omega (arith, t, c.before.number.ensures)))
+    sym (list_found (types_of (lines_of a.t.now)) a.y a.at a.k c.if-k-eq0.false (omega (arith, args_length (lines_of a.t.now) a.names a.args a.types p)) j (omega arith) (omega (arith, t, c.number.ensures)))
 
-loop-again : tie.Need-loop-preserved invariant-loop decreases-loop
+loop-again : tie.Need-loop-j-preserved invariant-loop decreases-loop
 loop-again c =
-    let a = c.before.before.before.before.before.before.before.args in
-    let p = c.before.before.before.before.before.before.before.requires.0 in
-    let o = c.before.before.before.loop in
+    let a = c.args in
+    let p = c.requires.0 in
+    let o = c.loop-j in
     let t = arg_type_from (lines_of a.t.now) a.names a.args a.types p a.at o.j (omega arith) in
-    (omega arith, list_more (types_of (lines_of a.t.now)) a.y a.at o.j (omega (arith, t, c.before.number.ensures)) o.invariant.1)
+    (omega arith, list_more (types_of (lines_of a.t.now)) a.y a.at o.j (omega (arith, t, c.number.ensures)) o.invariant.1)
 
-returns-4 : tie.Need-returns-4 invariant-loop decreases-loop
+returns-4 : tie.Need-returns invariant-loop decreases-loop
 returns-4 c =
-    let a = c.before.before.before.before.before.args in
-    let p = c.before.before.before.before.before.requires.0 in
-    let e : c.before.loop.j ≡ a.k = omega arith in
-    sym (list_all (types_of (lines_of a.t.now)) a.y a.at a.k c.before.before.before.if1.false (omega (arith, args_length (lines_of a.t.now) a.names a.args a.types p)) (rw e at c.before.loop.invariant.1))
+    let a = c.args in
+    let p = c.requires.0 in
+    let e : c.loop-j.j ≡ a.k = omega arith in
+    sym (list_all (types_of (lines_of a.t.now)) a.y a.at a.k c.if-k-eq0.false (omega (arith, args_length (lines_of a.t.now) a.names a.args a.types p)) (rw e at c.loop-j.invariant.1))
 
 pub is_list_spec : {M : Type 1} → statement M
 is_list_spec =

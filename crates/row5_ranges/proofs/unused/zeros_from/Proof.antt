@@ -10,33 +10,33 @@ use Rattle.row5_ranges.specs.UnusedLaws.{stray, zeros_start, zeros_more, zeros_f
 use Rattle.row5_ranges.proofs.unused.zeros_from.Statement.{statement}
 use Rattle.row5_ranges.proofs.unused.zeros_from.Tie as tie
 
-abbrev invariant-loop : tie.invariant-loop
+abbrev invariant-loop : tie.invariant-loop-j
 invariant-loop t i k j₀ j = (k ≤ j) × (first (stray k (nth_line (lines_of t) i)) j ≡ j)
 
-abbrev decreases-loop : tie.decreases-loop
+abbrev decreases-loop : tie.decreases-loop-j
 decreases-loop t i k j₀ j = 5 - j
 
-loop-holds : tie.Need-loop-init invariant-loop decreases-loop
+loop-holds : tie.Need-loop-j-init invariant-loop decreases-loop
 loop-holds c =
-    let a = c.before.args in
+    let a = c.args in
     (omega arith, zeros_start a.k (nth_line (lines_of a.t.now) a.i))
 
-returns : tie.Need-returns invariant-loop decreases-loop
+returns : tie.Need-returns-then-number-ne0 invariant-loop decreases-loop
 returns c =
-    let a = c.before.before.before.before.before.args in
-    let o = c.before.before.before.loop in
-    sym (zeros_found a.k (nth_line (lines_of a.t.now) a.i) o.j o.invariant.0 (omega arith) (λ e. c.if1.true (c.before.number.ensures ∙ e)))
+    let a = c.args in
+    let o = c.loop-j in
+    sym (zeros_found a.k (nth_line (lines_of a.t.now) a.i) o.j o.invariant.0 (omega arith) (λ e. c.if-number-ne0.true (c.number.ensures ∙ e)))
 
-loop-again : tie.Need-loop-preserved invariant-loop decreases-loop
+loop-again : tie.Need-loop-j-preserved invariant-loop decreases-loop
 loop-again c =
-    let a = c.before.before.before.before.before.args in
-    let o = c.before.before.before.loop in
-    (omega arith, zeros_more a.k (nth_line (lines_of a.t.now) a.i) o.j o.invariant.0 (sym c.before.number.ensures ∙ c.if1.false) o.invariant.1)
+    let a = c.args in
+    let o = c.loop-j in
+    (omega arith, zeros_more a.k (nth_line (lines_of a.t.now) a.i) o.j o.invariant.0 (sym c.number.ensures ∙ c.if-number-ne0.false) o.invariant.1)
 
-returns-2 : tie.Need-returns-2 invariant-loop decreases-loop
+returns-2 : tie.Need-returns invariant-loop decreases-loop
 returns-2 c =
-    let a = c.before.before.before.args in
-    let o = c.before.loop in
+    let a = c.args in
+    let o = c.loop-j in
     sym (zeros_all a.k (nth_line (lines_of a.t.now) a.i) o.j (omega arith) o.invariant.1)
 
 pub zeros_from_spec : {M : Type 1} → statement M

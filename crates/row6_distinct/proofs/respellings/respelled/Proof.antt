@@ -9,7 +9,7 @@ use Rattle.number_words.specs.Word.{key_of}
 use Rattle.sheet.specs.Sheet.{first, count, lines}
 use Rattle.meaning.specs.Program.{name_line}
 use Rattle.meaning.specs.Rows.{count_of}
-use Rattle.sheet.specs.FirstLaws.{first_more, first_found}
+use Rattle.sheet.proofs.FirstLaws.{first_more, first_found}
 use Rattle.row6_spellings.specs.Spellings.{respelled, text_at}
 use Rattle.row6_spellings.specs.SpellingsLaws.{name_counted, respelled_at, respelled_none}
 use Rattle.row6_distinct.specs.Keys.{Last, Lasts, Befores, lasts_none, befores_none, lasts_more, befores_more, text_at_length, names_few}

@@ -5,23 +5,23 @@ use borrow.Author.Rules.{rules}
 use Rattle.row7_verdicts.proofs.verdict_lines.good_verdict.Statement.{statement}
 use Rattle.row7_verdicts.proofs.verdict_lines.good_verdict.Tie as tie
 
-returns : tie.Need-returns
+returns : tie.Need-returns-then-as_record-gt1
 unfolding good_verdict
 returns c =
-    let m = c.before in
-    rw (← m.before.before.number3.ensures, lt-leb _ _ c.if1.true)
+    let m = c in
+    rw (← m.number-as_record.ensures, lt-leb _ _ c.if-as_record-gt1.true)
 
-returns-2 : tie.Need-returns-2
+returns-2 : tie.Need-returns-in-0
 unfolding good_verdict
 returns-2 c =
-    let m = c.before.before in
-    rw (← m.before.before.number3.ensures, le-leb _ _ c.before.if1.false, ← m.before.before.before.number2.ensures, c.match.keys1, ← m.before.before.before.before.number.ensures)
+    let m = c in
+    rw (← m.number-as_record.ensures, le-leb _ _ c.if-as_record-gt1.false, ← m.number-layout.ensures, c.in-0.is, ← m.number-erased.ensures)
 
-returns-3 : tie.Need-returns-3
+returns-3 : tie.Need-returns-in_default
 unfolding good_verdict
 returns-3 c =
-    let m = c.before.before.before.before in
-    rw (c.both.ensures, c.before.good_layout.ensures, ← m.before.before.number3.ensures, le-leb _ _ c.before.before.before.if1.false, ← m.before.before.before.number2.ensures, ne_eqb _ _ c.before.before.match.rest.1, ← m.before.before.before.before.number.ensures, m.number5.ensures, m.before.number4.ensures)
+    let m = c in
+    rw (c.both.ensures, c.good_layout.ensures, ← m.number-as_record.ensures, le-leb _ _ c.if-as_record-gt1.false, ← m.number-layout.ensures, ne_eqb _ _ c.in_default.in_default-own.rest.1, ← m.number-erased.ensures, m.number-last.ensures, m.number-kind.ensures)
 
 pub good_verdict_spec : {M : Type 1} → statement M
 good_verdict_spec =

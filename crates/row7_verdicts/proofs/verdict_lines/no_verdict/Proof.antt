@@ -5,8 +5,8 @@ use Rattle.row7_verdicts.proofs.verdict_lines.no_verdict.Tie as tie
 
 returns : tie.Need-returns
 returns c =
-    let m = c.before.before in
-    rw (c.both2.ensures, c.before.both.ensures, m.number3.ensures, m.before.number2.ensures, m.before.before.number.ensures)
+    let m = c in
+    rw (c.both-2.ensures, c.both.ensures, m.number-as_record.ensures, m.number-layout.ensures, m.number-erased.ensures)
 
 pub no_verdict_spec : {M : Type 1} → statement M
 no_verdict_spec =

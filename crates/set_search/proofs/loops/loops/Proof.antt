@@ -9,51 +9,51 @@ use Rattle.set_search.specs.LoopsLaws.{looped_more}
 use Rattle.set_search.proofs.loops.loops.Statement.{statement}
 use Rattle.set_search.proofs.loops.loops.Tie as tie
 
-abbrev invariant-loop : tie.invariant-loop
+abbrev invariant-loop : tie.invariant-loop-k
 invariant-loop steps words starts none marks₀ queue₀ found₀ n k₀ marks queue found k =
     (k ≤ length starts) × (length marks ≡ length marks₀) × (length queue ≡ length queue₀) × Looped (spec.steps (length starts) words steps) starts none k found₀ found
 
-abbrev decreases-loop : tie.decreases-loop
+abbrev decreases-loop : tie.decreases-loop-k
 decreases-loop steps words starts none marks₀ queue₀ found₀ n k₀ marks queue found k = length starts - k
 
-loop-holds : tie.Need-loop-init invariant-loop decreases-loop
+loop-holds : tie.Need-loop-k-init invariant-loop decreases-loop
 loop-holds c = (omega arith, refl, refl, record { long = refl; marked = λ i l. absurd (omega arith) })
 
 mark-requires : tie.Need-mark-requires invariant-loop decreases-loop
 mark-requires c κs =
-    let p = c.before.before.before.before.before.before.before.before.before.requires in
-    let s = c.before.before.before.loop in
-    (p.0, (c.before.before.loop-test.true, (omega (arith, p.1.0, s.invariant.1), omega (arith, p.1.1.0, s.invariant.2))))
+    let p = c.requires in
+    let s = c.loop-k in
+    (p.0, (c.loop-k-test.true, (omega (arith, p.1.0, s.invariant.1), omega (arith, p.1.1.0, s.invariant.2))))
 
-slice-write-found : tie.Need-slice-write-found invariant-loop decreases-loop
-slice-write-found c = omega (arith, c.before.before.before.before.before.before.before.loop-test.true, c.before.before.before.before.before.before.before.before.loop.invariant.3.long, c.before.before.before.before.before.before.before.before.before.before.before.before.before.before.requires.1.1.1)
+slice-write-found : tie.Need-bounds-found-k invariant-loop decreases-loop
+slice-write-found c = omega (arith, c.loop-k-test.true, c.loop-k.invariant.3.long, c.requires.1.1.1)
 
-add-k : tie.Need-overflow-add-k invariant-loop decreases-loop
-add-k c = omega (arith, c.before.before.before.before.before.before.before.loop-test.true)
+add-k : tie.Need-overflow_step-k invariant-loop decreases-loop
+add-k c = omega (arith, c.loop-k-test.true)
 
-loop-less : tie.Need-loop-smaller invariant-loop decreases-loop
-loop-less c = omega (arith, c.before.before.before.before.before.before.before.loop-test.true)
+loop-less : tie.Need-loop-k-smaller invariant-loop decreases-loop
+loop-less c = omega (arith, c.loop-k-test.true)
 
-loop-again : tie.Need-loop-preserved invariant-loop decreases-loop
+loop-again : tie.Need-loop-k-preserved invariant-loop decreases-loop
 loop-again c =
-    let s = c.before.before.before.before.before.before.before.before.loop in
-    let r = c.before.before.before.before.mark in
-    let t = c.before.before.before.before.before.before.before.loop-test.true in
-    (omega (arith, t), r.auto.1.1.1.1.1.0 ∙ s.invariant.1, r.auto.1.1.1.1.1.1.0 ∙ s.invariant.2, looped_more _ _ _ _ _ _ _ (omega (arith, t, c.before.before.before.before.before.before.before.before.before.before.before.before.before.before.requires.1.1.1)) r.ensures s.invariant.3)
+    let s = c.loop-k in
+    let r = c.mark in
+    let t = c.loop-k-test.true in
+    (omega (arith, t), r.auto.1.1.1.1.1.0 ∙ s.invariant.1, r.auto.1.1.1.1.1.1.0 ∙ s.invariant.2, looped_more _ _ _ _ _ _ _ (omega (arith, t, c.requires.1.1.1)) r.ensures s.invariant.3)
 
-same_length : tie.Need-same-length invariant-loop decreases-loop
-same_length c = c.before.loop.invariant.1
+same_length : tie.Need-shape_of-marks invariant-loop decreases-loop
+same_length c = c.loop-k.invariant.1
 
-same-length-2 : tie.Need-same-length-2 invariant-loop decreases-loop
-same-length-2 c = c.before.loop.invariant.2
+same-length-2 : tie.Need-shape_of-queue invariant-loop decreases-loop
+same-length-2 c = c.loop-k.invariant.2
 
-same-length-3 : tie.Need-same-length-3 invariant-loop decreases-loop
-same-length-3 c = c.before.loop.invariant.3.long
+same-length-3 : tie.Need-shape_of-found invariant-loop decreases-loop
+same-length-3 c = c.loop-k.invariant.3.long
 
 returns : tie.Need-returns invariant-loop decreases-loop
 returns c =
-    let l = c.before.loop in
-    let e : l.k ≡ length c.before.before.before.before.before.before.before.args.starts.now = omega (arith, c.loop-test.false, l.invariant.0) in
+    let l = c.loop-k in
+    let e : l.k ≡ length c.args.starts.now = omega (arith, c.loop-k-test.false, l.invariant.0) in
     rw e at l.invariant.3
 
 pub loops_spec : {M : Type 1} → statement M

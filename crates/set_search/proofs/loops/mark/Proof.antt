@@ -5,13 +5,13 @@ use Rattle.set_search.specs.LoopsLaws.{mark_none, mark_start}
 use Rattle.set_search.proofs.loops.mark.Statement.{statement}
 use Rattle.set_search.proofs.loops.mark.Tie as tie
 
-returns : tie.Need-returns
-returns c = mark_none _ _ _ _ c.if1.true
+returns : tie.Need-returns-then-starts-k
+returns c = mark_none _ _ _ _ c.if-starts-k.true
 
-returns-2 : tie.Need-returns-2
+returns-2 : tie.Need-returns
 returns-2 c =
-    let s = c.before.before.before.before.before in
-    c.is-start.ensures ∙ mark_start _ _ _ _ s.before.before.before.if1.false _ _ s.search.ensures
+    let s = c in
+    c.is_start.ensures ∙ mark_start _ _ _ _ s.if-starts-k.false _ _ s.search-r.ensures
 
 pub mark_spec : {M : Type 1} → statement M
 mark_spec =

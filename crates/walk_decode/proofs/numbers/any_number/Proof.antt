@@ -6,28 +6,28 @@ use borrow.Author.Rules.{rules}
 use Rattle.walk_decode.proofs.numbers.any_number.Statement.{statement}
 use Rattle.walk_decode.proofs.numbers.any_number.Tie as tie
 
-returns : tie.Need-returns
+returns : tie.Need-returns-then-i-n
 returns c =
-    let s = c.before.before.before.args.s.now in
-    sym (front_all s c.before.front.result c.before.front.ensures c.if1.true)
+    let s = c.args.s.now in
+    sym (front_all s c.front-i.result c.front-i.ensures c.if-i-n.true)
 
-returns-2 : tie.Need-returns-2
+returns-2 : tie.Need-returns-then-i-n-2
 returns-2 c =
-    let s = c.before.before.before.before.before.before.args.s.now in
-    let f = c.before.before.before.before.front in
-    sym (front_zero s f.result f.ensures c.if3.true c.before.if2.true)
+    let s = c.args.s.now in
+    let f = c.front-i in
+    sym (front_zero s f.result f.ensures c.if-i-n-2.true c.if-s-i-eq48.true)
 
-returns-3 : tie.Need-returns-3
+returns-3 : tie.Need-returns-then-s-i-eq48
 returns-3 c =
-    let s = c.before.before.before.before.before.before.args.s.now in
-    let f = c.before.before.before.before.front in
-    sym (front_zeros s f.result f.ensures (omega arith) c.if3.false c.before.if2.true)
+    let s = c.args.s.now in
+    let f = c.front-i in
+    sym (front_zeros s f.result f.ensures (omega arith) c.if-i-n-2.false c.if-s-i-eq48.true)
 
-returns-4 : tie.Need-returns-4
+returns-4 : tie.Need-returns
 returns-4 c =
-    let s = c.before.before.before.before.before.before.args.s.now in
-    let f = c.before.before.before.before.front in
-    c.digits.ensures ∙ front_digits s f.result f.ensures (omega arith) c.before.if2.false
+    let s = c.args.s.now in
+    let f = c.front-i in
+    c.digits.ensures ∙ front_digits s f.result f.ensures (omega arith) c.if-s-i-eq48.false
 
 pub any_number_spec : {M : Type 1} → statement M
 any_number_spec =

@@ -10,14 +10,14 @@ use Rattle.walk_decode.specs.NumberLaws.{read_six, four_front}
 use Rattle.walk_decode.proofs.numbers.number.Statement.{statement}
 use Rattle.walk_decode.proofs.numbers.number.Tie as tie
 
-returns-2 : tie.Need-returns-2
+returns-2 : tie.Need-returns
 returns-2 c =
-    let a = c.before.before.before.before in
+    let a = c in
     let s = a.args.s.now in
     let f : (j : ℕ) → j < length s - 6 → get_or s j 0 ≡ 32 = ⊎_elim
     (λ w. four_front s a.requires.1 (sym w.5.ensures ∙ not-false w.5.result w.6.left))
     (λ w j h. absurd (omega (arith, w.left)))
-    c.before.before.if1.branch in
+    c.if-n-gt6.branch in
     c.six.ensures ∙ read_six s a.requires.0 f
 
 pub number_spec : {M : Type 1} → statement M

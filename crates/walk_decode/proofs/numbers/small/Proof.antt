@@ -6,33 +6,33 @@ use Rattle.walk_decode.specs.NumberLaws.{read_pair, read_three}
 use Rattle.walk_decode.proofs.numbers.small.Statement.{statement}
 use Rattle.walk_decode.proofs.numbers.small.Tie as tie
 
-cast-pair : tie.Need-overflow-cast-pair
-cast-pair c = omega (arith, c.shared-slice-known6.given 4)
+cast-pair : tie.Need-overflow_cast-s
+cast-pair c = omega (arith, c.shared_slice_known-then-four_spaces-1.given 4)
 
-cast-pair-2 : tie.Need-overflow-cast-pair-2
-cast-pair-2 c = omega (arith, c.shared-slice-known7.given 5)
+cast-pair-2 : tie.Need-overflow_cast-s-then-four_spaces
+cast-pair-2 c = omega (arith, c.shared_slice_known-then-four_spaces-2-1.given 5)
 
-returns : tie.Need-returns
+returns : tie.Need-returns-then-four_spaces
 returns c =
-    let b = c.before.before.before in
-    let a = b.before.before.before.before.before.before.before in
-    let e = sym b.before.four-spaces.ensures ∙ b.if1.true in
+    let b = c in
+    let a = b in
+    let e = sym b.four_spaces.ensures ∙ b.if-four_spaces.true in
     λ h. sym (read_pair a.args.s.now 6 a.requires (omega arith) (omega arith) e e) ∙ c.pair.ensures h
 
-cast-three : tie.Need-overflow-cast-three
-cast-three c = omega (arith, c.shared-slice-known8.given 3)
+cast-three : tie.Need-overflow_cast-s-then-three_spaces
+cast-three c = omega (arith, c.shared_slice_known-then-three_spaces-1.given 3)
 
-cast-three-2 : tie.Need-overflow-cast-three-2
-cast-three-2 c = omega (arith, c.shared-slice-known9.given 4)
+cast-three-2 : tie.Need-overflow_cast-s-then-three_spaces-2
+cast-three-2 c = omega (arith, c.shared_slice_known-then-three_spaces-2-1.given 4)
 
-cast-three-3 : tie.Need-overflow-cast-three-3
-cast-three-3 c = omega (arith, c.shared-slice-known10.given 5)
+cast-three-3 : tie.Need-overflow_cast-s-then-three_spaces-3
+cast-three-3 c = omega (arith, c.shared_slice_known-then-three_spaces-3-1.given 5)
 
-returns-2 : tie.Need-returns-2
+returns-2 : tie.Need-returns-then-three_spaces
 returns-2 c =
-    let b = c.before.before.before.before in
-    let a = b.before.before.before.before.before.before.before.before.before in
-    λ h. sym (read_three a.args.s.now a.requires (sym b.before.three-spaces.ensures ∙ b.if2.true)) ∙ c.three.ensures h
+    let b = c in
+    let a = b in
+    λ h. sym (read_three a.args.s.now a.requires (sym b.three_spaces.ensures ∙ b.if-three_spaces.true)) ∙ c.three.ensures h
 
 pub small_spec : {M : Type 1} → statement M
 small_spec =

@@ -5,9 +5,9 @@ use Rattle.walk_decode.specs.NumberLaws.{three_digits}
 use Rattle.walk_decode.proofs.numbers.three.Statement.{statement}
 use Rattle.walk_decode.proofs.numbers.three.Tie as tie
 
-returns-7 : tie.Need-returns-7
+returns-7 : tie.Need-returns
 returns-7 c =
-    let a = c.before.before.before.before.before.before.args in
+    let a = c.args in
     λ _. three_digits a.a a.b a.c (omega arith) (omega arith) (omega arith) (omega arith) (omega arith) (omega arith)
 
 pub three_spec : {M : Type 1} → statement M

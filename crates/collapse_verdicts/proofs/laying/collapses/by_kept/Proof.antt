@@ -2,7 +2,7 @@
 use native.Mathlib.Omega.{arith}
 use borrow.Author.Rules.{rules}
 use Rattle.table_declared.specs.PassedLaws.{fields_few}
-use Rattle.collapse_verdicts.specs.ChosenLaws.{kept_none, kept_some}
+use Rattle.collapse_verdicts.proofs.ChosenLaws.{kept_none, kept_some}
 use Rattle.collapse_verdicts.proofs.laying.collapses.by_kept.Statement.{statement}
 use Rattle.table_access.specs.Tables.{lines_in}
 use Rattle.collapse_verdicts.proofs.laying.collapses.by_kept.Tie as tie

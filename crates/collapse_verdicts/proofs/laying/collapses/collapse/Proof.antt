@@ -2,7 +2,7 @@
 use native.Mathlib.Omega.{arith}
 use borrow.Author.Rules.{rules}
 use Rattle.table_declared.specs.PassedLaws.{fields_few}
-use Rattle.collapse_verdicts.specs.ChosenLaws.{candidate_dropped, candidate_none, candidate_some}
+use Rattle.collapse_verdicts.proofs.ChosenLaws.{candidate_dropped, candidate_none, candidate_some}
 use Rattle.collapse_verdicts.proofs.laying.collapses.collapse.Statement.{statement}
 use Rattle.table_access.specs.Tables.{lines_in}
 use Rattle.collapse_verdicts.proofs.laying.collapses.collapse.Tie as tie

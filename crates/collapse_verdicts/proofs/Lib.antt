@@ -1,0 +1,3 @@
+pub mod GuardLaws
+pub mod ChosenLaws
+pub mod LayingLaws

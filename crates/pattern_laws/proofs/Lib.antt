@@ -1,0 +1,12 @@
+pub mod Cases
+pub mod Pieces
+pub mod Nodes
+pub mod Kept
+pub mod Owners
+pub mod Steps
+pub mod Rewrites
+pub mod Few
+pub mod ReadBack
+pub mod Counts
+pub mod Written
+pub mod Again
