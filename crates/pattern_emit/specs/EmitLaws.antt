@@ -32,6 +32,17 @@ made_from x y l mark flag =
       outer = elim (eqb flag 0) [ true ↦ y.outer ++ pat_vars p | false ↦ y.outer ];
     }
 
+-- What a part that is dropped, or that is no outer one, leaves of the list before it.
+kept_other : (x y : Made) (l : Line) (mark flag : ℕ) → eqb flag 1 ≡ false → (made_from x y l mark flag).kept ≡ y.kept
+unfolding made_from
+kept_other x y l mark flag e =
+    ap (λ (b : Bool). elim b [ true ↦ and_last y.kept (field_of l) (become mark (kind_of l) (name_of l) x.kept) | false ↦ y.kept ]) e
+
+outer_other : (x y : Made) (l : Line) (mark flag : ℕ) → eqb flag 0 ≡ false → (made_from x y l mark flag).outer ≡ y.outer
+unfolding made_from
+outer_other x y l mark flag e =
+    ap (λ (b : Bool). elim b [ true ↦ y.outer ++ pat_vars (become mark (kind_of l) (name_of l) x.kept) | false ↦ y.outer ]) e
+
 -- Line by line: the list that a link ends, and what the line that it names becomes.
 module _ (xs gs : List ℕ) (qs : List Line) (linked : Linked qs) (k : ℕ) (some : 0 < k) (inside : k ≤ length qs) where
   linked_made : made_to (mades xs gs qs) k ≡ made_from (made_to (mades xs gs qs) (last_of (nth_line qs (k - 1)))) (made_to (mades xs gs qs) (previous_of (nth_line qs (k - 1)))) (nth_line qs (k - 1)) (get_or xs (k - 1) 0) (get_or gs (k - 1) 0)
@@ -58,7 +69,7 @@ module _ (xs gs : List ℕ) (qs : List Line) (linked : Linked qs) (k : ℕ) (som
 
   pub kept_dropped : (get_or gs (k - 1) 0 ≡ 1 → ⊥) → (made_to (mades xs gs qs) k).kept ≡ (made_to (mades xs gs qs) (previous_of (nth_line qs (k - 1)))).kept
   unfolding made_from
-  kept_dropped n = ap (λ (m : Made). m.kept) linked_made ∙ rw (ne_eqb (get_or gs (k - 1) 0) 1 n)
+  kept_dropped n = ap (λ (m : Made). m.kept) linked_made ∙ kept_other (made_to (mades xs gs qs) (last_of (nth_line qs (k - 1)))) (made_to (mades xs gs qs) (previous_of (nth_line qs (k - 1)))) (nth_line qs (k - 1)) (get_or xs (k - 1) 0) (get_or gs (k - 1) 0) (ne_eqb (get_or gs (k - 1) 0) 1 n)
 
   pub outer_part : get_or gs (k - 1) 0 ≡ 0 → (made_to (mades xs gs qs) k).outer ≡ (made_to (mades xs gs qs) (previous_of (nth_line qs (k - 1)))).outer ++ pat_vars (made_to (mades xs gs qs) k).pat
   unfolding made_from
@@ -66,7 +77,7 @@ module _ (xs gs : List ℕ) (qs : List Line) (linked : Linked qs) (k : ℕ) (som
 
   pub outer_left : (get_or gs (k - 1) 0 ≡ 0 → ⊥) → (made_to (mades xs gs qs) k).outer ≡ (made_to (mades xs gs qs) (previous_of (nth_line qs (k - 1)))).outer
   unfolding made_from
-  outer_left n = ap (λ (m : Made). m.outer) linked_made ∙ rw (ne_eqb (get_or gs (k - 1) 0) 0 n)
+  outer_left n = ap (λ (m : Made). m.outer) linked_made ∙ outer_other (made_to (mades xs gs qs) (last_of (nth_line qs (k - 1)))) (made_to (mades xs gs qs) (previous_of (nth_line qs (k - 1)))) (nth_line qs (k - 1)) (get_or xs (k - 1) 0) (get_or gs (k - 1) 0) (ne_eqb (get_or gs (k - 1) 0) 0 n)
 
   pub inner_part : (made_to (mades xs gs qs) k).inner ≡ (made_to (mades xs gs qs) (previous_of (nth_line qs (k - 1)))).inner ++ ((made_to (mades xs gs qs) (last_of (nth_line qs (k - 1)))).inner ++ (made_to (mades xs gs qs) (last_of (nth_line qs (k - 1)))).outer)
   unfolding made_from

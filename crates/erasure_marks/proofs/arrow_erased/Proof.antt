@@ -5,7 +5,7 @@ use Rattle.erasure_marks.proofs.arrow_erased.Statement.{statement}
 use Rattle.erasure_marks.proofs.arrow_erased.Tie as tie
 
 returns : tie.Need-returns
-returns c = c.both.ensures ∙ rw (c.before.before.before.type_number.ensures, c.before.before.type-number2.ensures)
+returns c = c.both.ensures ∙ rw (c.type_number-effect.ensures, c.type_number-result.ensures)
 
 pub arrow_erased_spec : {M : Type 1} → statement M
 arrow_erased_spec =

@@ -6,19 +6,19 @@ use Rattle.erasure_marks.specs.MarksLaws.{marks_at, marks_past}
 use Rattle.erasure_marks.proofs.name_erased.Statement.{statement}
 use Rattle.erasure_marks.proofs.name_erased.Tie as tie
 
-returns : tie.Need-returns
+returns : tie.Need-returns-then-d-decl
 unfolding marked
 returns c =
-    let a = c.before.before.before.before.before in
-    let d = c.before.before.decl_of in
+    let a = c in
+    let d = c.decl_of-d in
     rw (← d.ensures) (sym (marks_at a.args.decl.now d.result))
 
-returns-2 : tie.Need-returns-2
+returns-2 : tie.Need-returns
 unfolding marked
 returns-2 c =
-    let a = c.before.before.before.before in
-    let d = c.before.decl_of in
-    rw (← d.ensures) (sym (marks_past a.args.decl.now d.result c.if1.false))
+    let a = c in
+    let d = c.decl_of-d in
+    rw (← d.ensures) (sym (marks_past a.args.decl.now d.result c.if-d-decl.false))
 
 pub name_erased_spec : {M : Type 1} → statement M
 name_erased_spec = tie.close (tie.spec (λ c κs. search rules) (λ c. search rules) returns returns-2)

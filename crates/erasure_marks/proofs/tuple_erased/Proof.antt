@@ -5,15 +5,15 @@ use Rattle.erasure_marks.proofs.tuple_erased.Statement.{statement}
 use Rattle.table_access.specs.Tables.{lines_in}
 use Rattle.erasure_marks.proofs.tuple_erased.Tie as tie
 
-first-kept-requires : tie.Need-first-kept-requires
+first-kept-requires : tie.Need-first_kept-j-requires
 first-kept-requires c κs =
-    let a = c.before.before.before.before.before.before in
-    (a.requires.0, rw (c.before.before.type_number.ensures, c.before.type-number2.ensures) (a.requires.1.listed, a.requires.1.within))
+    let a = c in
+    (a.requires.0, rw (c.type_number-first.ensures, c.type_number-count.ensures) (a.requires.1.listed, a.requires.1.within))
 
 returns : tie.Need-returns
 returns c =
-    let a = c.before.before.before.before.before.before.before in
-    tupled (lines_in a.args.t.now) a.args.node.now a.args.member.now a.args.y c.before.before.before.type_number.result c.before.before.type-number2.result c.first_kept.result a.requires.1.sized c.before.before.before.type_number.ensures c.before.before.type-number2.ensures c.first_kept.ensures
+    let a = c in
+    tupled (lines_in a.args.t.now) a.args.node.now a.args.member.now a.args.y c.type_number-first.result c.type_number-count.result c.first_kept-j.result a.requires.1.sized c.type_number-first.ensures c.type_number-count.ensures c.first_kept-j.ensures
 
 pub tuple_erased_spec : {M : Type 1} → statement M
 tuple_erased_spec =

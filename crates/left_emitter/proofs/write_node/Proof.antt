@@ -17,27 +17,27 @@ few w st at top e = listed_few (node_of w) (take (top - at) (drop at st)) (part_
 
 put-list-requires : tie.Need-put_list-n-requires
 put-list-requires c κs =
-    let a = c.before.before.before.before.before.before.before.before.before.before.before.args in
-    let at = c.before.before.before.before.before.before.before.less.result in
-    let e = c.before.before.before.before.before.before.before.less.ensures ∙ ap (λ (t : ℕ). a.p.waiting - t) c.before.before.before.before.before.before.before.before.children.ensures in
-    omega (arith, c.before.before.before.before.before.before.before.before.before.before.before.requires.args_room, few a.w a.stack.now at a.p.waiting e)
+    let a = c.args in
+    let at = c.less-at.result in
+    let e = c.less-at.ensures ∙ ap (λ (t : ℕ). a.p.waiting - t) c.children.ensures in
+    omega (arith, c.requires.args_room, few a.w a.stack.now at a.p.waiting e)
 
 add-t19 : tie.Need-overflow_add-result
 add-t19 c =
-    let a = c.before.before.before.before.before.before.before.before.before.before.before.before.before.before.before.before.before.before.before.before.args in
-    let at = c.before.before.before.before.before.before.before.before.before.before.before.before.before.before.before.before.less.result in
-    let e = c.before.before.before.before.before.before.before.before.before.before.before.before.before.before.before.before.less.ensures ∙ ap (λ (t : ℕ). a.p.waiting - t) c.before.before.before.before.before.before.before.before.before.before.before.before.before.before.before.before.before.children.ensures in
-    omega (arith, c.before.before.before.before.before.before.before.before.before.before.before.before.before.before.before.before.before.before.before.before.requires.args_few, c.put_list-n.ensures.0, few a.w a.stack.now at a.p.waiting e)
+    let a = c.args in
+    let at = c.less-at.result in
+    let e = c.less-at.ensures ∙ ap (λ (t : ℕ). a.p.waiting - t) c.children.ensures in
+    omega (arith, c.requires.args_few, c.put_list-n.ensures.0, few a.w a.stack.now at a.p.waiting e)
 
 add-t12 : tie.Need-overflow_add-result-3
-add-t12 c = omega (arith, c.before.before.before.before.before.before.before.before.before.before.before.before.before.before.before.before.before.less.ensures, c.before.before.before.before.before.before.before.before.before.before.before.before.before.before.before.before.before.before.before.before.before.requires.waits, c.before.before.before.before.before.before.before.before.before.before.before.before.before.before.before.before.before.before.before.before.before.well_formed.1.0.0)
+add-t12 c = omega (arith, c.less-at.ensures, c.requires.waits, c.well_formed.1.0.0)
 
 returns : tie.Need-returns
 returns c =
-    let a = c.before.before.before.before.before.before.before.before.before.before.before.before.before.before.before.before.before.before.before.before.before.args in
-    let at = c.before.before.before.before.before.before.before.before.before.before.before.before.before.before.before.before.before.less.result in
-    let e = c.before.before.before.before.before.before.before.before.before.before.before.before.before.before.before.before.before.less.ensures ∙ ap (λ (t : ℕ). a.p.waiting - t) c.before.before.before.before.before.before.before.before.before.before.before.before.before.before.before.before.before.before.children.ensures in
-    write_law (node_of a.w) a.p a.out.now _ _ a.stack.now _ at _ e c.before.before.before.before.before.before.before.before.before.before.before.before.before.before.before.before.before.before.before.before.before.requires.waits c.before.before.before.before.before.before.before.before.before.before.before.before.before.before.y-numbers.ensures c.put_list-n.ensures.0 c.put_list-n.ensures.1 c.row_at.ensures
+    let a = c.args in
+    let at = c.less-at.result in
+    let e = c.less-at.ensures ∙ ap (λ (t : ℕ). a.p.waiting - t) c.children.ensures in
+    write_law (node_of a.w) a.p a.out.now _ _ a.stack.now _ at _ e c.requires.waits c.y_numbers-numbers.ensures c.put_list-n.ensures.0 c.put_list-n.ensures.1 c.row_at.ensures
 
 pub write_node_spec : {M : Type 1} → statement M
 write_node_spec =

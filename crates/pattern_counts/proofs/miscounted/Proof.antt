@@ -8,29 +8,29 @@ use borrow.Author.Rules.{rules}
 use Rattle.pattern_counts.proofs.miscounted.Statement.{statement}
 use Rattle.pattern_counts.proofs.miscounted.Tie as tie
 
-returns : tie.Need-returns
-returns c = rw (← c.before.number.ensures, ne_eqb _ 3 c.if1.true)
+returns : tie.Need-returns-then-number-ne-CTOR
+returns c = rw (← c.number.ensures, ne_eqb _ 3 c.if-number-ne-CTOR.true)
 
-shared-slice-read-declared : tie.Need-shared-slice-read-declared
+shared-slice-read-declared : tie.Need-bounds-fields-name
 shared-slice-read-declared c =
-    let e = c.before.before.before in
-    let s = e.before.before.before.before in
-    omega (arith, name_within (length s.args.fields.now) (lines_of s.args.q.now) s.args.i s.requires.1 (rw (← e.before.number.ensures, e.if1.false)), c.before.before.number2.ensures)
+    let e = c in
+    let s = e in
+    omega (arith, name_within (length s.args.fields.now) (lines_of s.args.q.now) s.args.i s.requires.1 (rw (← e.number.ensures, e.if-number-ne-CTOR.false)), c.number-name.ensures)
 
-returns-2 : tie.Need-returns-2
+returns-2 : tie.Need-returns-then-declared-eq0
 returns-2 c =
-    let e = c.before.before.before.before in
-    rw (← e.before.number.ensures, e.if1.false, ← c.before.before.before.number2.ensures, c.if2.true)
+    let e = c in
+    rw (← e.number.ensures, e.if-number-ne-CTOR.false, ← c.number-name.ensures, c.if-declared-eq0.true)
 
-element-copy-out-result : tie.Need-element-copy-out-result
+element-copy-out-result : tie.Need-bounds-ends-last
 element-copy-out-result c =
-    let s = c.before.before.before.before.before.before.before.before in
-    omega (arith, (good_lower (length s.args.fields.now) (lines_of s.args.q.now) s.args.i s.requires.1).last_lower, c.before.before.number3.ensures)
+    let s = c in
+    omega (arith, (good_lower (length s.args.fields.now) (lines_of s.args.q.now) s.args.i s.requires.1).last_lower, c.number-last.ensures)
 
-returns-3 : tie.Need-returns-3
+returns-3 : tie.Need-returns
 returns-3 c =
-    let e = c.before.before.before.before.before in
-    rw (← e.before.number.ensures, e.if1.false, ← c.before.before.before.before.number2.ensures, ← c.before.before.before.number3.ensures, ne_eqb _ 0 c.before.if2.false)
+    let e = c in
+    rw (← e.number.ensures, e.if-number-ne-CTOR.false, ← c.number-name.ensures, ← c.number-last.ensures, ne_eqb _ 0 c.if-declared-eq0.false)
 
 pub miscounted_spec : {M : Type 1} → statement M
 miscounted_spec =

@@ -37,57 +37,57 @@ pub +put_inner_spec : {M : Type 1} → statement M
     put-inner.Post
     -- returns
     (λ c.
-    let s = c.before.before.before.before.before in
+    let s = c in
     let a = s.args in
     let p = s.requires.1 in
-    put_same _ [] _ _ _ _ (none_inner a.q.now a.marks.now a.flags.now a.k c.if1.true) (put_none a.out.now a.at))
+    put_same _ [] _ _ _ _ (none_inner a.q.now a.marks.now a.flags.now a.k c.if-k-eq0.true) (put_none a.out.now a.at))
     (λ c. search rules)
     -- number-requires
     (λ c κs.
-    let s = c.before.before.before.before.before in
+    let s = c in
     let a = s.args in
     let p = s.requires.1 in
-    let some : 0 < a.k = omega (arith, c.if1.false) in
+    let some : 0 < a.k = omega (arith, c.if-k-eq0.false) in
     (omega (arith, p.0.1), omega arith))
     (λ c. search rules)
     (λ c. search rules)
     -- number-requires-2
     (λ c κs.
-    let s = c.before.before.before.before.before.before in
+    let s = c in
     let a = s.args in
     let p = s.requires.1 in
-    let some : 0 < a.k = omega (arith, c.before.if1.false) in
+    let some : 0 < a.k = omega (arith, c.if-k-eq0.false) in
     (omega (arith, p.0.1), omega arith))
     (λ c. search rules)
     -- put-inner-requires
     (λ c κs.
-    let s = c.before.before.before.before.before.before.before.before in
+    let s = c in
     let a = s.args in
     let p = s.requires.1 in
-    let some : 0 < a.k = omega (arith, c.before.before.before.if1.false) in
-    let l = lower_previous a.q.now a.marks.now a.flags.now p.0.0 a.k some p.0.1 _ c.before.before.number.ensures in
-    (omega (arith, s.requires.0), ((p.0.0, omega (arith, p.0.1)), inner_first a.q.now a.marks.now a.flags.now p.0.0 a.k some p.0.1 _ _ a.at a.out.now c.before.before.number.ensures c.before.number2.ensures p.1)))
+    let some : 0 < a.k = omega (arith, c.if-k-eq0.false) in
+    let l = lower_previous a.q.now a.marks.now a.flags.now p.0.0 a.k some p.0.1 _ c.number-previous.ensures in
+    (omega (arith, s.requires.0), ((p.0.0, omega (arith, p.0.1)), inner_first a.q.now a.marks.now a.flags.now p.0.0 a.k some p.0.1 _ _ a.at a.out.now c.number-previous.ensures c.number-last.ensures p.1)))
     -- put-inner-requires-2
     (λ c κs.
-    let s = c.before.before.before.before.before.before.before.before.before.before.before.before in
+    let s = c in
     let a = s.args in
     let p = s.requires.1 in
-    let some : 0 < a.k = omega (arith, c.before.before.before.before.before.before.before.if1.false) in
-    let l = lower_last a.q.now a.marks.now a.flags.now p.0.0 a.k some p.0.1 _ c.before.before.before.before.before.number2.ensures in
-    (omega (arith, s.requires.0), ((p.0.0, omega (arith, p.0.1)), inner_second a.q.now a.marks.now a.flags.now p.0.0 a.k some p.0.1 _ _ a.at a.out.now c.before.before.before.before.before.before.number.ensures c.before.before.before.before.before.number2.ensures p.1 _ _ c.before.before.before.put-inner.ensures)))
+    let some : 0 < a.k = omega (arith, c.if-k-eq0.false) in
+    let l = lower_last a.q.now a.marks.now a.flags.now p.0.0 a.k some p.0.1 _ c.number-last.ensures in
+    (omega (arith, s.requires.0), ((p.0.0, omega (arith, p.0.1)), inner_second a.q.now a.marks.now a.flags.now p.0.0 a.k some p.0.1 _ _ a.at a.out.now c.number-previous.ensures c.number-last.ensures p.1 _ _ c.put_inner-r.ensures)))
     -- put-parts-requires
     (λ c κs.
-    let s = c.before.before.before.before.before.before.before.before.before.before.before.before.before.before.before.before in
+    let s = c in
     let a = s.args in
     let p = s.requires.1 in
-    let some : 0 < a.k = omega (arith, c.before.before.before.before.before.before.before.before.before.before.before.if1.false) in
-    let l = lower_last a.q.now a.marks.now a.flags.now p.0.0 a.k some p.0.1 _ c.before.before.before.before.before.before.before.before.before.number2.ensures in
-    ((p.0.0, omega (arith, p.0.1), dropped_names), inner_third a.q.now a.marks.now a.flags.now p.0.0 a.k some p.0.1 _ _ a.at a.out.now c.before.before.before.before.before.before.before.before.before.before.number.ensures c.before.before.before.before.before.before.before.before.before.number2.ensures p.1 _ _ c.before.before.before.before.before.before.before.put-inner.ensures _ _ c.before.before.before.put-inner2.ensures))
+    let some : 0 < a.k = omega (arith, c.if-k-eq0.false) in
+    let l = lower_last a.q.now a.marks.now a.flags.now p.0.0 a.k some p.0.1 _ c.number-last.ensures in
+    ((p.0.0, omega (arith, p.0.1), dropped_names), inner_third a.q.now a.marks.now a.flags.now p.0.0 a.k some p.0.1 _ _ a.at a.out.now c.number-previous.ensures c.number-last.ensures p.1 _ _ c.put_inner-r.ensures _ _ c.put_inner-s.ensures))
     (λ c. search rules)
     -- returns-2
     (λ c.
-    let s = c.before.before.before.before.before.before.before.before.before.before.before.before.before.before.before.before.before.before.before in
+    let s = c in
     let a = s.args in
     let p = s.requires.1 in
-    let some : 0 < a.k = omega (arith, c.before.before.before.before.before.before.before.before.before.before.before.before.before.before.if1.false) in
-    inner_put a.q.now a.marks.now a.flags.now p.0.0 a.k some p.0.1 _ _ a.at a.out.now c.before.before.before.before.before.before.before.before.before.before.before.before.before.number.ensures c.before.before.before.before.before.before.before.before.before.before.before.before.number2.ensures p.1 _ _ c.before.before.before.before.before.before.before.before.before.before.put-inner.ensures _ _ c.before.before.before.before.before.before.put-inner2.ensures _ _ c.before.before.put-parts.ensures)
+    let some : 0 < a.k = omega (arith, c.if-k-eq0.false) in
+    inner_put a.q.now a.marks.now a.flags.now p.0.0 a.k some p.0.1 _ _ a.at a.out.now c.number-previous.ensures c.number-last.ensures p.1 _ _ c.put_inner-r.ensures _ _ c.put_inner-s.ensures _ _ c.put_parts.ensures)

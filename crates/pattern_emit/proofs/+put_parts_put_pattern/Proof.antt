@@ -58,81 +58,81 @@ pub +put_parts_put_pattern_spec : {M : Type 1} → statement M
     put-parts.Post
     -- returns
     (λ c.
-    let s = c.before.before.before.before.before in
+    let s = c in
     let a = s.args in
     let p = s.requires.1 in
-    put_same _ [] _ _ _ _ (listed_none a.q.now a.marks.now a.flags.now a.k c.if1.true a.names a.flag a.at) (put_none a.out.now a.at))
+    put_same _ [] _ _ _ _ (listed_none a.q.now a.marks.now a.flags.now a.k c.if-k-eq0.true a.names a.flag a.at) (put_none a.out.now a.at))
     (λ c. search rules)
     -- number-requires
     (λ c κs.
-    let s = c.before.before.before.before.before in
+    let s = c in
     let a = s.args in
     let p = s.requires.1 in
-    let some : 0 < a.k = omega (arith, c.if1.false) in
+    let some : 0 < a.k = omega (arith, c.if-k-eq0.false) in
     (omega (arith, p.0.1), omega arith))
     (λ c. search rules)
     (λ c. search rules)
     -- shared-slice-read-if2
     (λ c.
-    let s = c.before.before.before.before.before.before.before in
+    let s = c in
     let a = s.args in
     let p = s.requires.1 in
-    let some : 0 < a.k = omega (arith, c.before.before.if1.false) in
+    let some : 0 < a.k = omega (arith, c.if-k-eq0.false) in
     omega (arith, p.0.0.flagged, p.0.1))
     -- put-parts-requires
     (λ c κs.
-    let s = c.before.before.before.before.before.before.before.before.before in
+    let s = c in
     let a = s.args in
     let p = s.requires.1 in
-    let some : 0 < a.k = omega (arith, c.before.before.before.before.if1.false) in
-    let l = lower_previous a.q.now a.marks.now a.flags.now p.0.0 a.k some p.0.1 _ c.before.before.before.number.ensures in
-    (omega (arith, s.requires.0), ((p.0.0, omega (arith, p.0.1), p.0.2), room_same _ _ _ _ (listed_left a.q.now a.marks.now a.flags.now p.0.0 a.k some p.0.1 a.names a.flag _ a.at p.0.2 c.before.if2.true c.before.before.before.number.ensures) p.1)))
+    let some : 0 < a.k = omega (arith, c.if-k-eq0.false) in
+    let l = lower_previous a.q.now a.marks.now a.flags.now p.0.0 a.k some p.0.1 _ c.number-previous.ensures in
+    (omega (arith, s.requires.0), ((p.0.0, omega (arith, p.0.1), p.0.2), room_same _ _ _ _ (listed_left a.q.now a.marks.now a.flags.now p.0.0 a.k some p.0.1 a.names a.flag _ a.at p.0.2 c.if-flags-k.true c.number-previous.ensures) p.1)))
     (λ c. search rules)
     -- returns-2
     (λ c.
-    let s = c.before.before.before.before.before.before.before.before.before.before.before.before in
+    let s = c in
     let a = s.args in
     let p = s.requires.1 in
-    let some : 0 < a.k = omega (arith, c.before.before.before.before.before.before.before.if1.false) in
-    put_same _ _ _ _ _ _ (listed_left a.q.now a.marks.now a.flags.now p.0.0 a.k some p.0.1 a.names a.flag _ a.at p.0.2 c.before.before.before.before.if2.true c.before.before.before.before.before.before.number.ensures) c.before.before.put-parts.ensures)
+    let some : 0 < a.k = omega (arith, c.if-k-eq0.false) in
+    put_same _ _ _ _ _ _ (listed_left a.q.now a.marks.now a.flags.now p.0.0 a.k some p.0.1 a.names a.flag _ a.at p.0.2 c.if-flags-k.true c.number-previous.ensures) c.put_parts.ensures)
     (λ c. search rules)
     -- number-requires-2
     (λ c κs.
-    let s = c.before.before.before.before.before.before.before.before in
+    let s = c in
     let a = s.args in
     let p = s.requires.1 in
-    let some : 0 < a.k = omega (arith, c.before.before.before.if1.false) in
+    let some : 0 < a.k = omega (arith, c.if-k-eq0.false) in
     (omega (arith, p.0.1), omega arith))
     -- put-parts-requires-2
     (λ c κs.
-    let s = c.before.before.before.before.before.before.before.before.before.before in
+    let s = c in
     let a = s.args in
     let p = s.requires.1 in
-    let some : 0 < a.k = omega (arith, c.before.before.before.before.before.if1.false) in
-    let l = lower_previous a.q.now a.marks.now a.flags.now p.0.0 a.k some p.0.1 _ c.before.before.before.before.number.ensures in
-    (omega (arith, s.requires.0), ((p.0.0, omega (arith, p.0.1), p.0.2), part_first a.q.now a.marks.now a.flags.now p.0.0 a.k some p.0.1 a.names a.flag _ _ a.at a.out.now p.0.2 c.before.before.if2.false c.before.before.before.before.number.ensures c.before.number2.ensures p.1)))
+    let some : 0 < a.k = omega (arith, c.if-k-eq0.false) in
+    let l = lower_previous a.q.now a.marks.now a.flags.now p.0.0 a.k some p.0.1 _ c.number-previous.ensures in
+    (omega (arith, s.requires.0), ((p.0.0, omega (arith, p.0.1), p.0.2), part_first a.q.now a.marks.now a.flags.now p.0.0 a.k some p.0.1 a.names a.flag _ _ a.at a.out.now p.0.2 c.if-flags-k.false c.number-previous.ensures c.number-field.ensures p.1)))
     -- behind-requires
     (λ c κs.
-    let s = c.before.before.before.before.before.before.before.before.before.before.before.before.before in
+    let s = c in
     let a = s.args in
     let p = s.requires.1 in
-    let some : 0 < a.k = omega (arith, c.before.before.before.before.before.before.before.before.if1.false) in
-    part_next a.q.now a.marks.now a.flags.now p.0.0 a.k some p.0.1 a.names a.flag _ _ a.at a.out.now p.0.2 c.before.before.before.before.before.if2.false c.before.before.before.before.before.before.before.number.ensures c.before.before.before.before.number2.ensures p.1 _ _ c.before.before.put-parts2.ensures)
+    let some : 0 < a.k = omega (arith, c.if-k-eq0.false) in
+    part_next a.q.now a.marks.now a.flags.now p.0.0 a.k some p.0.1 a.names a.flag _ _ a.at a.out.now p.0.2 c.if-flags-k.false c.number-previous.ensures c.number-field.ensures p.1 _ _ c.put_parts-r.ensures)
     -- put-pattern-requires
     (λ c κs.
-    let s = c.before.before.before.before.before.before.before.before.before.before.before.before.before.before.before in
+    let s = c in
     let a = s.args in
     let p = s.requires.1 in
-    let some : 0 < a.k = omega (arith, c.before.before.before.before.before.before.before.before.before.before.if1.false) in
-    (omega (arith, s.requires.0), ((p.0.0, p.0.1), part_rest a.q.now a.marks.now a.flags.now p.0.0 a.k some p.0.1 a.names a.flag _ _ a.at a.out.now p.0.2 c.before.before.before.before.before.before.before.if2.false c.before.before.before.before.before.before.before.before.before.number.ensures c.before.before.before.before.before.before.number2.ensures p.1 _ _ c.before.before.before.before.put-parts2.ensures _ c.before.behind.ensures)))
+    let some : 0 < a.k = omega (arith, c.if-k-eq0.false) in
+    (omega (arith, s.requires.0), ((p.0.0, p.0.1), part_rest a.q.now a.marks.now a.flags.now p.0.0 a.k some p.0.1 a.names a.flag _ _ a.at a.out.now p.0.2 c.if-flags-k.false c.number-previous.ensures c.number-field.ensures p.1 _ _ c.put_parts-r.ensures _ c.behind.ensures)))
     (λ c. search rules)
     -- returns-3
     (λ c.
-    let s = c.before.before.before.before.before.before.before.before.before.before.before.before.before.before.before.before.before.before in
+    let s = c in
     let a = s.args in
     let p = s.requires.1 in
-    let some : 0 < a.k = omega (arith, c.before.before.before.before.before.before.before.before.before.before.before.before.before.if1.false) in
-    part_put a.q.now a.marks.now a.flags.now p.0.0 a.k some p.0.1 a.names a.flag _ _ a.at a.out.now p.0.2 c.before.before.before.before.before.before.before.before.before.before.if2.false c.before.before.before.before.before.before.before.before.before.before.before.before.number.ensures c.before.before.before.before.before.before.before.before.before.number2.ensures p.1 _ _ c.before.before.before.before.before.before.before.put-parts2.ensures _ c.before.before.before.before.behind.ensures _ _ c.before.before.put-pattern.ensures))
+    let some : 0 < a.k = omega (arith, c.if-k-eq0.false) in
+    part_put a.q.now a.marks.now a.flags.now p.0.0 a.k some p.0.1 a.names a.flag _ _ a.at a.out.now p.0.2 c.if-flags-k.false c.number-previous.ensures c.number-field.ensures p.1 _ _ c.put_parts-r.ensures _ c.behind.ensures _ _ c.put_pattern.ensures))
     λ t. put-pattern-lts.spec (
       mark-to-reads.Asked,
       mark-to-reads.Learnt,
@@ -153,118 +153,118 @@ pub +put_parts_put_pattern_spec : {M : Type 1} → statement M
     put-pattern.Post
     -- mark-to-requires
     (λ c κs.
-    let s = c.before.before.before.before in
+    let s = c in
     let a = s.args in
     let p = s.requires.1 in
     omega (arith, p.0.0.marked, p.0.1))
     -- put-own-requires
     (λ c κs.
-    let s = c.before.before.before.before.before.before.before in
+    let s = c in
     let a = s.args in
     let p = s.requires.1 in
-    room_same _ _ _ _ (wild_lines a.q.now a.marks.now a.flags.now p.0.0 a.k p.0.1 a.names a.at a.previous a.field (sym c.before.before.mark_to.ensures ∙ c.before.if1.true)) p.1)
+    room_same _ _ _ _ (wild_lines a.q.now a.marks.now a.flags.now p.0.0 a.k p.0.1 a.names a.at a.previous a.field (sym c.mark_to-mark.ensures ∙ c.if-mark-eq0.true)) p.1)
     (λ c. search rules)
     -- returns
     (λ c.
-    let s = c.before.before.before.before.before.before.before.before.before.before in
+    let s = c in
     let a = s.args in
     let p = s.requires.1 in
-    put_same _ _ _ _ _ _ (wild_lines a.q.now a.marks.now a.flags.now p.0.0 a.k p.0.1 a.names a.at a.previous a.field (sym c.before.before.before.before.before.mark_to.ensures ∙ c.before.before.before.before.if1.true)) c.before.before.put-own.ensures)
+    put_same _ _ _ _ _ _ (wild_lines a.q.now a.marks.now a.flags.now p.0.0 a.k p.0.1 a.names a.at a.previous a.field (sym c.mark_to-mark.ensures ∙ c.if-mark-eq0.true)) c.put_own.ensures)
     -- sub-number
     (λ c.
-    let s = c.before.before.before.before.before.before in
+    let s = c in
     let a = s.args in
     let p = s.requires.1 in
-    let some = mark_some a.marks.now a.k (λ z. c.if1.false (c.before.mark_to.ensures ∙ z)) in
+    let some = mark_some a.marks.now a.k (λ z. c.if-mark-eq0.false (c.mark_to-mark.ensures ∙ z)) in
     some)
     -- number-requires
     (λ c κs.
-    let s = c.before.before.before.before.before.before in
+    let s = c in
     let a = s.args in
     let p = s.requires.1 in
-    let some = mark_some a.marks.now a.k (λ z. c.if1.false (c.before.mark_to.ensures ∙ z)) in
+    let some = mark_some a.marks.now a.k (λ z. c.if-mark-eq0.false (c.mark_to-mark.ensures ∙ z)) in
     (omega (arith, p.0.1), omega arith))
     (λ c. search rules)
     -- first-kept-requires
     (λ c κs.
-    let s = c.before.before.before.before.before.before.before.before in
+    let s = c in
     let a = s.args in
     let p = s.requires.1 in
-    let some = mark_some a.marks.now a.k (λ z. c.before.before.if1.false (c.before.before.before.mark_to.ensures ∙ z)) in
-    let l = lower_last a.q.now a.marks.now a.flags.now p.0.0 a.k some p.0.1 _ c.before.number.ensures in
+    let some = mark_some a.marks.now a.k (λ z. c.if-mark-eq0.false (c.mark_to-mark.ensures ∙ z)) in
+    let l = lower_last a.q.now a.marks.now a.flags.now p.0.0 a.k some p.0.1 _ c.number-last.ensures in
     (p.0.0.linked, p.0.0.flagged, omega (arith, p.0.1)))
     -- put-pattern-requires
     (λ c κs.
-    let s = c.before.before.before.before.before.before.before.before.before.before in
+    let s = c in
     let a = s.args in
     let p = s.requires.1 in
-    let some = mark_some a.marks.now a.k (λ z. c.before.before.before.before.if1.false (c.before.before.before.before.before.mark_to.ensures ∙ z)) in
-    let l = lower_last a.q.now a.marks.now a.flags.now p.0.0 a.k some p.0.1 _ c.before.before.before.number.ensures in
-    let f = c.before.first_kept.ensures.low in
-    (omega (arith, s.requires.0), ((p.0.0, omega (arith, p.0.1)), room_same _ _ _ _ (only_lines a.q.now a.marks.now a.flags.now p.0.0 a.k some p.0.1 a.names _ _ a.at a.previous a.field (λ z. c.before.before.before.before.if1.false (c.before.before.before.before.before.mark_to.ensures ∙ z)) (λ z. c.before.before.if2.true (c.before.before.before.before.before.mark_to.ensures ∙ z)) c.before.before.before.number.ensures c.before.first_kept.ensures) p.1)))
+    let some = mark_some a.marks.now a.k (λ z. c.if-mark-eq0.false (c.mark_to-mark.ensures ∙ z)) in
+    let l = lower_last a.q.now a.marks.now a.flags.now p.0.0 a.k some p.0.1 _ c.number-last.ensures in
+    let f = c.first_kept-only.ensures.low in
+    (omega (arith, s.requires.0), ((p.0.0, omega (arith, p.0.1)), room_same _ _ _ _ (only_lines a.q.now a.marks.now a.flags.now p.0.0 a.k some p.0.1 a.names _ _ a.at a.previous a.field (λ z. c.if-mark-eq0.false (c.mark_to-mark.ensures ∙ z)) (λ z. c.if-mark-ne1.true (c.mark_to-mark.ensures ∙ z)) c.number-last.ensures c.first_kept-only.ensures) p.1)))
     (λ c. search rules)
     -- returns-2
     (λ c.
-    let s = c.before.before.before.before.before.before.before.before.before.before.before.before.before in
+    let s = c in
     let a = s.args in
     let p = s.requires.1 in
-    let some = mark_some a.marks.now a.k (λ z. c.before.before.before.before.before.before.before.if1.false (c.before.before.before.before.before.before.before.before.mark_to.ensures ∙ z)) in
-    put_same _ _ _ _ _ _ (only_lines a.q.now a.marks.now a.flags.now p.0.0 a.k some p.0.1 a.names _ _ a.at a.previous a.field (λ z. c.before.before.before.before.before.before.before.if1.false (c.before.before.before.before.before.before.before.before.mark_to.ensures ∙ z)) (λ z. c.before.before.before.before.before.if2.true (c.before.before.before.before.before.before.before.before.mark_to.ensures ∙ z)) c.before.before.before.before.before.before.number.ensures c.before.before.before.before.first_kept.ensures) c.before.before.put-pattern.ensures)
+    let some = mark_some a.marks.now a.k (λ z. c.if-mark-eq0.false (c.mark_to-mark.ensures ∙ z)) in
+    put_same _ _ _ _ _ _ (only_lines a.q.now a.marks.now a.flags.now p.0.0 a.k some p.0.1 a.names _ _ a.at a.previous a.field (λ z. c.if-mark-eq0.false (c.mark_to-mark.ensures ∙ z)) (λ z. c.if-mark-ne1.true (c.mark_to-mark.ensures ∙ z)) c.number-last.ensures c.first_kept-only.ensures) c.put_pattern.ensures)
     -- sub-number-2
     (λ c.
-    let s = c.before.before.before.before.before.before.before.before in
+    let s = c in
     let a = s.args in
     let p = s.requires.1 in
-    let some = mark_some a.marks.now a.k (λ z. c.before.before.if1.false (c.before.before.before.mark_to.ensures ∙ z)) in
+    let some = mark_some a.marks.now a.k (λ z. c.if-mark-eq0.false (c.mark_to-mark.ensures ∙ z)) in
     some)
     -- number-requires-2
     (λ c κs.
-    let s = c.before.before.before.before.before.before.before.before in
+    let s = c in
     let a = s.args in
     let p = s.requires.1 in
-    let some = mark_some a.marks.now a.k (λ z. c.before.before.if1.false (c.before.before.before.mark_to.ensures ∙ z)) in
+    let some = mark_some a.marks.now a.k (λ z. c.if-mark-eq0.false (c.mark_to-mark.ensures ∙ z)) in
     (omega (arith, p.0.1), omega arith))
     -- sub-number-3
     (λ c.
-    let s = c.before.before.before.before.before.before.before.before.before in
+    let s = c in
     let a = s.args in
     let p = s.requires.1 in
-    let some = mark_some a.marks.now a.k (λ z. c.before.before.before.if1.false (c.before.before.before.before.mark_to.ensures ∙ z)) in
+    let some = mark_some a.marks.now a.k (λ z. c.if-mark-eq0.false (c.mark_to-mark.ensures ∙ z)) in
     some)
     -- number-requires-3
     (λ c κs.
-    let s = c.before.before.before.before.before.before.before.before.before in
+    let s = c in
     let a = s.args in
     let p = s.requires.1 in
-    let some = mark_some a.marks.now a.k (λ z. c.before.before.before.if1.false (c.before.before.before.before.mark_to.ensures ∙ z)) in
+    let some = mark_some a.marks.now a.k (λ z. c.if-mark-eq0.false (c.mark_to-mark.ensures ∙ z)) in
     (omega (arith, p.0.1), omega arith))
     -- put-parts-requires
     (λ c κs.
-    let s = c.before.before.before.before.before.before.before.before.before.before.before in
+    let s = c in
     let a = s.args in
     let p = s.requires.1 in
-    let some = mark_some a.marks.now a.k (λ z. c.before.before.before.before.before.if1.false (c.before.before.before.before.before.before.mark_to.ensures ∙ z)) in
-    let l = lower_last a.q.now a.marks.now a.flags.now p.0.0 a.k some p.0.1 _ c.before.before.before.before.number.ensures in
-    (omega (arith, s.requires.0), ((p.0.0, omega (arith, p.0.1), kept_parts a.names), own_first a.q.now a.marks.now a.flags.now p.0.0 a.k some p.0.1 a.names _ _ _ a.at a.previous a.field a.out.now (sym c.before.before.before.before.before.before.mark_to.ensures ∙ c.before.before.before.if2.false) c.before.before.before.before.number.ensures c.before.before.number2.ensures c.before.number3.ensures p.1)))
+    let some = mark_some a.marks.now a.k (λ z. c.if-mark-eq0.false (c.mark_to-mark.ensures ∙ z)) in
+    let l = lower_last a.q.now a.marks.now a.flags.now p.0.0 a.k some p.0.1 _ c.number-last.ensures in
+    (omega (arith, s.requires.0), ((p.0.0, omega (arith, p.0.1), kept_parts a.names), own_first a.q.now a.marks.now a.flags.now p.0.0 a.k some p.0.1 a.names _ _ _ a.at a.previous a.field a.out.now (sym c.mark_to-mark.ensures ∙ c.if-mark-ne1.false) c.number-last.ensures c.number-kind.ensures c.number-name.ensures p.1)))
     -- behind-requires
     (λ c κs.
-    let s = c.before.before.before.before.before.before.before.before.before.before.before.before.before.before in
+    let s = c in
     let a = s.args in
     let p = s.requires.1 in
-    let some = mark_some a.marks.now a.k (λ z. c.before.before.before.before.before.before.before.before.if1.false (c.before.before.before.before.before.before.before.before.before.mark_to.ensures ∙ z)) in
-    own_next a.q.now a.marks.now a.flags.now p.0.0 a.k some p.0.1 a.names _ _ _ a.at a.previous a.field a.out.now (sym c.before.before.before.before.before.before.before.before.before.mark_to.ensures ∙ c.before.before.before.before.before.before.if2.false) c.before.before.before.before.before.before.before.number.ensures c.before.before.before.before.before.number2.ensures c.before.before.before.before.number3.ensures p.1 _ _ c.before.before.put-parts.ensures)
+    let some = mark_some a.marks.now a.k (λ z. c.if-mark-eq0.false (c.mark_to-mark.ensures ∙ z)) in
+    own_next a.q.now a.marks.now a.flags.now p.0.0 a.k some p.0.1 a.names _ _ _ a.at a.previous a.field a.out.now (sym c.mark_to-mark.ensures ∙ c.if-mark-ne1.false) c.number-last.ensures c.number-kind.ensures c.number-name.ensures p.1 _ _ c.put_parts-r.ensures)
     -- put-own-requires-2
     (λ c κs.
-    let s = c.before.before.before.before.before.before.before.before.before.before.before.before.before.before.before.before in
+    let s = c in
     let a = s.args in
     let p = s.requires.1 in
-    let some = mark_some a.marks.now a.k (λ z. c.before.before.before.before.before.before.before.before.before.before.if1.false (c.before.before.before.before.before.before.before.before.before.before.before.mark_to.ensures ∙ z)) in
-    own_rest a.q.now a.marks.now a.flags.now p.0.0 a.k some p.0.1 a.names _ _ _ a.at a.previous a.field a.out.now (sym c.before.before.before.before.before.before.before.before.before.before.before.mark_to.ensures ∙ c.before.before.before.before.before.before.before.before.if2.false) c.before.before.before.before.before.before.before.before.before.number.ensures c.before.before.before.before.before.before.before.number2.ensures c.before.before.before.before.before.before.number3.ensures p.1 _ _ c.before.before.before.before.put-parts.ensures _ c.before.behind.ensures)
+    let some = mark_some a.marks.now a.k (λ z. c.if-mark-eq0.false (c.mark_to-mark.ensures ∙ z)) in
+    own_rest a.q.now a.marks.now a.flags.now p.0.0 a.k some p.0.1 a.names _ _ _ a.at a.previous a.field a.out.now (sym c.mark_to-mark.ensures ∙ c.if-mark-ne1.false) c.number-last.ensures c.number-kind.ensures c.number-name.ensures p.1 _ _ c.put_parts-r.ensures _ c.behind.ensures)
     (λ c. search rules)
     -- returns-3
     (λ c.
-    let s = c.before.before.before.before.before.before.before.before.before.before.before.before.before.before.before.before.before.before.before in
+    let s = c in
     let a = s.args in
     let p = s.requires.1 in
-    let some = mark_some a.marks.now a.k (λ z. c.before.before.before.before.before.before.before.before.before.before.before.before.before.if1.false (c.before.before.before.before.before.before.before.before.before.before.before.before.before.before.mark_to.ensures ∙ z)) in
-    own_put a.q.now a.marks.now a.flags.now p.0.0 a.k some p.0.1 a.names _ _ _ a.at a.previous a.field a.out.now (sym c.before.before.before.before.before.before.before.before.before.before.before.before.before.before.mark_to.ensures ∙ c.before.before.before.before.before.before.before.before.before.before.before.if2.false) c.before.before.before.before.before.before.before.before.before.before.before.before.number.ensures c.before.before.before.before.before.before.before.before.before.before.number2.ensures c.before.before.before.before.before.before.before.before.before.number3.ensures p.1 _ _ c.before.before.before.before.before.before.before.put-parts.ensures _ c.before.before.before.before.behind.ensures _ _ c.before.before.put-own2.ensures)
+    let some = mark_some a.marks.now a.k (λ z. c.if-mark-eq0.false (c.mark_to-mark.ensures ∙ z)) in
+    own_put a.q.now a.marks.now a.flags.now p.0.0 a.k some p.0.1 a.names _ _ _ a.at a.previous a.field a.out.now (sym c.mark_to-mark.ensures ∙ c.if-mark-ne1.false) c.number-last.ensures c.number-kind.ensures c.number-name.ensures p.1 _ _ c.put_parts-r.ensures _ c.behind.ensures _ _ c.put_own-2.ensures)

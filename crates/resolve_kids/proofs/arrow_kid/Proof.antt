@@ -4,11 +4,11 @@ use borrow.Author.Tests.{ne_eqb}
 use Rattle.resolve_kids.proofs.arrow_kid.Statement.{statement}
 use Rattle.resolve_kids.proofs.arrow_kid.Tie as tie
 
-returns : tie.Need-returns
-returns c = rw c.before.if1.true c.type_number.ensures
+returns : tie.Need-returns-then-i-eq0
+returns c = rw c.if-i-eq0.true c.type_number.ensures
 
-returns-2 : tie.Need-returns-2
-returns-2 c = rw (ne_eqb _ _ c.before.if1.false) c.type-number2.ensures
+returns-2 : tie.Need-returns
+returns-2 c = rw (ne_eqb _ _ c.if-i-eq0.false) c.type_number-2.ensures
 
 pub arrow_kid_spec : {M : Type 1} → statement M
 arrow_kid_spec =

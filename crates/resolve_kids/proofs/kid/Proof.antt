@@ -11,48 +11,48 @@ use Rattle.resolve_kids.proofs.kid.Statement.{statement}
 use Rattle.table_access.specs.Tables.{lines_in}
 use Rattle.resolve_kids.proofs.kid.Tie as tie
 
-add-arg : tie.Need-overflow-add-arg
+add-arg : tie.Need-overflow_add-first
 add-arg c =
-    let a = c.before.before.before.before in
-    omega (arith, c.type-number2.ensures, list8_within (lines_in a.args.t.now) a.requires.0.passed a.args.y a.requires.1.0 (sym c.before.before.type_number.ensures ∙ c.before.match.keys2) a.args.i a.requires.1.1, args_few (lines_in a.args.t.now) a.requires.0.passed)
+    let a = c in
+    omega (arith, c.type_number-first.ensures, list8_within (lines_in a.args.t.now) a.requires.0.passed a.args.y a.requires.1.0 (sym c.type_number-kind.ensures ∙ c.in-8.is) a.args.i a.requires.1.1, args_few (lines_in a.args.t.now) a.requires.0.passed)
 
 arg-requires : tie.Need-arg-requires
 arg-requires c κs =
-    let a = c.before.before.before.before in
-    (a.requires.0, omega (arith, c.type-number2.ensures, list8_within (lines_in a.args.t.now) a.requires.0.passed a.args.y a.requires.1.0 (sym c.before.before.type_number.ensures ∙ c.before.match.keys2) a.args.i a.requires.1.1))
+    let a = c in
+    (a.requires.0, omega (arith, c.type_number-first.ensures, list8_within (lines_in a.args.t.now) a.requires.0.passed a.args.y a.requires.1.0 (sym c.type_number-kind.ensures ∙ c.in-8.is) a.args.i a.requires.1.1))
 
-add-arg-2 : tie.Need-overflow-add-arg-2
+add-arg-2 : tie.Need-overflow_add-first-in-9
 add-arg-2 c =
-    let a = c.before.before.before.before in
-    omega (arith, c.type-number3.ensures, list9_within (lines_in a.args.t.now) a.requires.0.passed a.args.y a.requires.1.0 (sym c.before.before.type_number.ensures ∙ c.before.match.keys3) a.args.i a.requires.1.1, args_few (lines_in a.args.t.now) a.requires.0.passed)
+    let a = c in
+    omega (arith, c.type_number-first-in-9.ensures, list9_within (lines_in a.args.t.now) a.requires.0.passed a.args.y a.requires.1.0 (sym c.type_number-kind.ensures ∙ c.in-9.is) a.args.i a.requires.1.1, args_few (lines_in a.args.t.now) a.requires.0.passed)
 
-arg-requires-2 : tie.Need-arg-requires-2
+arg-requires-2 : tie.Need-arg-requires-in-9
 arg-requires-2 c κs =
-    let a = c.before.before.before.before in
-    (a.requires.0, omega (arith, c.type-number3.ensures, list9_within (lines_in a.args.t.now) a.requires.0.passed a.args.y a.requires.1.0 (sym c.before.before.type_number.ensures ∙ c.before.match.keys3) a.args.i a.requires.1.1))
+    let a = c in
+    (a.requires.0, omega (arith, c.type_number-first-in-9.ensures, list9_within (lines_in a.args.t.now) a.requires.0.passed a.args.y a.requires.1.0 (sym c.type_number-kind.ensures ∙ c.in-9.is) a.args.i a.requires.1.1))
 
-returns : tie.Need-returns
-returns c = c.arrow-kid.ensures ∙ sym (kid_7 _ _ (sym c.before.before.type_number.ensures ∙ c.before.match.keys1) _)
+returns : tie.Need-returns-in-7
+returns c = c.arrow_kid.ensures ∙ sym (kid_7 _ _ (sym c.type_number-kind.ensures ∙ c.in-7.is) _)
 
-returns-2 : tie.Need-returns-2
+returns-2 : tie.Need-returns-in-8
 returns-2 c =
-    let a = c.before.before.before.before.before in
-    c.arg.ensures ∙ (ap (λ n. arg_of (lines_in a.args.t.now) (n + a.args.i)) c.before.type-number2.ensures ∙ sym (kid_8 _ _ (sym c.before.before.before.type_number.ensures ∙ c.before.before.match.keys2) _))
+    let a = c in
+    c.arg.ensures ∙ (ap (λ n. arg_of (lines_in a.args.t.now) (n + a.args.i)) c.type_number-first.ensures ∙ sym (kid_8 _ _ (sym c.type_number-kind.ensures ∙ c.in-8.is) _))
 
-returns-3 : tie.Need-returns-3
+returns-3 : tie.Need-returns-in-9
 returns-3 c =
-    let a = c.before.before.before.before.before in
-    c.arg2.ensures ∙ (ap (λ n. arg_of (lines_in a.args.t.now) (n + a.args.i)) c.before.type-number3.ensures ∙ sym (kid_9 _ _ (sym c.before.before.before.type_number.ensures ∙ c.before.before.match.keys3) _))
+    let a = c in
+    c.arg-in-9.ensures ∙ (ap (λ n. arg_of (lines_in a.args.t.now) (n + a.args.i)) c.type_number-first-in-9.ensures ∙ sym (kid_9 _ _ (sym c.type_number-kind.ensures ∙ c.in-9.is) _))
 
-returns-4 : tie.Need-returns-4
-returns-4 c = c.type-number4.ensures ∙ sym (kid_11 _ _ (sym c.before.before.type_number.ensures ∙ c.before.match.keys4) _)
+returns-4 : tie.Need-returns-in-11
+returns-4 c = c.type_number.ensures ∙ sym (kid_11 _ _ (sym c.type_number-kind.ensures ∙ c.in-11.is) _)
 
-returns-5 : tie.Need-returns-5
+returns-5 : tie.Need-returns-in_default
 returns-5 c =
-    let k = c.before.before.type_number.ensures in
-    let r = c.before.match.rest in
-    c.type-number5.ensures
-    ∙ sym (kid_one _ _ _ (ne_eqb _ 7 (λ e. r.0.0.0.1 (k ∙ e))) (ne_eqb _ 8 (λ e. r.0.0.1 (k ∙ e))) (ne_eqb _ 9 (λ e. r.0.1 (k ∙ e))) (ne_eqb _ 11 (λ e. r.1 (k ∙ e))) refl _)
+    let k = c.type_number-kind.ensures in
+    let r = c.in_default.in_default-own.rest in
+    c.type_number-in_default.ensures
+    ∙ sym (kid_one _ _ _ (ne_eqb _ 7 (λ e. c.in_default.in_default-own.rest.0.0.0.1 (k ∙ e))) (ne_eqb _ 8 (λ e. c.in_default.in_default-own.rest.0.0.1 (k ∙ e))) (ne_eqb _ 9 (λ e. c.in_default.in_default-own.rest.0.1 (k ∙ e))) (ne_eqb _ 11 (λ e. c.in_default.in_default-own.rest.1 (k ∙ e))) refl _)
 
 pub kid_spec : {M : Type 1} → statement M
 kid_spec =

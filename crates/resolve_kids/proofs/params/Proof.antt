@@ -11,20 +11,20 @@ use Rattle.resolve_kids.proofs.params.Reads as reads
 use Rattle.resolve_kids.proofs.params.Lts as lts
 use Rattle.table_access.proofs.first_param.Reads as first-param-reads
 
-first-param-requires : tie.Need-first-param-requires
+first-param-requires : tie.Need-first_param-first-requires
 first-param-requires c κs = search rules
 
-add-first-param : tie.Need-overflow-add-first-param
-add-first-param c = omega (arith, c.before.before.requires.1, decls_few (lines_in c.before.before.args.t.now) c.before.before.requires.0.passed)
+add-first-param : tie.Need-overflow_add-d
+add-first-param c = omega (arith, c.requires.1, decls_few (lines_in c.args.t.now) c.requires.0.passed)
 
-first-param-requires-2 : tie.Need-first-param-requires-2
+first-param-requires-2 : tie.Need-first_param-end-requires
 first-param-requires-2 c κs = search rules
 
-returns : tie.Need-returns
-returns c = counted_of (lines_in c.before.before.before.before.args.t.now) c.before.before.before.before.args.d _ _ _ c.before.before.first-param.ensures c.before.first-param2.ensures (omega (arith, c.if1.true))
+returns : tie.Need-returns-then-end-first
+returns c = counted_of (lines_in c.args.t.now) c.args.d _ _ _ c.first_param-first.ensures c.first_param-end.ensures (omega (arith, c.if-end-first.true))
 
-returns-2 : tie.Need-returns-2
-returns-2 c = counted_of (lines_in c.before.before.before.before.args.t.now) c.before.before.before.before.args.d _ _ _ c.before.before.first-param.ensures c.before.first-param2.ensures (omega arith)
+returns-2 : tie.Need-returns
+returns-2 c = counted_of (lines_in c.args.t.now) c.args.d _ _ _ c.first_param-first.ensures c.first_param-end.ensures (omega arith)
 
 pub params_spec : {M : Type 1} → statement M
 params_spec =

@@ -6,25 +6,25 @@ use Rattle.row4_counting.specs.Walk.{kept}
 use Rattle.row4_counting.proofs.kept.Statement.{statement}
 use Rattle.row4_counting.proofs.kept.Tie as tie
 
-returns : tie.Need-returns
+returns : tie.Need-returns-then-r-gt-NAMES
 unfolding kept
-returns c = rw (lt-ltb base.names _ c.before.if1.true) c.no_runs.ensures
+returns c = rw (lt-ltb base.names _ c.if-r-gt-NAMES.true) c.no_runs.ensures
 
-returns-2 : tie.Need-returns-2
+returns-2 : tie.Need-returns-then-r-gt-ARGS
 unfolding kept
-returns-2 c = rw (le-ltb base.names _ c.before.before.before.if1.false, lt-ltb base.args _ c.before.if2.true) c.no-runs2.ensures
+returns-2 c = rw (le-ltb base.names _ c.if-r-gt-NAMES.false, lt-ltb base.args _ c.if-r-gt-ARGS.true) c.no_runs-then-r-gt-ARGS.ensures
 
-returns-3 : tie.Need-returns-3
+returns-3 : tie.Need-returns-then-r-gt-TYPES
 unfolding kept
 returns-3 c =
-    let d = c.before.before.before in
-    rw (le-ltb base.names _ d.before.before.if1.false, le-ltb base.args _ d.if2.false, lt-ltb base.types _ c.before.if3.true) c.no-runs3.ensures
+    let d = c in
+    rw (le-ltb base.names _ d.if-r-gt-NAMES.false, le-ltb base.args _ d.if-r-gt-ARGS.false, lt-ltb base.types _ c.if-r-gt-TYPES.true) c.no_runs-then-r-gt-TYPES.ensures
 
-returns-4 : tie.Need-returns-4
+returns-4 : tie.Need-returns
 unfolding kept
 returns-4 c =
-    let d = c.before.before in
-    rw (le-ltb base.names _ d.before.before.if1.false, le-ltb base.args _ d.if2.false, le-ltb base.types _ c.if3.false)
+    let d = c in
+    rw (le-ltb base.names _ d.if-r-gt-NAMES.false, le-ltb base.args _ d.if-r-gt-ARGS.false, le-ltb base.types _ c.if-r-gt-TYPES.false)
 
 pub kept_spec : {M : Type 1} → statement M
 kept_spec =

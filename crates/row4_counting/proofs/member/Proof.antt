@@ -12,14 +12,14 @@ bit : (b : Bool) → pick b 1 0 ≤ 1
 bit true = omega arith
 bit false = omega arith
 
-add-tally : tie.Need-overflow-add-tally
-add-tally c = omega (arith, bit (ltb c.before.before.before.args.letter 68), c.before.one.ensures)
+add-tally : tie.Need-overflow_add-tally
+add-tally c = omega (arith, bit (ltb c.args.letter 68), c.one.ensures)
 
-add-tally-2 : tie.Need-overflow-add-tally-2
-add-tally-2 c = omega (arith, bit (ltb 67 c.before.before.before.before.before.args.letter), c.before.one2.ensures)
+add-tally-2 : tie.Need-overflow_add-tally-2
+add-tally-2 c = omega (arith, bit (ltb 67 c.args.letter), c.one-2.ensures)
 
 returns : tie.Need-returns
-returns c = rw (c.before.before.before.before.one.ensures, c.before.before.one2.ensures)
+returns c = rw (c.one.ensures, c.one-2.ensures)
 
 pub member_spec : {M : Type 1} → statement M
 member_spec = tie.close (tie.spec (λ c κs. search rules) add-tally (λ c κs. search rules) add-tally-2 (λ c. search rules) returns)

@@ -5,29 +5,29 @@ use borrow.Author.Rules.{rules}
 use Rattle.row4_counting.proofs.stepped.Statement.{statement}
 use Rattle.row4_counting.proofs.stepped.Tie as tie
 
-returns : tie.Need-returns
+returns : tie.Need-returns-then-letter-eq86
 unfolding stepped
-returns c = rw (lt-ltb 70 _ c.before.if1.true, c.if2.true)
+returns c = rw (lt-ltb 70 _ c.if-letter-gt70.true, c.if-letter-eq86.true)
 
-returns-2 : tie.Need-returns-2
+returns-2 : tie.Need-returns-then-letter-eq80
 unfolding stepped
-returns-2 c = rw (lt-ltb 70 _ c.before.before.before.if1.true, c.before.if3.true) c.exact.ensures
+returns-2 c = rw (lt-ltb 70 _ c.if-letter-gt70.true, c.if-letter-eq80.true) c.exact.ensures
 
-returns-3 : tie.Need-returns-3
+returns-3 : tie.Need-returns-then-letter-eq73
 unfolding stepped
-returns-3 c = rw (lt-ltb 70 _ c.before.before.before.before.if1.true, c.before.if4.true) c.exact2.ensures
+returns-3 c = rw (lt-ltb 70 _ c.if-letter-gt70.true, c.if-letter-eq73.true) c.exact-then-letter-eq73.ensures
 
-returns-4 : tie.Need-returns-4
+returns-4 : tie.Need-returns-then-letter-gt70
 unfolding stepped
-returns-4 c = rw (lt-ltb 70 _ c.before.before.before.before.if1.true, ne_eqb _ 86 c.before.before.before.if2.false, ne_eqb _ 80 c.before.before.if3.false, ne_eqb _ 73 c.before.if4.false)
+returns-4 c = rw (lt-ltb 70 _ c.if-letter-gt70.true, ne_eqb _ 86 c.if-letter-eq86.false, ne_eqb _ 80 c.if-letter-eq80.false, ne_eqb _ 73 c.if-letter-eq73.false)
 
-returns-5 : tie.Need-returns-5
+returns-5 : tie.Need-returns-then-letter-eq68
 unfolding stepped
-returns-5 c = rw (le-ltb 70 _ c.before.before.if1.false, c.before.if5.true) c.exact3.ensures
+returns-5 c = rw (le-ltb 70 _ c.if-letter-gt70.false, c.if-letter-eq68.true) c.exact-then-letter-eq68.ensures
 
-returns-6 : tie.Need-returns-6
+returns-6 : tie.Need-returns
 unfolding stepped
-returns-6 c = rw (le-ltb 70 _ c.before.before.if1.false, ne_eqb _ 68 c.before.if5.false) c.member.ensures
+returns-6 c = rw (le-ltb 70 _ c.if-letter-gt70.false, ne_eqb _ 68 c.if-letter-eq68.false) c.member.ensures
 
 pub stepped_spec : {M : Type 1} → statement M
 stepped_spec =

@@ -11,23 +11,23 @@ use Rattle.row4_counting.proofs.walk.Statement.{statement}
 use Rattle.row4_counting.proofs.walk.Tie as tie
 
 -- where both begin
-started : (c : tie.After-kept) → Begins base (lines_of c.before.before.args.t.now) c.kept.result
+started : (c : tie.After-kept-front) → Begins base (lines_of c.args.t.now) c.kept-front.result
 started c =
-    let a = c.before.before in
-    rw c.kept.ensures (begins base (lines_of a.args.t.now) a.args.r a.requires)
+    let a = c in
+    rw c.kept-front.ensures (begins base (lines_of a.args.t.now) a.args.r a.requires)
 
-quickly-requires : tie.Need-quickly-requires
+quickly-requires : tie.Need-quickly-q-requires
 quickly-requires c κs = started c
 
 whole-requires : tie.Need-whole-requires
-whole-requires c κs = λ k. omega (arith, c.quickly.ensures.0.total, c.quickly.ensures.1 k, length_lines_of c.before.before.before.args.t.now)
+whole-requires c κs = λ k. omega (arith, c.quickly-q.ensures.right.total, c.quickly-q.ensures.t_len_bound k, length_lines_of c.args.t.now)
 
-returns : tie.Need-returns
+returns : tie.Need-returns-then-whole
 returns c =
-    let q = c.before.before.before.before in
-    let t = q.before.before.before.args.t.now in
-    let g = q.quickly.ensures.0.right (c.before.before.before.whole.ensures c.before.before.if1.true) in
-    (sym (g.none ∙ length_lines_of t), λ e. c.declared.ensures ∙ declared_all (lines_of t) (length (lines_of t)) q.quickly.result.tally refl g.tally)
+    let q = c in
+    let t = q.args.t.now in
+    let g = q.quickly-q.ensures.right.right (c.whole.ensures c.if-whole.true) in
+    (sym (g.none ∙ length_lines_of t), λ e. c.declared-counts.ensures ∙ declared_all (lines_of t) (length (lines_of t)) q.quickly-q.result.tally refl g.tally)
 
 searched-requires : tie.Need-searched-requires
 searched-requires c κs = started c.before.before.before

@@ -7,35 +7,35 @@ use Rattle.row4_counting.specs.Quickly.{sum}
 use Rattle.row4_counting.proofs.whole.Statement.{statement}
 use Rattle.row4_counting.proofs.whole.Tie as tie
 
-returns : tie.Need-returns
+returns : tie.Need-returns-then-not-q
 returns c = λ z. false_true z
 
 -- the counts are small, where the lines are known
-bound : (c : tie.Else1) → sum c.before.before.args.q.tally ≤ 4294967296
-bound c = c.before.before.requires (not-false c.before.before.args.q.known c.if1.false)
+bound : (c : tie.Else-not-q) → sum c.args.q.tally ≤ 4294967296
+bound c = c.requires (not-false c.args.q.known c.if-not-q.false)
 
-mul-if2 : tie.Need-overflow-mul-if2
+mul-if2 : tie.Need-overflow_mul-ctors
 mul-if2 c = omega (arith, bound c)
 
-mul-if2-2 : tie.Need-overflow-mul-if2-2
+mul-if2-2 : tie.Need-overflow_mul-fields
 mul-if2-2 c = omega (arith, bound c)
 
-add-if2 : tie.Need-overflow-add-if2
+add-if2 : tie.Need-overflow_add-ctors
 add-if2 c = omega (arith, bound c)
 
-returns-2 : tie.Need-returns-2
+returns-2 : tie.Need-returns-then-q-ctors
 returns-2 c = λ z. false_true z
 
-returns-3 : tie.Need-returns-3
+returns-3 : tie.Need-returns-then-ctors-gt-CTORS
 returns-3 c = λ z. false_true z
 
-returns-4 : tie.Need-returns-4
+returns-4 : tie.Need-returns
 returns-4 c = λ z.
-    let a = c.before.before.before.before.before.args in
+    let a = c.args in
     record {
-      known = not-false a.q.known c.before.before.before.if1.false;
-      letters = c.before.if2.false;
-      ctors = omega (arith, c.if3.false);
+      known = not-false a.q.known c.if-not-q.false;
+      letters = c.if-q-ctors.false;
+      ctors = omega (arith, c.if-ctors-gt-CTORS.false);
       fields = leb-true a.q.tally.fields 512 z;
     }
 

@@ -38,7 +38,7 @@ returns c =
     let p = c in
     let s = lines_of p.args.t.now in
     let o = c.loop-i in
-    sym (first_found (row5 s) (length s) o.i (omega (arith, length_lines_of p.args.t.now)) o.invariant.2 (ap not (sym c.good_part.ensures) ∙ c.if-not-good_part.true))
+    sym (first_found (row5 s) (length s) o.i (omega (arith, length_lines_of p.args.t.now)) o.invariant.2 (ap not (sym c.good_part.ensures ∙ c.if-not-good_part.true)))
 
 loop-again : tie.Need-loop-i-preserved invariant-loop decreases-loop
 unfolding row5
@@ -46,7 +46,7 @@ loop-again c =
     let p = c in
     let s = lines_of p.args.t.now in
     let o = c.loop-i in
-    (omega arith, omega arith, first_more (row5 s) o.i o.invariant.2 (ap not (sym c.good_part.ensures) ∙ c.if-not-good_part.false))
+    (omega arith, omega arith, first_more (row5 s) o.i o.invariant.2 (ap not (sym c.good_part.ensures ∙ c.if-not-good_part.false)))
 
 returns-2 : tie.Need-returns invariant-loop decreases-loop
 returns-2 c =

@@ -38,7 +38,7 @@ returns c =
     let p = c in
     let s = lines_of p.args.t.now in
     let o = c.loop-i in
-    sym (first_found (row5 s) (p.args.names + p.args.args + p.args.types) o.i (omega arith) o.invariant.2 (row5_type s p.args.names p.args.args p.args.types p.requires.0 o.i o.invariant.0 (omega arith) ∙ ap not (sym c.good_type.ensures) ∙ c.if-not-good_type.true))
+    sym (first_found (row5 s) (p.args.names + p.args.args + p.args.types) o.i (omega arith) o.invariant.2 (row5_type s p.args.names p.args.args p.args.types p.requires.0 o.i o.invariant.0 (omega arith) ∙ ap not (sym c.good_type.ensures ∙ c.if-not-good_type.true)))
 
 add-i : tie.Need-overflow_add-i invariant-loop decreases-loop
 add-i c =
@@ -51,7 +51,7 @@ loop-again c =
     let p = c in
     let s = lines_of p.args.t.now in
     let o = c.loop-i in
-    (omega arith, omega arith, first_more (row5 s) o.i o.invariant.2 (row5_type s p.args.names p.args.args p.args.types p.requires.0 o.i o.invariant.0 (omega arith) ∙ ap not (sym c.good_type.ensures) ∙ c.if-not-good_type.false))
+    (omega arith, omega arith, first_more (row5 s) o.i o.invariant.2 (row5_type s p.args.names p.args.args p.args.types p.requires.0 o.i o.invariant.0 (omega arith) ∙ ap not (sym c.good_type.ensures ∙ c.if-not-good_type.false)))
 
 returns-2 : tie.Need-returns invariant-loop decreases-loop
 returns-2 c =

@@ -8,7 +8,7 @@ use Rattle.row6_spellings.proofs.text.Tie as tie
 
 returns : tie.Need-returns
 returns c =
-    let a = c.before.args in
+    let a = c.args in
     rw (add-sub_cancel_left, mul_comm a.i 32) (sym (text_at_part 6 a.s.now a.i))
 
 pub text_spec : {M : Type 1} → statement M

@@ -15,122 +15,122 @@ use Rattle.rows_patterns.proofs.check.Statement.{statement}
 use Rattle.rows_patterns.proofs.check.Tie as tie
 
 -- ---- the start, from where a test does not refuse
-abbrev start1 : tie.Else1 → tie.Start
+abbrev start1 : tie.Else-code-eq3 → tie.Start
 start1 c = c.before.before.before.before.before
 
-abbrev start2 : tie.Else2 → tie.Start
+abbrev start2 : tie.Else-other-k → tie.Start
 start2 c = start1 c.before.before
 
-abbrev start3 : tie.Else3 → tie.Start
+abbrev start3 : tie.Else-code-eq4 → tie.Start
 start3 c = start2 c.before
 
-abbrev start4 : tie.Else4 → tie.Start
+abbrev start4 : tie.Else-k-gt-PATTERNS → tie.Start
 start4 c = start3 c.before
 
-abbrev start5 : tie.Else5 → tie.Start
+abbrev start5 : tie.Else-code-eq5 → tie.Start
 start5 c = start4 c.before
 
 -- ---- what each test leaves
-not_three : (c : tie.Else1) → code_of (start1 c).args.front ≡ 3 → ⊥
-not_three c h = c.if1.false (c.before.code_of.ensures ∙ h)
+not_three : (c : tie.Else-code-eq3) → code_of (start1 c).args.front ≡ 3 → ⊥
+not_three c h = c.if-code-eq3.false (c.code_of-code.ensures ∙ h)
 
-letters : (c : tie.Else2) → (let z = (start2 c).args.z.now in first (λ i. not (is pattern_line (raw 6 z i))) (count 6 z) ≡ count 6 z)
-letters c = let z = (start2 c).args.z.now in none_at (λ i. not (is pattern_line (raw 6 z i))) (count 6 z) c.before.first-other.result c.before.first-other.ensures c.if2.false
+letters : (c : tie.Else-other-k) → (let z = (start2 c).args.z.now in first (λ i. not (is pattern_line (raw 6 z i))) (count 6 z) ≡ count 6 z)
+letters c = let z = (start2 c).args.z.now in none_at (λ i. not (is pattern_line (raw 6 z i))) (count 6 z) c.first_other-other.result c.first_other-other.ensures c.if-other-k.false
 
-not_four : (c : tie.Else3) → code_of (start3 c).args.front ≡ 4 → ⊥
-not_four c h = c.if3.false (c.before.before.before.before.code_of.ensures ∙ h)
+not_four : (c : tie.Else-code-eq4) → code_of (start3 c).args.front ≡ 4 → ⊥
+not_four c h = c.if-code-eq4.false (c.code_of-code.ensures ∙ h)
 
-not_five : (c : tie.Else5) → code_of (start5 c).args.front ≡ 5 → ⊥
-not_five c h = c.if5.false (c.before.before.before.before.before.before.code_of.ensures ∙ h)
+not_five : (c : tie.Else-code-eq5) → code_of (start5 c).args.front ≡ 5 → ⊥
+not_five c h = c.if-code-eq5.false (c.code_of-code.ensures ∙ h)
 
 -- ---- sums
-add-t13 : tie.Need-overflow-add-t13
+add-t13 : tie.Need-overflow_add-result
 add-t13 c = let p = start1 c.before.before in omega (arith, places p.args.a.now p.args.z.now p.pre.0.0 p.pre.0.1 p.pre.0.2)
 
-add-t14 : tie.Need-overflow-add-t14
+add-t14 : tie.Need-overflow_add-result-then-k-gt-PATTERNS
 add-t14 c = let p = start3 c.before in omega (arith, places p.args.a.now p.args.z.now p.pre.0.0 p.pre.0.1 p.pre.0.2)
 
-add-t17 : tie.Need-overflow-add-t17
+add-t17 : tie.Need-overflow_add-result-then-outside-k
 add-t17 c = let p = start5 c.before.before.before.before.before.before in omega (arith, places p.args.a.now p.args.z.now p.pre.0.0 p.pre.0.1 p.pre.0.2)
 
 -- ---- the answers before the cells are written
-returns : tie.Need-returns
+returns : tie.Need-returns-then-code-eq3
 returns c =
-    let p = c.before.before.before.before.before in
-    let h = sym c.before.code_of.ensures ∙ c.if1.true in (
+    let p = c in
+    let h = sym c.code_of-code.ensures ∙ c.if-code-eq3.true in (
       at_three p.args.a.now p.args.z.now p.requires.0.0 p.requires.0.1 p.requires.0.2 p.args.front p.requires.1.0 h,
       kept_refused p.args.a.now p.args.z.now p.args.q.now _ p.args.front 2 refl h,
     )
 
-returns-2 : tie.Need-returns-2
+returns-2 : tie.Need-returns-then-other-k
 returns-2 c =
-    let b = c.before.before in
-    let p = start1 b in (
-      at_order p.args.a.now p.args.z.now p.pre.0.0 p.pre.0.1 p.pre.0.2 p.args.front p.pre.1.0 (not_three b) c.before.first-other.result c.before.first-other.ensures c.if2.true,
+    let b = c in
+    let p = start1 b.before.before in (
+      at_order p.args.a.now p.args.z.now p.pre.0.0 p.pre.0.1 p.pre.0.2 p.args.front p.pre.1.0 (not_three b.before.before) c.first_other-other.result c.first_other-other.ensures c.if-other-k.true,
       kept_refused p.args.a.now p.args.z.now p.args.q.now _ _ 2 refl refl,
     )
 
-returns-3 : tie.Need-returns-3
+returns-3 : tie.Need-returns-then-code-eq4
 returns-3 c =
-    let b = c.before in
-    let p = start2 b in
-    let h = sym b.before.before.before.code_of.ensures ∙ c.if3.true in (
-      at_four p.args.a.now p.args.z.now p.pre.0.0 p.pre.0.1 p.pre.0.2 p.args.front p.pre.1.0 (not_three b.before.before) (letters b) h,
+    let b = c in
+    let p = start2 b.before in
+    let h = sym b.code_of-code.ensures ∙ c.if-code-eq4.true in (
+      at_four p.args.a.now p.args.z.now p.pre.0.0 p.pre.0.1 p.pre.0.2 p.args.front p.pre.1.0 (not_three b.before.before.before) (letters b.before) h,
       kept_refused p.args.a.now p.args.z.now p.args.q.now _ p.args.front 3 refl h,
     )
 
-returns-4 : tie.Need-returns-4
+returns-4 : tie.Need-returns-then-k-gt-PATTERNS
 returns-4 c =
-    let b = c.before in
-    let p = start3 b in (
-      at_limit p.args.a.now p.args.z.now p.pre.0.0 p.pre.0.1 p.pre.0.2 p.args.front p.pre.1.0 (not_three b.before.before.before) (letters b.before) (not_four b) c.if4.true,
+    let b = c in
+    let p = start3 b.before in (
+      at_limit p.args.a.now p.args.z.now p.pre.0.0 p.pre.0.1 p.pre.0.2 p.args.front p.pre.1.0 (not_three b.before.before.before.before) (letters b.before.before) (not_four b.before) c.if-k-gt-PATTERNS.true,
       kept_refused p.args.a.now p.args.z.now p.args.q.now _ _ 3 refl refl,
     )
 
-returns-5 : tie.Need-returns-5
+returns-5 : tie.Need-returns-then-code-eq5
 returns-5 c =
-    let b = c.before in
-    let p = start4 b in
-    let d = b.before in
-    let h = sym d.before.before.before.before.code_of.ensures ∙ c.if5.true in (
-      at_five p.args.a.now p.args.z.now p.pre.0.0 p.pre.0.1 p.pre.0.2 p.args.front p.pre.1.0 (not_three d.before.before.before) (letters d.before) (not_four d) b.if4.false h,
+    let b = c in
+    let p = start4 b.before in
+    let d = b in
+    let h = sym d.code_of-code.ensures ∙ c.if-code-eq5.true in (
+      at_five p.args.a.now p.args.z.now p.pre.0.0 p.pre.0.1 p.pre.0.2 p.args.front p.pre.1.0 (not_three d.before.before.before.before.before) (letters d.before.before.before) (not_four d.before.before) b.if-k-gt-PATTERNS.false h,
       kept_refused p.args.a.now p.args.z.now p.args.q.now _ p.args.front 4 refl h,
     )
 
 -- ---- row 5 of the Q lines
-first-outside-requires : tie.Need-first-outside-requires
+first-outside-requires : tie.Need-first_outside-outside-requires
 first-outside-requires c κs =
-    let b = c.before.before in
-    let p = start5 b in
-    let d = b.before.before in (
-      patterned p.args.a.now p.args.z.now p.pre.0.0 p.pre.0.1 p.pre.0.2 p.args.front p.pre.1.0 (not_three d.before.before.before) (letters d.before) (not_four d) b.before.if4.false,
+    let b = c in
+    let p = start5 b.before.before in
+    let d = b in (
+      patterned p.args.a.now p.args.z.now p.pre.0.0 p.pre.0.1 p.pre.0.2 p.args.front p.pre.1.0 (not_three d.before.before.before.before.before.before.before) (letters d.before.before.before.before.before) (not_four d.before.before.before.before) b.if-k-gt-PATTERNS.false,
       p.pre.1.1,
     )
 
-returns-6 : tie.Need-returns-6
+returns-6 : tie.Need-returns-then-outside-k
 returns-6 c =
-    let o = c.before.before.before in
-    let m = o.before.before in
-    let b = m.before in
-    let p = start5 b in
-    let d = b.before.before in
-    let y = o.first_outside.ensures in
-    let e = y.0.place ∙ ap (λ (n : ℕ). first (links.row5 n (lines 6 p.args.z.now)) (count 6 p.args.z.now)) m.names_of.ensures in (
-      at_pattern p.args.a.now p.args.z.now p.pre.0.0 p.pre.0.1 p.pre.0.2 p.args.front p.pre.1.0 (not_three d.before.before.before) (letters d.before) (not_four d) b.before.if4.false
-          (not_five b) o.first_outside.result e c.if6.true,
+    let o = c in
+    let m = o in
+    let b = m in
+    let p = start5 b.before.before.before.before.before.before in
+    let d = b in
+    let y = o.first_outside-outside.ensures in
+    let e = y.0.place ∙ ap (λ (n : ℕ). first (links.row5 n (lines 6 p.args.z.now)) (count 6 p.args.z.now)) m.names_of-names.ensures in (
+      at_pattern p.args.a.now p.args.z.now p.pre.0.0 p.pre.0.1 p.pre.0.2 p.args.front p.pre.1.0 (not_three d.before.before.before.before.before.before.before.before.before.before.before) (letters d.before.before.before.before.before.before.before.before.before) (not_four d.before.before.before.before.before.before.before.before) b.if-k-gt-PATTERNS.false
+          (not_five b.before.before.before.before.before.before) o.first_outside-outside.result e c.if-outside-k.true,
       kept_refused p.args.a.now p.args.z.now p.args.q.now _ _ 4 y.1 refl,
     )
 
-returns-7 : tie.Need-returns-7
+returns-7 : tie.Need-returns
 returns-7 c =
-    let o = c.before.before.before in
-    let m = o.before.before in
-    let b = m.before in
-    let p = start5 b in
-    let d = b.before.before in
-    let y = o.first_outside.ensures in
-    at_rest p.args.a.now p.args.z.now p.pre.0.0 p.pre.0.1 p.pre.0.2 p.args.front p.pre.1.0 (not_three d.before.before.before) (letters d.before) (not_four d) b.before.if4.false
-    m.names_of.result o.first_outside.result p.args.q.now _ m.names_of.ensures y.0 c.if6.false y.1
+    let o = c in
+    let m = o in
+    let b = m in
+    let p = start5 b.before.before.before.before.before.before in
+    let d = b in
+    let y = o.first_outside-outside.ensures in
+    at_rest p.args.a.now p.args.z.now p.pre.0.0 p.pre.0.1 p.pre.0.2 p.args.front p.pre.1.0 (not_three d.before.before.before.before.before.before.before.before.before.before.before) (letters d.before.before.before.before.before.before.before.before.before) (not_four d.before.before.before.before.before.before.before.before) b.if-k-gt-PATTERNS.false
+    m.names_of-names.result o.first_outside-outside.result p.args.q.now _ m.names_of-names.ensures y.0 c.if-outside-k.false y.1
 
 pub check_spec : {M : Type 1} → statement M
 check_spec =

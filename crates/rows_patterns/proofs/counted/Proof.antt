@@ -15,20 +15,20 @@ use Rattle.rows_patterns.proofs.counted.Statement.{statement}
 use Rattle.rows_patterns.proofs.counted.Tie as tie
 
 -- the letter of line i is the byte that was read
-letter_is : (c : tie.After-shared-slice-known2) → (let p = c.before.before.before in letter (line 6 p.args.a.now p.args.i) ≡ get_or c.before.line-bytes.result.now 0 0)
+letter_is : (c : tie.After-shared_slice_known-2-1) → (let p = c in letter (line 6 p.args.a.now p.args.i) ≡ get_or c.line_bytes-l.result.now 0 0)
 letter_is c =
-    let p = c.before.before.before in
-    line_letter p.args.a.now p.args.i p.requires.1 p.requires.0 ∙ ap (λ (l : List ℕ). get_or l 0 0) (sym c.before.line-bytes.ensures.0)
+    let p = c in
+    line_letter p.args.a.now p.args.i p.requires.1 p.requires.0 ∙ ap (λ (l : List ℕ). get_or l 0 0) (sym c.line_bytes-l.ensures.0)
 
-returns : tie.Need-returns
+returns : tie.Need-returns-then-l-eq78
 returns c =
-    let n = c.before.before.before.before.args.names in
-    ap (λ (b : Bool). pick b (n + 1) n) (sym (eq-eqb _ name_line (letter_is c.before ∙ c.if1.true)))
+    let n = c.args.names in
+    ap (λ (b : Bool). pick b (n + 1) n) (sym (eq-eqb _ name_line (letter_is c.before ∙ c.if-l-eq78.true)))
 
-returns-2 : tie.Need-returns-2
+returns-2 : tie.Need-returns
 returns-2 c =
-    let n = c.before.before.before.before.args.names in
-    ap (λ (b : Bool). pick b (n + 1) n) (sym (ne_eqb _ name_line (λ e. c.if1.false (sym (letter_is c.before) ∙ e))))
+    let n = c.args.names in
+    ap (λ (b : Bool). pick b (n + 1) n) (sym (ne_eqb _ name_line (λ e. c.if-l-eq78.false (sym (letter_is c.before) ∙ e))))
 
 pub counted_spec : {M : Type 1} → statement M
 counted_spec =

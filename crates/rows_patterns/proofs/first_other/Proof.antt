@@ -20,39 +20,39 @@ use Rattle.rows_patterns.proofs.first_other.Tie as tie
 abbrev other : List ℕ → ℕ → Bool
 other z i = not (is pattern_line (raw 6 z i))
 
-abbrev invariant-loop : tie.invariant-loop
+abbrev invariant-loop : tie.invariant-loop-i
 invariant-loop z n i₀ i = (i ≤ n) × (first (other z) i ≡ i)
 
-abbrev decreases-loop : tie.decreases-loop
+abbrev decreases-loop : tie.decreases-loop-i
 decreases-loop z n i₀ i = n - i
 
-loop-holds : tie.Need-loop-init invariant-loop decreases-loop
+loop-holds : tie.Need-loop-i-init invariant-loop decreases-loop
 unfolding first
 loop-holds c = (omega arith, refl)
 
 -- the letter of line i is the byte that was read
-letter_is : (c : tie.After-shared-slice-known2 invariant-loop decreases-loop) → (let o = c.before.before.before in letter (raw 6 o.before.before.args.z.now o.loop.i) ≡ get_or c.before.line-bytes.result.now 0 0)
+letter_is : (c : tie.After-shared_slice_known-in-loop-i-1 invariant-loop decreases-loop) → (let o = c in letter (raw 6 o.args.z.now o.loop-i.i) ≡ get_or c.line_bytes-l.result.now 0 0)
 letter_is c =
-    let o = c.before.before.before in
-    raw_letter o.before.before.args.z.now o.loop.i ∙ ap (λ (l : List ℕ). get_or l 0 0) (sym c.before.line-bytes.ensures.0)
+    let o = c in
+    raw_letter o.args.z.now o.loop-i.i ∙ ap (λ (l : List ℕ). get_or l 0 0) (sym c.line_bytes-l.ensures.0)
 
-returns : tie.Need-returns invariant-loop decreases-loop
+returns : tie.Need-returns-then-l-ne81 invariant-loop decreases-loop
 returns c =
-    let o = c.before.before.before.before in
-    let z = o.before.before.args.z.now in
-    sym (first_found (other z) (count 6 z) o.loop.i (search rules) o.loop.invariant.1 (ap not (ne_eqb _ pattern_line (λ e. c.if1.true (sym (letter_is c.before) ∙ e)))))
+    let o = c in
+    let z = o.args.z.now in
+    sym (first_found (other z) (count 6 z) o.loop-i.i (search rules) o.loop-i.invariant.1 (ap not (ne_eqb _ pattern_line (λ e. c.if-l-ne81.true (sym (letter_is c.before) ∙ e)))))
 
-loop-again : tie.Need-loop-preserved invariant-loop decreases-loop
+loop-again : tie.Need-loop-i-preserved invariant-loop decreases-loop
 loop-again c =
-    let o = c.before.before.before.before in
-    let z = o.before.before.args.z.now in
-    (omega arith, first_more (other z) o.loop.i o.loop.invariant.1 (ap not (eq-eqb _ pattern_line (letter_is c.before ∙ c.if1.false))))
+    let o = c in
+    let z = o.args.z.now in
+    (omega arith, first_more (other z) o.loop-i.i o.loop-i.invariant.1 (ap not (eq-eqb _ pattern_line (letter_is c.before ∙ c.if-l-ne81.false))))
 
-returns-2 : tie.Need-returns-2 invariant-loop decreases-loop
+returns-2 : tie.Need-returns invariant-loop decreases-loop
 returns-2 c =
-    let z = c.before.before.before.args.z.now in
-    let e : c.before.loop.i ≡ count 6 z = omega arith in
-    sym (rw e at c.before.loop.invariant.1)
+    let z = c.args.z.now in
+    let e : c.loop-i.i ≡ count 6 z = omega arith in
+    sym (rw e at c.loop-i.invariant.1)
 
 pub first_other_spec : {M : Type 1} → statement M
 first_other_spec =

@@ -10,13 +10,13 @@ use Rattle.rows_patterns.proofs.first_outside.Tie as tie
 
 returns : tie.Need-returns
 returns c =
-    let d = c.before.before.before.before.before in
-    let p = d.before.before.before.before in
+    let d = c in
+    let p = d in
     let z = p.args.z.now in
-    let y = d.decode-lines.ensures in (
-      ranged z p.args.q.now d.decode-lines.new.1.1.0 (length z / 32 * 6) p.requires.0 refl (omega (arith, p.requires.0.few, p.requires.1))
+    let y = d.decode_lines.ensures in (
+      ranged z p.args.q.now d.decode_lines.new.t (length z / 32 * 6) p.requires.0 refl (omega (arith, p.requires.0.few, p.requires.1))
           (y.holds (y.place ∙ row2_none z p.requires.0.no_bad)) p.args.names c.row5.result c.row5.ensures,
-      c.before.before.before.before.q.given.1,
+      c.q-1.given.1,
     )
 
 pub first_outside_spec : {M : Type 1} → statement M

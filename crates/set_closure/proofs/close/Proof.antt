@@ -8,34 +8,34 @@ use Rattle.set_closure.specs.ClosureLaws.{closed_none, closed_more, closed_all, 
 use Rattle.set_closure.proofs.close.Statement.{statement}
 use Rattle.set_closure.proofs.close.Tie as tie
 
-abbrev invariant-loop : tie.invariant-loop
+abbrev invariant-loop : tie.invariant-loop-k
 invariant-loop rows₀ words n k₀ rows k = (k ≤ n) × ClosedTo k n words rows₀ rows
 
-abbrev decreases-loop : tie.decreases-loop
+abbrev decreases-loop : tie.decreases-loop-k
 decreases-loop rows₀ words n k₀ rows k = n - k
 
-loop-holds : tie.Need-loop-init invariant-loop decreases-loop
-loop-holds c = (omega arith, closed_none c.before.args.n c.before.args.words c.before.args.rows.now c.before.requires)
+loop-holds : tie.Need-loop-k-init invariant-loop decreases-loop
+loop-holds c = (omega arith, closed_none c.args.n c.args.words c.args.rows.now c.requires)
 
 through-requires : tie.Need-through-requires invariant-loop decreases-loop
 through-requires c κs =
-    let a = c.before.before.before.before.args in
-    (rows_long a.n a.words a.rows.now _ (steps_rows a.n a.words a.rows.now c.before.before.before.before.requires) c.before.before.loop.invariant.1.same, c.before.loop-test.true)
+    let a = c.args in
+    (rows_long a.n a.words a.rows.now _ (steps_rows a.n a.words a.rows.now c.requires) c.loop-k.invariant.1.same, c.loop-k-test.true)
 
-loop-again : tie.Need-loop-preserved invariant-loop decreases-loop
+loop-again : tie.Need-loop-k-preserved invariant-loop decreases-loop
 loop-again c =
-    let s = c.before.before.before.before.before.loop in
-    let a = c.before.before.before.before.before.before.before.args in
-    let p = c.before.before.before.before.before.before.before.requires in
-    (omega arith, closed_more a.n a.words s.k a.rows.now s.rows _ p.wide c.before.before.before.before.loop-test.true s.invariant.1 c.before.before.through.ensures)
+    let s = c.loop-k in
+    let a = c.args in
+    let p = c.requires in
+    (omega arith, closed_more a.n a.words s.k a.rows.now s.rows _ p.wide c.loop-k-test.true s.invariant.1 c.through.ensures)
 
-same_length : tie.Need-same-length invariant-loop decreases-loop
-same_length c = c.before.loop.invariant.1.same
+same_length : tie.Need-shape_of-rows invariant-loop decreases-loop
+same_length c = c.loop-k.invariant.1.same
 
 returns : tie.Need-returns invariant-loop decreases-loop
 returns c =
-    let s = c.before.loop in
-    let a = c.before.before.before.args in
+    let s = c.loop-k in
+    let a = c.args in
     let e : s.k ≡ a.n = omega arith in
     closed_all a.n a.words a.rows.now s.rows (rw e at s.invariant.1)
 

@@ -8,43 +8,43 @@ use Rattle.set_closure.specs.ClosureLaws.{row_inside, rows_apart}
 use Rattle.set_closure.proofs.pass.Statement.{statement}
 use Rattle.set_closure.proofs.pass.Tie as tie
 
-mul-has : tie.Need-overflow-mul-has
+mul-has : tie.Need-overflow_mul-i
 mul-has c =
-    let a = c.before.before.args in
-    let p = c.before.before.requires in
+    let a = c.args in
+    let p = c.requires in
     omega (arith, row_inside a.n a.words a.i a.rows.now p.0 p.2)
 
 has-requires : tie.Need-has-requires
 has-requires c κs =
-    let a = c.before.before.args in
-    let p = c.before.before.requires in
+    let a = c.args in
+    let p = c.requires in
     omega (arith, row_inside a.n a.words a.i a.rows.now p.0 p.2, p.0.wide, p.1)
 
-returns : tie.Need-returns
+returns : tie.Need-returns-then-not-has
 unfolding passed
-returns c = rw (sym c.before.has.ensures ∙ not-true _ c.if1.true)
+returns c = rw (sym c.has.ensures ∙ c.if-not-has.true)
 
-mul-unite-within : tie.Need-overflow-mul-unite-within
+mul-unite-within : tie.Need-overflow_mul-i-2
 mul-unite-within c =
-    let a = c.before.before.before.before.before.args in
-    let p = c.before.before.before.before.before.requires in
+    let a = c.args in
+    let p = c.requires in
     omega (arith, row_inside a.n a.words a.i a.rows.now p.0 p.2)
 
-mul-unite-within-2 : tie.Need-overflow-mul-unite-within-2
+mul-unite-within-2 : tie.Need-overflow_mul-k
 mul-unite-within-2 c =
-    let a = c.before.before.before.before.before.args in
-    let p = c.before.before.before.before.before.requires in
+    let a = c.args in
+    let p = c.requires in
     omega (arith, row_inside a.n a.words a.k a.rows.now p.0 p.1)
 
-unite-within-requires : tie.Need-unite-within-requires
+unite-within-requires : tie.Need-unite_within-requires
 unite-within-requires c κs =
-    let a = c.before.before.before.before.before.args in
-    let p = c.before.before.before.before.before.requires in
+    let a = c.args in
+    let p = c.requires in
     ((row_inside a.n a.words a.i a.rows.now p.0 p.2, row_inside a.n a.words a.k a.rows.now p.0 p.1), rows_apart a.words a.i a.k)
 
-returns-2 : tie.Need-returns-2
+returns-2 : tie.Need-returns
 unfolding passed
-returns-2 c = c.before.before.unite-within.ensures ∙ sym (rw (sym c.before.before.before.before.before.has.ensures ∙ not-false _ c.before.before.before.before.if1.false))
+returns-2 c = c.unite_within.ensures ∙ sym (rw (sym c.has.ensures ∙ c.if-not-has.false))
 
 pub pass_spec : {M : Type 1} → statement M
 pass_spec =

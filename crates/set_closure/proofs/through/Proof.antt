@@ -9,35 +9,35 @@ use Rattle.set_closure.specs.ClosureLaws.{through_none, through_pass, rows_long}
 use Rattle.set_closure.proofs.through.Statement.{statement}
 use Rattle.set_closure.proofs.through.Tie as tie
 
-abbrev invariant-loop : tie.invariant-loop
+abbrev invariant-loop : tie.invariant-loop-i
 invariant-loop rows₀ words n k i₀ rows i = (i ≤ n) × Through n words k i rows₀ rows
 
-abbrev decreases-loop : tie.decreases-loop
+abbrev decreases-loop : tie.decreases-loop-i
 decreases-loop rows₀ words n k i₀ rows i = n - i
 
-loop-holds : tie.Need-loop-init invariant-loop decreases-loop
-loop-holds c = (omega arith, through_none c.before.args.n c.before.args.words c.before.args.k c.before.args.rows.now)
+loop-holds : tie.Need-loop-i-init invariant-loop decreases-loop
+loop-holds c = (omega arith, through_none c.args.n c.args.words c.args.k c.args.rows.now)
 
 pass-requires : tie.Need-pass-requires invariant-loop decreases-loop
 pass-requires c κs =
-    let p = c.before.before.before.before.requires in
-    let a = c.before.before.before.before.args in
-    (rows_long a.n a.words a.rows.now _ p.0 c.before.before.loop.invariant.1.same, p.1, c.before.loop-test.true)
+    let p = c.requires in
+    let a = c.args in
+    (rows_long a.n a.words a.rows.now _ p.0 c.loop-i.invariant.1.same, p.1, c.loop-i-test.true)
 
-loop-again : tie.Need-loop-preserved invariant-loop decreases-loop
+loop-again : tie.Need-loop-i-preserved invariant-loop decreases-loop
 loop-again c =
-    let s = c.before.before.before.before.before.loop in
-    let a = c.before.before.before.before.before.before.before.args in
-    let p = c.before.before.before.before.before.before.before.requires in
-    (omega arith, through_pass a.n a.words a.k s.i a.rows.now s.rows _ p.0.wide p.0.long c.before.before.before.before.loop-test.true p.1 s.invariant.1 c.before.before.pass.ensures)
+    let s = c.loop-i in
+    let a = c.args in
+    let p = c.requires in
+    (omega arith, through_pass a.n a.words a.k s.i a.rows.now s.rows _ p.0.wide p.0.long c.loop-i-test.true p.1 s.invariant.1 c.pass.ensures)
 
-same_length : tie.Need-same-length invariant-loop decreases-loop
-same_length c = c.before.loop.invariant.1.same
+same_length : tie.Need-shape_of-rows invariant-loop decreases-loop
+same_length c = c.loop-i.invariant.1.same
 
 returns : tie.Need-returns invariant-loop decreases-loop
 returns c =
-    let s = c.before.loop in
-    let e : s.i ≡ c.before.before.before.args.n = omega arith in
+    let s = c.loop-i in
+    let e : s.i ≡ c.args.n = omega arith in
     rw e at s.invariant.1
 
 pub through_spec : {M : Type 1} → statement M

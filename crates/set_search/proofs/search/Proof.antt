@@ -1,6 +1,6 @@
 -- `set_search::search` meets its contract: `TurnLaws` says what holds in its loops. Assumes nothing.
 use mathlib.Core.Path.{◌≡◌, refl, ap, ◌∙◌}
-use mathlib.Core.Logic.{⊎_elim}
+use Rattle.set_search.proofs.search.Lts.{else-search-test, then-search-test+then-loop-name-test+then-name-start}
 use mathlib.Core.Bool.{false}
 use Prim.Native.Nat.{◌-◌, ◌≤◌}
 use native.Mathlib.Omega.{arith}
@@ -26,7 +26,7 @@ abbrev decreases-search : tie.decreases-search
 decreases-search steps words n start marks₀ queue₀ none head₀ last₀ found₀ marks queue head last found = n - head
 
 -- the head is at an entry
-inside : (c : tie.In-search invariant-loop decreases-loop invariant-search decreases-search) → c.search.head ≤ c.search.new
+inside : (c : tie.In-search invariant-loop decreases-loop invariant-search decreases-search) → c.search.head ≤ c.search.last
 inside c = omega (arith, c.search-test.true)
 
 cast-queue : tie.Need-overflow_cast-queue invariant-loop decreases-loop invariant-search decreases-search
@@ -100,22 +100,22 @@ search-again c =
     (inner_done _ _ _ _ _ _ _ _ _ _ _ s.invariant.0 c.loop-name-test.false, s.invariant.1, s.invariant.2 ∙ c.search.invariant.2, s.invariant.3 ∙ c.search.invariant.3)
 
 same_length : tie.Need-shape_of-marks-then-found invariant-loop decreases-loop invariant-search decreases-search
-same_length c = ⊎_elim (λ w. ap length w.1 ∙ c.search.invariant.2 ∙ c.clear.auto.s) (λ w. ap length w.7 ∙ w.4.inv.2 ∙ c.search.invariant.2 ∙ c.clear.auto.s) c.search-test.branch
+same_length c = elim c.search-test.branch [ else-search-test w ↦ ap length w.marks-is ∙ c.search.invariant.2 ∙ c.clear.auto.s | then-search-test+then-loop-name-test+then-name-start w ↦ ap length w.marks-is ∙ w.loop-name.invariant.2 ∙ c.search.invariant.2 ∙ c.clear.auto.s ]
 
 same-length-2 : tie.Need-shape_of-queue-then-found invariant-loop decreases-loop invariant-search decreases-search
-same-length-2 c = ⊎_elim (λ w. ap length w.2 ∙ c.search.invariant.3 ∙ length-set c.args.queue.now 0 _) (λ w. ap length w.8 ∙ w.4.inv.3 ∙ c.search.invariant.3 ∙ length-set c.args.queue.now 0 _) c.search-test.branch
+same-length-2 c = elim c.search-test.branch [ else-search-test w ↦ ap length w.queue-is ∙ c.search.invariant.3 ∙ length-set c.args.queue.now 0 _ | then-search-test+then-loop-name-test+then-name-start w ↦ ap length w.queue-is ∙ w.loop-name.invariant.3 ∙ c.search.invariant.3 ∙ length-set c.args.queue.now 0 _ ]
 
 returns : tie.Need-returns-then-found invariant-loop decreases-loop invariant-search decreases-search
-returns c = ⊎_elim (λ w. contrary c.search-test.found c.if-found.true (w.4 ∙ c.search.invariant.1)) (λ w. rw w.7 (inner_found _ _ _ _ _ _ _ _ _ _ _ w.4.inv.0 w.5.taken w.6.taken)) c.search-test.branch
+returns c = elim c.search-test.branch [ else-search-test w ↦ contrary c.search-test.found c.if-found.true (w.found-is ∙ c.search.invariant.1) | then-search-test+then-loop-name-test+then-name-start w ↦ rw w.marks-is (inner_found _ _ _ _ _ _ _ _ _ _ _ w.loop-name.invariant.0 w.loop-name-test.true w.if-name-start.true) ]
 
 same-length-3 : tie.Need-shape_of-marks invariant-loop decreases-loop invariant-search decreases-search
-same-length-3 c = ⊎_elim (λ w. ap length w.1 ∙ c.search.invariant.2 ∙ c.clear.auto.s) (λ w. ap length w.7 ∙ w.4.inv.2 ∙ c.search.invariant.2 ∙ c.clear.auto.s) c.search-test.branch
+same-length-3 c = elim c.search-test.branch [ else-search-test w ↦ ap length w.marks-is ∙ c.search.invariant.2 ∙ c.clear.auto.s | then-search-test+then-loop-name-test+then-name-start w ↦ ap length w.marks-is ∙ w.loop-name.invariant.2 ∙ c.search.invariant.2 ∙ c.clear.auto.s ]
 
 same-length-4 : tie.Need-shape_of-queue invariant-loop decreases-loop invariant-search decreases-search
-same-length-4 c = ⊎_elim (λ w. ap length w.2 ∙ c.search.invariant.3 ∙ length-set c.args.queue.now 0 _) (λ w. ap length w.8 ∙ w.4.inv.3 ∙ c.search.invariant.3 ∙ length-set c.args.queue.now 0 _) c.search-test.branch
+same-length-4 c = elim c.search-test.branch [ else-search-test w ↦ ap length w.queue-is ∙ c.search.invariant.3 ∙ length-set c.args.queue.now 0 _ | then-search-test+then-loop-name-test+then-name-start w ↦ ap length w.queue-is ∙ w.loop-name.invariant.3 ∙ c.search.invariant.3 ∙ length-set c.args.queue.now 0 _ ]
 
 returns-2 : tie.Need-returns invariant-loop decreases-loop invariant-search decreases-search
-returns-2 c = ⊎_elim (λ w. rw (w.1, w.3) (outer_end _ _ _ _ _ _ _ _ c.search.invariant.0 w.0.left)) (λ w. contrary c.search-test.found w.10 c.if-found.false) c.search-test.branch
+returns-2 c = elim c.search-test.branch [ else-search-test w ↦ rw (w.marks-is, w.last-is) (outer_end _ _ _ _ _ _ _ _ c.search.invariant.0 w.search-test.false) | then-search-test+then-loop-name-test+then-name-start w ↦ contrary c.search-test.found w.found-is c.if-found.false ]
 
 pub search_spec : {M : Type 1} → statement M
 search_spec =

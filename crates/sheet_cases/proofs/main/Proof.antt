@@ -4,10 +4,10 @@ use Prim.Native.Nat.{◌-◌}
 use Rattle.sheet_cases.proofs.main.Statement.{statement}
 use Rattle.sheet_cases.proofs.main.Tie as tie
 
-abbrev invariant-loop : tie.invariant-loop
+abbrev invariant-loop : tie.invariant-loop-i
 invariant-loop n i₀ i = Unit {0}
 
-abbrev decreases-loop : tie.decreases-loop
+abbrev decreases-loop : tie.decreases-loop-i
 decreases-loop n i₀ i = n - i
 
 pub main_spec : {M : Type 1} → statement M

@@ -4,10 +4,10 @@ use Prim.Native.Nat.{◌-◌, ◌≤◌}
 use Rattle.sheet_cases.proofs.put_cells.Statement.{statement}
 use Rattle.sheet_cases.proofs.put_cells.Tie as tie
 
-abbrev invariant-loop : tie.invariant-loop
+abbrev invariant-loop : tie.invariant-loop-k
 invariant-loop s i k₀ k = k ≤ 6
 
-abbrev decreases-loop : tie.decreases-loop
+abbrev decreases-loop : tie.decreases-loop-k
 decreases-loop s i k₀ k = 6 - k
 
 pub put_cells_spec : {M : Type 1} → statement M

@@ -4,10 +4,10 @@ use Prim.Native.Nat.{◌-◌, ◌≤◌}
 use Rattle.sheet_cases.proofs.put_lines.Statement.{statement}
 use Rattle.sheet_cases.proofs.put_lines.Tie as tie
 
-abbrev invariant-loop : tie.invariant-loop
+abbrev invariant-loop : tie.invariant-loop-i
 invariant-loop s i₀ i-end i = i ≤ i-end
 
-abbrev decreases-loop : tie.decreases-loop
+abbrev decreases-loop : tie.decreases-loop-i
 decreases-loop s i₀ i-end i = i-end - i
 
 pub put_lines_spec : {M : Type 1} → statement M

@@ -5,14 +5,14 @@ use Rattle.table_access.proofs.decls.Statement.{statement}
 use Rattle.table_access.specs.Tables.{lines_in}
 use Rattle.table_access.proofs.decls.Tie as tie
 
-shared-slice-read-result : tie.Need-shared-slice-read-result
-shared-slice-read-result c = (read_decls (lines_in c.before.args.t.now) c.before.args.t.now c.before.requires).0
+shared-slice-read-result : tie.Need-bounds-t-1
+shared-slice-read-result c = (read_decls (lines_in c.args.t.now) c.args.t.now c.requires).0
 
-cast-result : tie.Need-overflow-cast-result
-cast-result c = omega (arith, c.shared-slice-known.given 1)
+cast-result : tie.Need-overflow_cast-result
+cast-result c = omega (arith, c.shared_slice_known-1.given 1)
 
 returns : tie.Need-returns
-returns c = (read_decls (lines_in c.before.args.t.now) c.before.args.t.now c.before.requires).1
+returns c = (read_decls (lines_in c.args.t.now) c.args.t.now c.requires).1
 
 pub decls_spec : {M : Type 1} → statement M
 decls_spec = tie.close (tie.spec shared-slice-read-result cast-result returns)

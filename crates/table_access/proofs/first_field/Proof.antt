@@ -7,17 +7,17 @@ use Rattle.table_access.proofs.first_field.Statement.{statement}
 use Rattle.table_access.specs.Tables.{lines_in}
 use Rattle.table_access.proofs.first_field.Tie as tie
 
-mul-cell : tie.Need-overflow-mul-cell
-mul-cell c = let a = c.before in omega (arith, (read_begin (lines_in a.args.t.now) a.args.t.now a.requires.0 a.args.d 3 a.requires.1 (omega arith)).within.in_section)
+mul-cell : tie.Need-overflow_mul-d
+mul-cell c = let a = c in omega (arith, (read_begin (lines_in a.args.t.now) a.args.t.now a.requires.0 a.args.d 3 a.requires.1 (omega arith)).within.in_section)
 
-add-cell : tie.Need-overflow-add-cell
-add-cell c = let a = c.before in omega (arith, (read_begin (lines_in a.args.t.now) a.args.t.now a.requires.0 a.args.d 3 a.requires.1 (omega arith)).within.in_section)
+add-cell : tie.Need-overflow_add-d
+add-cell c = let a = c in omega (arith, (read_begin (lines_in a.args.t.now) a.args.t.now a.requires.0 a.args.d 3 a.requires.1 (omega arith)).within.in_section)
 
 cell-requires : tie.Need-cell-requires
-cell-requires c κs = let a = c.before in (read_begin (lines_in a.args.t.now) a.args.t.now a.requires.0 a.args.d 3 a.requires.1 (omega arith)).within
+cell-requires c κs = let a = c in (read_begin (lines_in a.args.t.now) a.args.t.now a.requires.0 a.args.d 3 a.requires.1 (omega arith)).within
 
 returns : tie.Need-returns
-returns c = let a = c.before.before in c.cell.ensures ∙ (read_begin (lines_in a.args.t.now) a.args.t.now a.requires.0 a.args.d 3 a.requires.1 (omega arith)).value
+returns c = let a = c in c.cell.ensures ∙ (read_begin (lines_in a.args.t.now) a.args.t.now a.requires.0 a.args.d 3 a.requires.1 (omega arith)).value
 
 pub first_field_spec : {M : Type 1} → statement M
 first_field_spec = tie.close (tie.spec mul-cell add-cell cell-requires (λ c. search rules) returns)

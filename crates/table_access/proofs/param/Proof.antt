@@ -7,10 +7,10 @@ use Rattle.table_access.proofs.param.Statement.{statement}
 use Rattle.table_access.proofs.param.Tie as tie
 
 placed-requires : tie.Need-placed-requires
-placed-requires c κs = let a = c.before in (read_param (lines_in a.args.t.now) a.args.t.now a.requires.0 a.args.p a.requires.1).within
+placed-requires c κs = let a = c in (read_param (lines_in a.args.t.now) a.args.t.now a.requires.0 a.args.p a.requires.1).within
 
 returns : tie.Need-returns
-returns c = let a = c.before.before in c.placed.ensures ∙ (read_param (lines_in a.args.t.now) a.args.t.now a.requires.0 a.args.p a.requires.1).value
+returns c = let a = c in c.placed.ensures ∙ (read_param (lines_in a.args.t.now) a.args.t.now a.requires.0 a.args.p a.requires.1).value
 
 pub param_spec : {M : Type 1} → statement M
 param_spec = tie.close (tie.spec placed-requires (λ c. search rules) returns)

@@ -15,17 +15,17 @@ returns : tie.Need-returns-then-not-lists
 unfolding puts
 returns c =
     let a = c.args in
-    rw (listed_none (node_of a.w) a.ns.now (sym c.lists.ensures ∙ not-true c.lists.result c.if-not-lists.true)) (refl, refl)
+    rw (listed_none (node_of a.w) a.ns.now (sym c.lists.ensures ∙ c.if-not-lists.true)) (refl, refl)
 
 put-args-requires : tie.Need-put_args-requires
 put-args-requires c κs =
     let a = c.args in
-    rw (listed_all (node_of a.w) a.ns.now (sym c.lists.ensures ∙ not-false c.lists.result c.if-not-lists.false)) at c.requires
+    rw (listed_all (node_of a.w) a.ns.now (sym c.lists.ensures ∙ c.if-not-lists.false)) at c.requires
 
 returns-2 : tie.Need-returns
 returns-2 c =
     let a = c.args in
-    rw (listed_all (node_of a.w) a.ns.now (sym c.lists.ensures ∙ not-false c.lists.result c.if-not-lists.false)) (refl, c.put_args.ensures)
+    rw (listed_all (node_of a.w) a.ns.now (sym c.lists.ensures ∙ c.if-not-lists.false)) (refl, c.put_args.ensures)
 
 pub put_list_spec : {M : Type 1} → statement M
 put_list_spec =

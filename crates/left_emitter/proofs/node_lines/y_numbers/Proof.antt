@@ -15,7 +15,7 @@ returns-2 : tie.Need-returns-in-0-to-6
 returns-2 c =
     let a = c.args in
     let k = c.kind-k.ensures in
-    rw (c.own-x.ensures, k) (leaf_row (node_of a.w) a.ns.now a.a (rw k at c.in_default-1.rest.1) (rw k at c.in-0-to-6.if-k-lt7-own.true))
+    rw (c.own-x.ensures, k) (leaf_row (node_of a.w) a.ns.now a.a (rw k at c.in-0-to-6.in_default-own.rest.1) (rw k at c.in-0-to-6.if-k-lt7-own.true))
 
 returns-3 : tie.Need-returns-in-7-to-9
 returns-3 c =
@@ -35,7 +35,7 @@ returns-3 c =
       c.count-n.ensures,
       k,
     )
-    (inner_row (node_of a.w) a.ns.now a.a (rw k at c.if-k-lt7.false) (rw k at c.in-7-to-9.if-k-lt10-own.true))
+    (inner_row (node_of a.w) a.ns.now a.a (rw k at c.in-7-to-9.if-k-lt7-own.false) (rw k at c.in-7-to-9.if-k-lt10-own.true))
 
 returns-4 : tie.Need-returns-in_default
 returns-4 c =

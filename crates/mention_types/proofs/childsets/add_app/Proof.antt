@@ -6,20 +6,20 @@ use borrow.Author.Rules.{rules}
 use Rattle.mention_types.proofs.childsets.add_app.Statement.{statement}
 use Rattle.mention_types.proofs.childsets.add_app.Tie as tie
 
-add-name-requires : tie.Need-add-name-requires
+add-name-requires : tie.Need-add_name-requires
 add-name-requires c κs =
-    let p = c.before.before.before.before.before.before.requires in
-    (p.0, (rw c.before.before.before.type_number.ensures (app_name _ p.0.passed _ p.1.1.0 p.1.1.1), (p.1.0.wide, row_in _ p.0.passed _ _ _ p.1.0 p.1.1.0)))
+    let p = c.requires in
+    (p.0, (rw c.type_number-name.ensures (app_name _ p.0.passed _ p.1.1.0 p.1.1.1), (p.1.0.wide, row_in _ p.0.passed _ _ _ p.1.0 p.1.1.0)))
 
-add-list-requires : tie.Need-add-list-requires
+add-list-requires : tie.Need-add_list-requires
 add-list-requires c κs =
-    let p = c.before.before.before.before.before.before.before.before.before.before.requires in
-    (p.0, (rw (c.before.before.before.before.before.before.type-number2.ensures, c.before.before.before.before.before.type-number3.ensures) (app_low _ p.0.passed _ p.1.1.0 p.1.1.1), rw c.before.before.before.add-name.ensures.long (row_in _ p.0.passed _ _ _ p.1.0 p.1.1.0)))
+    let p = c.requires in
+    (p.0, (rw (c.type_number-first.ensures, c.type_number-k.ensures) (app_low _ p.0.passed _ p.1.1.0 p.1.1.1), rw c.add_name.ensures.long (row_in _ p.0.passed _ _ _ p.1.0 p.1.1.0)))
 
 returns : tie.Need-returns
 returns c =
-    let p = c.before.before.before.before.before.before.before.before.before.before.before.before.before.requires in
-    adds_app _ p.0.passed _ _ _ p.1.0 p.1.1.0 p.1.1.1 _ _ (rw c.before.before.before.before.before.before.before.before.before.before.type_number.ensures at c.before.before.before.before.before.before.add-name.ensures) (rw (c.before.before.before.before.before.before.before.before.before.type-number2.ensures, c.before.before.before.before.before.before.before.before.type-number3.ensures) at c.before.before.add-list.ensures)
+    let p = c.requires in
+    adds_app _ p.0.passed _ _ _ p.1.0 p.1.1.0 p.1.1.1 _ _ (rw c.type_number-name.ensures at c.add_name.ensures) (rw (c.type_number-first.ensures, c.type_number-k.ensures) at c.add_list.ensures)
 
 pub add_app_spec : {M : Type 1} → statement M
 add_app_spec =
@@ -33,5 +33,5 @@ add_app_spec =
     (λ c. search rules)
     add-name-requires
     add-list-requires
-    (λ c. c.before.before.add-list.auto.1.0 ∙ c.before.before.before.before.before.before.add-name.auto.1.0)
+    (λ c. c.add_list.auto.sets ∙ c.add_name.auto.sets)
     returns)

@@ -4,16 +4,16 @@ use borrow.Author.Rules.{rules}
 use Rattle.mention_types.proofs.childsets.add_child.Statement.{statement}
 use Rattle.mention_types.proofs.childsets.add_child.Tie as tie
 
-add-type-requires : tie.Need-add-type-requires
+add-type-requires : tie.Need-add_type-requires
 add-type-requires c κs =
-    let p = c.before.before.before.before.requires in
-    (rw c.before.type_number.ensures p.1.1.1, row_in _ p.0.passed _ _ _ p.1.0 p.1.1.0.0)
+    let p = c.requires in
+    (rw c.type_number-c.ensures p.1.1.1, row_in _ p.0.passed _ _ _ p.1.0 p.1.1.0.0)
 
 returns : tie.Need-returns
 returns c =
-    let p = c.before.before.before.before.before.before.before.requires in
-    adds_child _ p.0.passed _ _ _ p.1.0 p.1.1.0.0 _ p.1.1.1 _ (rw c.before.before.before.before.type_number.ensures at c.before.before.add-type.ensures)
+    let p = c.requires in
+    adds_child _ p.0.passed _ _ _ p.1.0 p.1.1.0.0 _ p.1.1.1 _ (rw c.type_number-c.ensures at c.add_type.ensures)
 
 pub add_child_spec : {M : Type 1} → statement M
 add_child_spec =
-    tie.close (tie.spec (λ c κs. search rules) (λ c. search rules) add-type-requires (λ c. c.before.before.add-type.auto.0) returns)
+    tie.close (tie.spec (λ c κs. search rules) (λ c. search rules) add-type-requires (λ c. c.add_type.auto.sets) returns)

@@ -5,11 +5,11 @@ use borrow.Author.Rules.{rules}
 use Rattle.mention_types.proofs.sets.add_name.Statement.{statement}
 use Rattle.mention_types.proofs.sets.add_name.Tie as tie
 
-returns : tie.Need-returns
+returns : tie.Need-returns-then-d-decls
 returns c =
-    let a = c.before.before.before.before.before.before.before.before.before.args in
-    let p = c.before.before.before.before.before.before.before.before.before.requires in
-    let declared = rw c.before.before.before.before.before.decls.ensures at c.before.before.before.before.if1.true in
+    let a = c.args in
+    let p = c.requires in
+    let declared = rw c.decls.ensures at c.if-d-decls.true in
     adds_declared
     _
     a.n
@@ -18,14 +18,14 @@ returns c =
     _
     a.sets.now
     _
-    c.before.before.before.before.before.before.decl_of.ensures
+    c.decl_of-d.ensures
     declared
-    (rw c.before.before.insert.ensures (adds_one a.words a.y a.sets.now _ (omega (arith, declared, p.1.1.0)) p.1.1.1))
+    (rw c.insert.ensures (adds_one a.words a.y a.sets.now _ (omega (arith, declared, p.1.1.0)) p.1.1.1))
 
-returns-2 : tie.Need-returns-2
+returns-2 : tie.Need-returns-else-d-decls
 returns-2 c =
-    let a = c.before.before.before.before.before.args in
-    adds_foreign _ a.n a.words a.y _ a.sets.now c.before.before.decl_of.ensures (rw c.before.decls.ensures at c.if1.false)
+    let a = c.args in
+    adds_foreign _ a.n a.words a.y _ a.sets.now c.decl_of-d.ensures (rw c.decls.ensures at c.if-d-decls.false)
 
 pub add_name_spec : {M : Type 1} → statement M
 add_name_spec =

@@ -21,7 +21,7 @@ returns-3 c = let h : c.args.kind ≤ 1 = omega arith in simp (le-leb _ _ h)
 returns-4 : tie.Need-returns-in_default
 unfolding announced
 returns-4 c =
-    simp (lt-leb _ _ c.in_default.if-kind-lt2-own.false, ne_eqb _ _ c.in_default-1.rest.0.1, ne_eqb _ _ c.in_default-1.rest.1)
+    simp (lt-leb _ _ c.in_default.if-kind-lt2-own.false, ne_eqb _ _ c.in_default.in_default-own.rest.0.1, ne_eqb _ _ c.in_default.in_default-own.rest.1)
 
 pub announced_spec : {M : Type 1} → statement M
 announced_spec = tie.close (tie.spec returns returns-2 returns-3 returns-4)

@@ -64,17 +64,17 @@ returns-10 : tie.Need-returns-in-0-to-2
 unfolding good_type
 returns-10 c =
     let v = c.number-kind in
-    let h : v.result ≤ 2 = omega arith in
-    rw (c.zeros_from-in-0-to-2.ensures, ← v.ensures, le-leb _ _ h)
+    let h : c.number-kind.result ≤ 2 = omega arith in
+    rw (c.zeros_from-in-0-to-2.ensures, ← c.number-kind.ensures, le-leb _ _ h)
 
 returns-11 : tie.Need-returns-in_default
 returns-11 c =
     let m = c in
-    let r = c.in_default-1.rest in
+    let r = c.in_default.in_default-own.rest in
     let k = m.number-kind.result in
     let a = m.args in
-    let h : 10 ≤ k = past 9 k (past 8 k (past 7 k (past 6 k (past 5 k (past 4 k (past 3 k c.in_default.if-kind-lt3-own.false r.0.0.0.0.0.0.0.0.1) r.0.0.0.0.0.0.0.1) r.0.0.0.0.0.0.1) r.0.0.0.0.0.1) r.0.0.0.0.1) r.0.0.0.1) r.0.0.1 in
-    let o : 13 ≤ k = past 12 k (past 11 k (past 10 k h (λ e. r.1 (inl e))) r.0.1) (λ e. r.1 (inr e)) in
+    let h : 10 ≤ k = past 9 k (past 8 k (past 7 k (past 6 k (past 5 k (past 4 k (past 3 k c.in_default.if-kind-lt3-own.false c.in_default.in_default-own.rest.0.0.0.0.0.0.0.0.1) c.in_default.in_default-own.rest.0.0.0.0.0.0.0.1) c.in_default.in_default-own.rest.0.0.0.0.0.0.1) c.in_default.in_default-own.rest.0.0.0.0.0.1) c.in_default.in_default-own.rest.0.0.0.0.1) c.in_default.in_default-own.rest.0.0.0.1) c.in_default.in_default-own.rest.0.0.1 in
+    let o : 13 ≤ k = past 12 k (past 11 k (past 10 k h (λ e. c.in_default.in_default-own.rest.1 (inl e))) c.in_default.in_default-own.rest.0.1) (λ e. c.in_default.in_default-own.rest.1 (inr e)) in
     sym (type_over a.names (types_of (lines_of a.t.now)) a.y (nth_line (lines_of a.t.now) a.i) (rw (← m.number-kind.ensures) o))
 
 pub good_type_spec : {M : Type 1} → statement M

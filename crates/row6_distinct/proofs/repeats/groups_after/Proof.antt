@@ -16,32 +16,32 @@ bit : (b : Bool) → pick b 1 0 ≤ 1
 bit true = omega arith
 bit false = omega arith
 
-returns : tie.Need-returns
+returns : tie.Need-returns-then-letter-eq73
 returns c =
-    let m = c.before.before.before.before in
-    let a = m.before.before in
-    groups_head (nth_line (lines_of a.args.t.now) a.args.i) a.args.g m.letter.result m.letter.ensures (inr c.before.before.if2.true)
+    let m = c in
+    let a = m in
+    groups_head (nth_line (lines_of a.args.t.now) a.args.i) a.args.g m.letter-letter.result m.letter-letter.ensures (inr c.if-letter-eq73.true)
 
-returns-2 : tie.Need-returns-2
+returns-2 : tie.Need-returns-then-letter-gt70
 returns-2 c =
-    let m = c.before.before in
-    let a = m.before.before in
-    groups_later (nth_line (lines_of a.args.t.now) a.args.i) a.args.g m.letter.result m.letter.ensures c.before.if1.true c.if2.false
+    let m = c in
+    let a = m in
+    groups_later (nth_line (lines_of a.args.t.now) a.args.i) a.args.g m.letter-letter.result m.letter-letter.ensures c.if-letter-gt70.true c.if-letter-eq73.false
 
-returns-3 : tie.Need-returns-3
+returns-3 : tie.Need-returns-then-letter-eq68
 returns-3 c =
-    let m = c.before.before.before.before in
-    let a = m.before.before in
-    groups_head (nth_line (lines_of a.args.t.now) a.args.i) a.args.g m.letter.result m.letter.ensures (inl c.before.before.if3.true)
+    let m = c in
+    let a = m in
+    groups_head (nth_line (lines_of a.args.t.now) a.args.i) a.args.g m.letter-letter.result m.letter-letter.ensures (inl c.if-letter-eq68.true)
 
-add-t12 : tie.Need-overflow-add-t12
-add-t12 c = omega (arith, c.before.before.before.before.before.before.requires.1.1, c.before.picked-group.ensures, bit (ltb c.before.before.before.before.letter.result 68))
+add-t12 : tie.Need-overflow_add-result-2
+add-t12 c = omega (arith, c.requires.1.1, c.picked_group.ensures, bit (ltb c.letter-letter.result 68))
 
-returns-4 : tie.Need-returns-4
+returns-4 : tie.Need-returns
 returns-4 c =
-    let m = c.before.before.before.before in
-    let a = m.before.before in
-    rw c.before.picked-group.ensures (groups_member (nth_line (lines_of a.args.t.now) a.args.i) a.args.g m.letter.result m.letter.ensures (told (nth_line (lines_of a.args.t.now) a.args.i) a.args.g m.letter.result m.letter.ensures a.requires.0.1 c.before.before.before.if1.false c.before.before.if3.false))
+    let m = c in
+    let a = m in
+    rw c.picked_group.ensures (groups_member (nth_line (lines_of a.args.t.now) a.args.i) a.args.g m.letter-letter.result m.letter-letter.ensures (told (nth_line (lines_of a.args.t.now) a.args.i) a.args.g m.letter-letter.result m.letter-letter.ensures a.requires.0.1 c.if-letter-gt70.false c.if-letter-eq68.false))
 
 pub groups_after_spec : {M : Type 1} → statement M
 groups_after_spec =

@@ -11,54 +11,54 @@ use Rattle.row6_distinct.specs.Keys.{Last, Clear, clear_last, clear_next, clear_
 use Rattle.row6_distinct.proofs.respellings.spelled_before.Statement.{statement}
 use Rattle.row6_distinct.proofs.respellings.spelled_before.Tie as tie
 
-abbrev invariant-loop : tie.invariant-loop
+abbrev invariant-loop : tie.invariant-loop-c
 invariant-loop s i last before own c₀ c = (own ≡ text_at 6 s i) × Clear s i c
 
-abbrev decreases-loop : tie.decreases-loop
+abbrev decreases-loop : tie.decreases-loop-c
 decreases-loop s i last before own c₀ c = c
 
-loop-holds : tie.Need-loop-init invariant-loop decreases-loop
+loop-holds : tie.Need-loop-c-init invariant-loop decreases-loop
 loop-holds c =
-    let a = c.before.before in
-    (c.text.ensures, clear_last a.args.s.now a.args.i a.args.last a.requires.1.0)
+    let a = c in
+    (c.text-own.ensures, clear_last a.args.s.now a.args.i a.args.last a.requires.1.0)
 
 -- line c - 1 is before line i
-below : (c : tie.In-loop invariant-loop decreases-loop) → c.before.loop.c - 1 < c.before.before.before.before.args.i
-below c = omega (arith, c.before.loop.invariant.1.within)
+below : (c : tie.In-loop-c invariant-loop decreases-loop) → c.loop-c.c - 1 < c.args.i
+below c = omega (arith, c.loop-c.invariant.1.within)
 
-text-requires-2 : tie.Need-text-requires-2 invariant-loop decreases-loop
-text-requires-2 c κs = omega (arith, below c, c.before.before.before.before.requires.0.0)
+text-requires-2 : tie.Need-text-requires invariant-loop decreases-loop
+text-requires-2 c κs = omega (arith, below c, c.requires.0.0)
 
 test : (c : tie.After-same invariant-loop decreases-loop)
-    → equal (text_at 6 c.before.before.before.before.before.before.args.s.now (c.before.before.before.loop.c - 1)) (text_at 6 c.before.before.before.before.before.before.args.s.now c.before.before.before.before.before.before.args.i) ≡ c.same.result
-test c = sym (c.same.ensures ∙ rw (c.before.text2.ensures, c.before.before.before.loop.invariant.0))
+    → equal (text_at 6 c.args.s.now (c.loop-c.c - 1)) (text_at 6 c.args.s.now c.args.i) ≡ c.same.result
+test c = sym (c.same.ensures ∙ rw (c.text.ensures, c.loop-c.invariant.0))
 
-returns : tie.Need-returns invariant-loop decreases-loop
+returns : tie.Need-returns-then-same invariant-loop decreases-loop
 returns c =
-    let a = c.before.before.before.before.before.before.before.args in
-    sym (clear_found a.s.now a.i (c.before.before.before.before.loop.c - 1) (below c.before.before.before) (test c.before ∙ c.if1.true))
+    let a = c.args in
+    sym (clear_found a.s.now a.i (c.loop-c.c - 1) (below c.before.before.before) (test c.before ∙ c.if-same.true))
 
-in_befores : (c : tie.Else1 invariant-loop decreases-loop) → c.before.before.before.before.loop.c - 1 < 256
-in_befores c = omega (arith, below c.before.before.before, c.before.before.before.before.before.before.before.requires.0.1)
+in_befores : (c : tie.Else-same invariant-loop decreases-loop) → c.loop-c.c - 1 < 256
+in_befores c = omega (arith, below c.before.before.before, c.requires.0.1)
 
 -- the last line before line c - 1 of its key
-next : (c : tie.After-wide invariant-loop decreases-loop)
-    → Last c.before.before.before.before.before.before.before.before.before.args.s.now (key_of (text_at 6 c.before.before.before.before.before.before.before.before.before.args.s.now (c.before.before.before.before.before.before.loop.c - 1))) (c.before.before.before.before.before.before.loop.c - 1) c.wide.result
-next c = rw c.wide.ensures (c.before.before.before.before.before.before.before.before.before.requires.1.1.held (c.before.before.before.before.before.before.loop.c - 1) (below c.before.before.before.before.before))
+next : (c : tie.After-wide-c invariant-loop decreases-loop)
+    → Last c.args.s.now (key_of (text_at 6 c.args.s.now (c.loop-c.c - 1))) (c.loop-c.c - 1) c.wide-c.result
+next c = rw c.wide-c.ensures (c.requires.1.1.held (c.loop-c.c - 1) (below c.before.before.before.before.before.before))
 
-loop-less : tie.Need-loop-smaller invariant-loop decreases-loop
+loop-less : tie.Need-loop-c-smaller invariant-loop decreases-loop
 loop-less c = omega (arith, (next c).within)
 
-loop-again : tie.Need-loop-preserved invariant-loop decreases-loop
+loop-again : tie.Need-loop-c-preserved invariant-loop decreases-loop
 loop-again c =
-    let a = c.before.before.before.before.before.before.before.before.before.args in
-    let l = c.before.before.before.before.before.before.loop in
-    (l.invariant.0, clear_next a.s.now a.i l.c (l.c - 1) c.wide.result (omega arith) (test c.before.before.before ∙ c.before.before.if1.false) (next c) l.invariant.1)
+    let a = c.args in
+    let l = c.loop-c in
+    (l.invariant.0, clear_next a.s.now a.i l.c (l.c - 1) c.wide-c.result (omega arith) (test c.before.before.before.before ∙ c.if-same.false) (next c) l.invariant.1)
 
-returns-2 : tie.Need-returns-2 invariant-loop decreases-loop
+returns-2 : tie.Need-returns invariant-loop decreases-loop
 returns-2 c =
-    let a = c.before.before.before.before in
-    let l = c.before.loop in
+    let a = c in
+    let l = c.loop-c in
     sym (clear_none a.args.s.now a.args.i l.c (omega arith) l.invariant.1)
 
 pub spelled_before_spec : {M : Type 1} → statement M

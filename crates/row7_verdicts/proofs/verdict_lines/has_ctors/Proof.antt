@@ -6,7 +6,7 @@ use Rattle.row7_verdicts.proofs.verdict_lines.has_ctors.Statement.{statement}
 use Rattle.row7_verdicts.proofs.verdict_lines.has_ctors.Tie as tie
 
 returns : tie.Need-returns-in-2-to-3
-returns c = sym (ctors_within c.args.kind c.if-kind-lt2.false c.in-2-to-3.if-kind-lt4-own.true)
+returns c = sym (ctors_within c.args.kind c.in-2-to-3.if-kind-lt2-own.false c.in-2-to-3.if-kind-lt4-own.true)
 
 returns-2 : tie.Need-returns-in_default
 returns-2 c = sym (ctors_outside c.args.kind (λ e. omega arith) (λ e. omega arith))

@@ -39,7 +39,7 @@ loop-again c =
     let s = c.loop-k in
     let r = c.mark in
     let t = c.loop-k-test.true in
-    (omega (arith, t), r.auto.1.1.1.1.1.0 ∙ s.invariant.1, r.auto.1.1.1.1.1.1.0 ∙ s.invariant.2, looped_more _ _ _ _ _ _ _ (omega (arith, t, c.requires.1.1.1)) r.ensures s.invariant.3)
+    (omega (arith, t), r.auto.marks ∙ s.invariant.1, r.auto.queue ∙ s.invariant.2, looped_more _ _ _ _ _ _ _ (omega (arith, t, c.requires.1.1.1)) r.ensures s.invariant.3)
 
 same_length : tie.Need-shape_of-marks invariant-loop decreases-loop
 same_length c = c.loop-k.invariant.1

@@ -23,12 +23,12 @@ returns-4 c =
 returns-5 : tie.Need-returns-in_default-a
 returns-5 c =
     let a = c.args in
-    sym (pair_first a.a a.b c.in_default-1.rest.1 (λ h k. omega (arith, c.in_default-a.if-a-lt49-own.true)))
+    sym (pair_first a.a a.b c.in_default-a.in_default-own.rest.1 (λ h k. omega (arith, c.in_default-a.if-a-lt49-own.true)))
 
 returns-6 : tie.Need-returns-in_default-a-2
 returns-6 c =
     let a = c.args in
-    sym (pair_first a.a a.b c.in_default-1.rest.1 (λ h k. omega (arith, c.in_default-a.if-a-lt58-own.false)))
+    sym (pair_first a.a a.b c.in_default-a.in_default-own.rest.1 (λ h k. omega (arith, c.in_default-a.if-a-lt58-own.false)))
 
 pub one_spec : {M : Type 1} → statement M
 one_spec =

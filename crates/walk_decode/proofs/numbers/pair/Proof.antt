@@ -1,5 +1,5 @@
 -- `walk_decode::numbers::pair` meets its contract, by the two bytes. Assumes nothing.
-use mathlib.Core.Logic.{⊎_elim}
+use Rattle.walk_decode.proofs.numbers.pair.Lts.{in-32-1, in_default+else-a-lt49+then-a-lt58}
 use native.Mathlib.Omega.{arith}
 use borrow.Author.Rules.{rules}
 use Rattle.walk_decode.specs.NumberLaws.{pair_space, pair_digit}
@@ -9,12 +9,12 @@ use Rattle.walk_decode.proofs.numbers.pair.Tie as tie
 returns-5 : tie.Need-returns
 returns-5 c =
     let a = c.args in
-    let h = c.if-b-lt48.false in
+    let h = c.in-48-to-57.if-b-lt48-own.false in
     let k = c.in-48-to-57.if-b-lt58-own.true in
-    λ _. ⊎_elim
-    (λ w. pair_space a.a a.b w.keys1 h (omega (arith, k)))
-    (λ w. pair_digit a.a a.b w.1.left (omega (arith, w.2.taken)) h (omega (arith, k)))
-    c.match-a.branch
+    λ _. elim c.match-a.branch [
+      in-32-1 w ↦ pair_space a.a a.b w.in-32-1.keys1 h (omega (arith, k))
+    | in_default+else-a-lt49+then-a-lt58 w ↦ pair_digit a.a a.b w.if-a-lt49-1.false (omega (arith, w.if-a-lt58-1.true)) h (omega (arith, k))
+    ]
 
 pub pair_spec : {M : Type 1} → statement M
 pair_spec =
