@@ -133,174 +133,174 @@ abbrev emit_tree_below : ℕ → In 4 emit-tree-kinds.ps
 emit_tree_below t =
     and 4 emit-tree-kinds.ps (falls 4 emit-tree-kinds.ps ◌<◌ μ_emit_tree t) emit-tree.Pre
 
-abbrev emit_form_Inv_loop : emit-form-lts.invariant-loop
+abbrev emit_form_Inv_loop : emit-form-lts.invariant-loop-i
 emit_form_Inv_loop t u f y d places m out₀ at start n last₀ from₀ end₀ r₀ i₀ out last from end r i =
     (i ≤ n) × (length out ≡ length out₀) × (r ≤ length out) × Put (filled (kid_words (lines_in t) u f d places y) (kids_of (lines_in t) y) (take i (take n (drop start f)))) out₀ at r out × (last < y → Stands (words (lines_in t) u f d places last) out from end r)
 
-abbrev emit_form_μ_loop : emit-form-lts.decreases-loop
+abbrev emit_form_μ_loop : emit-form-lts.decreases-loop-i
 emit_form_μ_loop t u f y d places m out₀ at start n last₀ from₀ end₀ r₀ i₀ out last from end r i =
     n - i
 
-emit_form_loop_holds : (t : ℕ) → emit-form-lts.Need-loop-init (
+emit_form_loop_holds : (t : ℕ) → emit-form-lts.Need-loop-i-init (
   argument-line-reads.Asked,
   argument-line-reads.Learnt,
   emit_node_below t,
   emit-node.Post,
 ) (emit_form_at t) emit-form.Post emit_form_Inv_loop emit_form_μ_loop
 emit_form_loop_holds t c =
-    let a = c.before.before.before.before.before.before.args in
-    let p = c.before.before.before.before.before.before.requires in
+    let a = c.args in
+    let p = c.requires in
     (omega arith, refl, p.1.1, put_same _ _ _ _ _ _ (sym (filled_none (kid_words (lines_in a.t.now) a.u.now a.f.now a.d a.places a.y) (kids_of (lines_in a.t.now) a.y) a.f.now (get_or a.f.now (2 * a.m) 0) (get_or a.f.now (2 * a.m + 1) 0) (p.1.0.forms.inside a.m p.1.2))) (put_none a.out.now a.at p.1.1), λ q. absurd (omega arith))
 
-emit_form_add_w : (t : ℕ) → emit-form-lts.Need-overflow-add-w (
+emit_form_add_w : (t : ℕ) → emit-form-lts.Need-overflow_add-w (
   argument-line-reads.Asked,
   argument-line-reads.Learnt,
   emit_node_below t,
   emit-node.Post,
 ) (emit_form_at t) emit-form.Post emit_form_Inv_loop emit_form_μ_loop
 emit_form_add_w t c =
-    let a = c.before.before.before.before.before.before.before.before.args in
-    let p = c.before.before.before.before.before.before.before.before.requires in
-    omega (arith, c.loop-test.true, (p.1.0.forms.inside a.m p.1.2))
+    let a = c.args in
+    let p = c.requires in
+    omega (arith, c.loop-i-test.true, (p.1.0.forms.inside a.m p.1.2))
 
-emit_form_mul_w : (t : ℕ) → emit-form-lts.Need-overflow-mul-w (
+emit_form_mul_w : (t : ℕ) → emit-form-lts.Need-offset_bounds-f-start (
   argument-line-reads.Asked,
   argument-line-reads.Learnt,
   emit_node_below t,
   emit-node.Post,
 ) (emit_form_at t) emit-form.Post emit_form_Inv_loop emit_form_μ_loop
 emit_form_mul_w t c =
-    let a = c.before.before.before.before.before.before.before.before.args in
-    let p = c.before.before.before.before.before.before.before.before.requires in
-    omega (arith, c.loop-test.true, (p.1.0.forms.inside a.m p.1.2), c.before.before.before.before.before.before.before.before.well-formed.1.1.0.1)
+    let a = c.args in
+    let p = c.requires in
+    omega (arith, c.loop-i-test.true, (p.1.0.forms.inside a.m p.1.2), c.well_formed.1.1.0.1)
 
-emit_form_shared_slice_read_w : (t : ℕ) → emit-form-lts.Need-shared-slice-read-w (
+emit_form_shared_slice_read_w : (t : ℕ) → emit-form-lts.Need-bounds-f-start (
   argument-line-reads.Asked,
   argument-line-reads.Learnt,
   emit_node_below t,
   emit-node.Post,
 ) (emit_form_at t) emit-form.Post emit_form_Inv_loop emit_form_μ_loop
 emit_form_shared_slice_read_w t c =
-    let a = c.before.before.before.before.before.before.before.before.before.args in
-    let p = c.before.before.before.before.before.before.before.before.before.requires in
-    omega (arith, c.before.loop-test.true, (p.1.0.forms.inside a.m p.1.2))
+    let a = c.args in
+    let p = c.requires in
+    omega (arith, c.loop-i-test.true, (p.1.0.forms.inside a.m p.1.2))
 
-emit_form_argument_line_requires : (t : ℕ) → emit-form-lts.Need-argument-line-requires (
+emit_form_argument_line_requires : (t : ℕ) → emit-form-lts.Need-argument_line-p-requires (
   argument-line-reads.Asked,
   argument-line-reads.Learnt,
   emit_node_below t,
   emit-node.Post,
 ) (emit_form_at t) emit-form.Post emit_form_Inv_loop emit_form_μ_loop
 emit_form_argument_line_requires t c κs =
-    let a = c.before.before.before.before.before.before.before.before.before.args in
-    let p = c.before.before.before.before.before.before.before.before.before.requires in
+    let a = c.args in
+    let p = c.requires in
     (p.1.0.tabled, p.1.0.type)
 
-emit_form_emit_node_requires : (t : ℕ) → emit-form-lts.Need-emit-node-requires (
+emit_form_emit_node_requires : (t : ℕ) → emit-form-lts.Need-emit_node-e-requires (
   argument-line-reads.Asked,
   argument-line-reads.Learnt,
   emit_node_below t,
   emit-node.Post,
 ) (emit_form_at t) emit-form.Post emit_form_Inv_loop emit_form_μ_loop
 emit_form_emit_node_requires t c κs =
-    let a = c.before.before.before.before.before.before.before.before.before.before.before.args in
-    let p = c.before.before.before.before.before.before.before.before.before.before.before.requires in
-    let l = c.before.before.before.before.loop in
-    (omega (arith, p.0), ((p.1.0, l.invariant.2, c.before.argument-line.ensures), l.invariant.4))
+    let a = c.args in
+    let p = c.requires in
+    let l = c.loop-i in
+    (omega (arith, p.0), ((p.1.0, l.invariant.2, c.argument_line-p.ensures), l.invariant.4))
 
-emit_form_same_length : (t : ℕ) → emit-form-lts.Need-same-length (
+emit_form_same_length : (t : ℕ) → emit-form-lts.Need-shape_of-out-then-e-out (
   argument-line-reads.Asked,
   argument-line-reads.Learnt,
   emit_node_below t,
   emit-node.Post,
 ) (emit_form_at t) emit-form.Post emit_form_Inv_loop emit_form_μ_loop
 emit_form_same_length t c =
-    omega (arith, c.before.before.before.emit-node.ensures.long, c.before.before.before.before.before.before.before.before.loop.invariant.1)
+    omega (arith, c.emit_node-e.ensures.long, c.loop-i.invariant.1)
 
-emit_form_returns : (t : ℕ) → emit-form-lts.Need-returns (
+emit_form_returns : (t : ℕ) → emit-form-lts.Need-returns-then-e-out (
   argument-line-reads.Asked,
   argument-line-reads.Learnt,
   emit_node_below t,
   emit-node.Post,
 ) (emit_form_at t) emit-form.Post emit_form_Inv_loop emit_form_μ_loop
 emit_form_returns t c =
-    let a = c.before.before.before.before.before.before.before.before.before.before.before.before.before.before.before.args in
-    let p = c.before.before.before.before.before.before.before.before.before.before.before.before.before.before.before.requires in
-    let l = c.before.before.before.before.before.before.before.before.loop in
-    filled_stop (kid_words (lines_in a.t.now) a.u.now a.f.now a.d a.places a.y) (kids_of (lines_in a.t.now) a.y) a.f.now (get_or a.f.now (2 * a.m) 0) (get_or a.f.now (2 * a.m + 1) 0) (p.1.0.forms.inside a.m p.1.2) (l.i + 1) a.out.now a.at _ _ (omega (arith, c.if1.true, c.before.before.before.emit-node.ensures.long, l.invariant.1)) (put_same _ _ _ _ _ _ (filled_more (kid_words (lines_in a.t.now) a.u.now a.f.now a.d a.places a.y) (kids_of (lines_in a.t.now) a.y) a.f.now (get_or a.f.now (2 * a.m) 0) (get_or a.f.now (2 * a.m + 1) 0) (p.1.0.forms.inside a.m p.1.2) l.i c.before.before.before.before.before.before.before.loop-test.true) (put_more _ _ a.out.now a.at l.r _ l.out _ p.1.1 (omega (arith, l.invariant.1, l.invariant.2)) l.invariant.3 c.before.before.before.emit-node.ensures))
+    let a = c.args in
+    let p = c.requires in
+    let l = c.loop-i in
+    filled_stop (kid_words (lines_in a.t.now) a.u.now a.f.now a.d a.places a.y) (kids_of (lines_in a.t.now) a.y) a.f.now (get_or a.f.now (2 * a.m) 0) (get_or a.f.now (2 * a.m + 1) 0) (p.1.0.forms.inside a.m p.1.2) (l.i + 1) a.out.now a.at _ _ (omega (arith, c.if-e-out.true, c.emit_node-e.ensures.long, l.invariant.1)) (put_same _ _ _ _ _ _ (filled_more (kid_words (lines_in a.t.now) a.u.now a.f.now a.d a.places a.y) (kids_of (lines_in a.t.now) a.y) a.f.now (get_or a.f.now (2 * a.m) 0) (get_or a.f.now (2 * a.m + 1) 0) (p.1.0.forms.inside a.m p.1.2) l.i c.loop-i-test.true) (put_more _ _ a.out.now a.at l.r _ l.out _ p.1.1 (omega (arith, l.invariant.1, l.invariant.2)) l.invariant.3 c.emit_node-e.ensures))
 
-emit_form_add_i : (t : ℕ) → emit-form-lts.Need-overflow-add-i (
+emit_form_add_i : (t : ℕ) → emit-form-lts.Need-overflow_step-i (
   argument-line-reads.Asked,
   argument-line-reads.Learnt,
   emit_node_below t,
   emit-node.Post,
 ) (emit_form_at t) emit-form.Post emit_form_Inv_loop emit_form_μ_loop
 emit_form_add_i t c =
-    let a = c.before.before.before.before.before.before.before.before.before.before.before.before.before.before.before.before.args in
-    let p = c.before.before.before.before.before.before.before.before.before.before.before.before.before.before.before.before.requires in
-    omega (arith, c.before.before.before.before.before.before.before.before.loop-test.true, (p.1.0.forms.inside a.m p.1.2), c.before.before.before.before.before.before.before.before.before.before.before.before.before.before.before.before.well-formed.1.1.0.0)
+    let a = c.args in
+    let p = c.requires in
+    omega (arith, c.loop-i-test.true, (p.1.0.forms.inside a.m p.1.2), c.well_formed.1.1.0.0)
 
-emit_form_loop_less : (t : ℕ) → emit-form-lts.Need-loop-smaller (
+emit_form_loop_less : (t : ℕ) → emit-form-lts.Need-loop-i-smaller (
   argument-line-reads.Asked,
   argument-line-reads.Learnt,
   emit_node_below t,
   emit-node.Post,
 ) (emit_form_at t) emit-form.Post emit_form_Inv_loop emit_form_μ_loop
 emit_form_loop_less t c =
-    omega (arith, c.before.before.before.before.before.before.before.before.loop-test.true)
+    omega (arith, c.loop-i-test.true)
 
-emit_form_loop_again : (t : ℕ) → emit-form-lts.Need-loop-preserved (
+emit_form_loop_again : (t : ℕ) → emit-form-lts.Need-loop-i-preserved (
   argument-line-reads.Asked,
   argument-line-reads.Learnt,
   emit_node_below t,
   emit-node.Post,
 ) (emit_form_at t) emit-form.Post emit_form_Inv_loop emit_form_μ_loop
 emit_form_loop_again t c =
-    let a = c.before.before.before.before.before.before.before.before.before.before.before.before.before.before.before.before.args in
-    let p = c.before.before.before.before.before.before.before.before.before.before.before.before.before.before.before.before.requires in
-    let l = c.before.before.before.before.before.before.before.before.before.loop in
-    let e = c.before.before.before.before.emit-node in
-    let g = c.before.before.before.before.before.before.argument-line in
-    let h : e.result ≤ length l.out = omega (arith, c.before.if1.false, e.ensures.long) in (
-      omega (arith, c.before.before.before.before.before.before.before.before.loop-test.true),
+    let a = c.args in
+    let p = c.requires in
+    let l = c.loop-i in
+    let e = c.emit_node-e in
+    let g = c.argument_line-p in
+    let h : e.result ≤ length l.out = omega (arith, c.if-e-out.false, e.ensures.long) in (
+      omega (arith, c.loop-i-test.true),
       omega (arith, e.ensures.long, l.invariant.1),
-      omega (arith, c.before.if1.false),
-      put_same _ _ _ _ _ _ (filled_more (kid_words (lines_in a.t.now) a.u.now a.f.now a.d a.places a.y) (kids_of (lines_in a.t.now) a.y) a.f.now (get_or a.f.now (2 * a.m) 0) (get_or a.f.now (2 * a.m + 1) 0) (p.1.0.forms.inside a.m p.1.2) l.i c.before.before.before.before.before.before.before.before.loop-test.true) (put_more _ _ a.out.now a.at l.r _ l.out _ p.1.1 (omega (arith, l.invariant.1, l.invariant.2)) l.invariant.3 c.before.before.before.before.emit-node.ensures),
+      omega (arith, c.if-e-out.false),
+      put_same _ _ _ _ _ _ (filled_more (kid_words (lines_in a.t.now) a.u.now a.f.now a.d a.places a.y) (kids_of (lines_in a.t.now) a.y) a.f.now (get_or a.f.now (2 * a.m) 0) (get_or a.f.now (2 * a.m + 1) 0) (p.1.0.forms.inside a.m p.1.2) l.i c.loop-i-test.true) (put_more _ _ a.out.now a.at l.r _ l.out _ p.1.1 (omega (arith, l.invariant.1, l.invariant.2)) l.invariant.3 c.emit_node-e.ensures),
       ⊎_elim
           (λ w q. stands_by (words (lines_in a.t.now) a.u.now a.f.now a.d a.places) _ _ _ _ _ _ _ _ w.1 w.2 w.3 (stands_put (words (lines_in a.t.now) a.u.now a.f.now a.d a.places g.result) l.out l.r e.result _ l.invariant.2 h (put_same _ _ _ _ _ _ (sym (step_given (lines_in a.t.now) a.u.now a.f.now a.d a.places a.y _ _ g.ensures w.0.taken)) e.ensures)))
           (λ w q. stands_by (words (lines_in a.t.now) a.u.now a.f.now a.d a.places) _ _ _ _ _ _ _ _ w.1 w.2 w.3 (stands_kept _ l.out l.r e.result _ l.invariant.2 h (words (lines_in a.t.now) a.u.now a.f.now a.d a.places l.last) l.from l.end e.ensures (l.invariant.4 (omega (arith, w.1)))))
-          c.if2.branch,
+          c.if-p-y.branch,
     )
 
-emit_form_same_length_2 : (t : ℕ) → emit-form-lts.Need-same-length-2 (
+emit_form_same_length_2 : (t : ℕ) → emit-form-lts.Need-shape_of-out (
   argument-line-reads.Asked,
   argument-line-reads.Learnt,
   emit_node_below t,
   emit-node.Post,
 ) (emit_form_at t) emit-form.Post emit_form_Inv_loop emit_form_μ_loop
 emit_form_same_length_2 t c =
-    c.before.loop.invariant.1
+    c.loop-i.invariant.1
 
-emit_form_returns_2 : (t : ℕ) → emit-form-lts.Need-returns-2 (
+emit_form_returns_2 : (t : ℕ) → emit-form-lts.Need-returns (
   argument-line-reads.Asked,
   argument-line-reads.Learnt,
   emit_node_below t,
   emit-node.Post,
 ) (emit_form_at t) emit-form.Post emit_form_Inv_loop emit_form_μ_loop
 emit_form_returns_2 t c =
-    let a = c.before.before.before.before.before.before.before.before.args in
-    let p = c.before.before.before.before.before.before.before.before.requires in
-    put_same _ _ _ _ _ _ (filled_all (kid_words (lines_in a.t.now) a.u.now a.f.now a.d a.places a.y) (kids_of (lines_in a.t.now) a.y) a.f.now (get_or a.f.now (2 * a.m) 0) (get_or a.f.now (2 * a.m + 1) 0) (p.1.0.forms.inside a.m p.1.2) c.before.loop.i (omega (arith, c.loop-test.false))) c.before.loop.invariant.3
+    let a = c.args in
+    let p = c.requires in
+    put_same _ _ _ _ _ _ (filled_all (kid_words (lines_in a.t.now) a.u.now a.f.now a.d a.places a.y) (kids_of (lines_in a.t.now) a.y) a.f.now (get_or a.f.now (2 * a.m) 0) (get_or a.f.now (2 * a.m + 1) 0) (p.1.0.forms.inside a.m p.1.2) c.loop-i.i (omega (arith, c.loop-i-test.false))) c.loop-i.invariant.3
 
-abbrev emit_kids_Inv_loop : emit-kids-lts.invariant-loop
+abbrev emit_kids_Inv_loop : emit-kids-lts.invariant-loop-i
 emit_kids_Inv_loop t u f y d places from out₀ at n last₀ start₀ r₀ i₀ out last start r i =
     (from ≤ i) × (i ≤ n) × (length out ≡ length out₀) × (r ≤ length out) × Put (run (kid_words (lines_in t) u f d places y) from (i - from)) out₀ at r out × (last < y → Stands (words (lines_in t) u f d places last) out start r r)
 
-abbrev emit_kids_μ_loop : emit-kids-lts.decreases-loop
+abbrev emit_kids_μ_loop : emit-kids-lts.decreases-loop-i
 emit_kids_μ_loop t u f y d places from out₀ at n last₀ start₀ r₀ i₀ out last start r i =
     n - i
 
-emit_kids_loop_holds : (t : ℕ) → emit-kids-lts.Need-loop-init (
+emit_kids_loop_holds : (t : ℕ) → emit-kids-lts.Need-loop-i-init (
   kids-reads.Asked,
   kids-reads.Learnt,
   kid-reads.Asked,
@@ -309,11 +309,11 @@ emit_kids_loop_holds : (t : ℕ) → emit-kids-lts.Need-loop-init (
   emit-part.Post,
 ) (emit_kids_at t) emit-kids.Post emit_kids_Inv_loop emit_kids_μ_loop
 emit_kids_loop_holds t c =
-    let a = c.before.before.before.before.before.args in
-    let p = c.before.before.before.before.before.requires in
-    (omega arith, omega (arith, p.1.2, c.kids.ensures), refl, p.1.1, put_same _ _ _ _ _ _ (sym (run_none (kid_words (lines_in a.t.now) a.u.now a.f.now a.d a.places a.y) a.from)) (put_none a.out.now a.at p.1.1), λ q. absurd (omega arith))
+    let a = c.args in
+    let p = c.requires in
+    (omega arith, omega (arith, p.1.2, c.kids-n.ensures), refl, p.1.1, put_same _ _ _ _ _ _ (sym (run_none (kid_words (lines_in a.t.now) a.u.now a.f.now a.d a.places a.y) a.from)) (put_none a.out.now a.at p.1.1), λ q. absurd (omega arith))
 
-emit_kids_kid_requires : (t : ℕ) → emit-kids-lts.Need-kid-requires (
+emit_kids_kid_requires : (t : ℕ) → emit-kids-lts.Need-kid-p-requires (
   kids-reads.Asked,
   kids-reads.Learnt,
   kid-reads.Asked,
@@ -322,11 +322,11 @@ emit_kids_kid_requires : (t : ℕ) → emit-kids-lts.Need-kid-requires (
   emit-part.Post,
 ) (emit_kids_at t) emit-kids.Post emit_kids_Inv_loop emit_kids_μ_loop
 emit_kids_kid_requires t c κs =
-    let a = c.before.before.before.before.before.before.before.args in
-    let p = c.before.before.before.before.before.before.before.requires in
-    (p.1.0.tabled, (p.1.0.type, omega (arith, c.loop-test.true, c.before.before.kids.ensures)))
+    let a = c.args in
+    let p = c.requires in
+    (p.1.0.tabled, (p.1.0.type, omega (arith, c.loop-i-test.true, c.kids-n.ensures)))
 
-emit_kids_emit_part_requires : (t : ℕ) → emit-kids-lts.Need-emit-part-requires (
+emit_kids_emit_part_requires : (t : ℕ) → emit-kids-lts.Need-emit_part-e-requires (
   kids-reads.Asked,
   kids-reads.Learnt,
   kid-reads.Asked,
@@ -335,13 +335,13 @@ emit_kids_emit_part_requires : (t : ℕ) → emit-kids-lts.Need-emit-part-requir
   emit-part.Post,
 ) (emit_kids_at t) emit-kids.Post emit_kids_Inv_loop emit_kids_μ_loop
 emit_kids_emit_part_requires t c κs =
-    let a = c.before.before.before.before.before.before.before.before.before.args in
-    let p = c.before.before.before.before.before.before.before.before.before.requires in
-    let l = c.before.before.before.loop in
-    let q = asked_kid (lines_in a.t.now) a.t.now a.u.now a.f.now a.y a.d l.i c.before.kid.result p.1.0 (omega (arith, c.before.before.loop-test.true, c.before.before.before.before.kids.ensures)) c.before.kid.ensures in
-    (omega (arith, p.0, q.0), ((q.1, l.invariant.3), stands_at (words (lines_in a.t.now) a.u.now a.f.now a.d a.places) l.out l.start l.r l.r l.last c.before.kid.result a.y q.0 l.invariant.5))
+    let a = c.args in
+    let p = c.requires in
+    let l = c.loop-i in
+    let q = asked_kid (lines_in a.t.now) a.t.now a.u.now a.f.now a.y a.d l.i c.kid-p.result p.1.0 (omega (arith, c.loop-i-test.true, c.kids-n.ensures)) c.kid-p.ensures in
+    (omega (arith, p.0, q.0), ((q.1, l.invariant.3), stands_at (words (lines_in a.t.now) a.u.now a.f.now a.d a.places) l.out l.start l.r l.r l.last c.kid-p.result a.y q.0 l.invariant.5))
 
-emit_kids_same_length : (t : ℕ) → emit-kids-lts.Need-same-length (
+emit_kids_same_length : (t : ℕ) → emit-kids-lts.Need-shape_of-out-then-e-out (
   kids-reads.Asked,
   kids-reads.Learnt,
   kid-reads.Asked,
@@ -350,9 +350,9 @@ emit_kids_same_length : (t : ℕ) → emit-kids-lts.Need-same-length (
   emit-part.Post,
 ) (emit_kids_at t) emit-kids.Post emit_kids_Inv_loop emit_kids_μ_loop
 emit_kids_same_length t c =
-    omega (arith, c.before.before.before.emit-part.ensures.long, c.before.before.before.before.before.before.before.loop.invariant.2)
+    omega (arith, c.emit_part-e.ensures.long, c.loop-i.invariant.2)
 
-emit_kids_returns : (t : ℕ) → emit-kids-lts.Need-returns (
+emit_kids_returns : (t : ℕ) → emit-kids-lts.Need-returns-then-e-out (
   kids-reads.Asked,
   kids-reads.Learnt,
   kid-reads.Asked,
@@ -361,12 +361,12 @@ emit_kids_returns : (t : ℕ) → emit-kids-lts.Need-returns (
   emit-part.Post,
 ) (emit_kids_at t) emit-kids.Post emit_kids_Inv_loop emit_kids_μ_loop
 emit_kids_returns t c =
-    let a = c.before.before.before.before.before.before.before.before.before.before.before.before.before.args in
-    let p = c.before.before.before.before.before.before.before.before.before.before.before.before.before.requires in
-    let l = c.before.before.before.before.before.before.before.loop in
-    run_stop (kid_words (lines_in a.t.now) a.u.now a.f.now a.d a.places a.y) a.from (l.i + 1 - a.from) (kids_of (lines_in a.t.now) a.y - a.from) a.out.now a.at _ _ (omega (arith, c.before.before.before.before.before.before.loop-test.true, c.before.before.before.before.before.before.before.before.kids.ensures)) (omega (arith, c.if1.true, c.before.before.before.emit-part.ensures.long, l.invariant.2)) (put_same _ _ _ _ _ _ (run_more (kid_words (lines_in a.t.now) a.u.now a.f.now a.d a.places a.y) a.from l.i l.invariant.0) (put_more _ _ a.out.now a.at l.r _ l.out _ p.1.1 (omega (arith, l.invariant.2, l.invariant.3)) l.invariant.4 (put_same _ _ _ _ _ _ (ap (words (lines_in a.t.now) a.u.now a.f.now a.d a.places) c.before.before.before.before.before.kid.ensures) c.before.before.before.emit-part.ensures)))
+    let a = c.args in
+    let p = c.requires in
+    let l = c.loop-i in
+    run_stop (kid_words (lines_in a.t.now) a.u.now a.f.now a.d a.places a.y) a.from (l.i + 1 - a.from) (kids_of (lines_in a.t.now) a.y - a.from) a.out.now a.at _ _ (omega (arith, c.loop-i-test.true, c.kids-n.ensures)) (omega (arith, c.if-e-out.true, c.emit_part-e.ensures.long, l.invariant.2)) (put_same _ _ _ _ _ _ (run_more (kid_words (lines_in a.t.now) a.u.now a.f.now a.d a.places a.y) a.from l.i l.invariant.0) (put_more _ _ a.out.now a.at l.r _ l.out _ p.1.1 (omega (arith, l.invariant.2, l.invariant.3)) l.invariant.4 (put_same _ _ _ _ _ _ (ap (words (lines_in a.t.now) a.u.now a.f.now a.d a.places) c.kid-p.ensures) c.emit_part-e.ensures)))
 
-emit_kids_add_i : (t : ℕ) → emit-kids-lts.Need-overflow-add-i (
+emit_kids_add_i : (t : ℕ) → emit-kids-lts.Need-overflow_step-i (
   kids-reads.Asked,
   kids-reads.Learnt,
   kid-reads.Asked,
@@ -377,7 +377,7 @@ emit_kids_add_i : (t : ℕ) → emit-kids-lts.Need-overflow-add-i (
 emit_kids_add_i t c =
     search rules
 
-emit_kids_loop_less : (t : ℕ) → emit-kids-lts.Need-loop-smaller (
+emit_kids_loop_less : (t : ℕ) → emit-kids-lts.Need-loop-i-smaller (
   kids-reads.Asked,
   kids-reads.Learnt,
   kid-reads.Asked,
@@ -386,9 +386,9 @@ emit_kids_loop_less : (t : ℕ) → emit-kids-lts.Need-loop-smaller (
   emit-part.Post,
 ) (emit_kids_at t) emit-kids.Post emit_kids_Inv_loop emit_kids_μ_loop
 emit_kids_loop_less t c =
-    omega (arith, c.before.before.before.before.before.before.loop-test.true)
+    omega (arith, c.loop-i-test.true)
 
-emit_kids_loop_again : (t : ℕ) → emit-kids-lts.Need-loop-preserved (
+emit_kids_loop_again : (t : ℕ) → emit-kids-lts.Need-loop-i-preserved (
   kids-reads.Asked,
   kids-reads.Learnt,
   kid-reads.Asked,
@@ -397,19 +397,19 @@ emit_kids_loop_again : (t : ℕ) → emit-kids-lts.Need-loop-preserved (
   emit-part.Post,
 ) (emit_kids_at t) emit-kids.Post emit_kids_Inv_loop emit_kids_μ_loop
 emit_kids_loop_again t c =
-    let a = c.before.before.before.before.before.before.before.before.before.before.before.before.before.args in
-    let p = c.before.before.before.before.before.before.before.before.before.before.before.before.before.requires in
-    let l = c.before.before.before.before.before.before.before.loop in
-    let e = c.before.before.before.emit-part in (
+    let a = c.args in
+    let p = c.requires in
+    let l = c.loop-i in
+    let e = c.emit_part-e in (
       omega (arith, l.invariant.0),
-      omega (arith, c.before.before.before.before.before.before.loop-test.true),
+      omega (arith, c.loop-i-test.true),
       omega (arith, e.ensures.long, l.invariant.2),
-      omega (arith, c.if1.false),
-      put_same _ _ _ _ _ _ (run_more (kid_words (lines_in a.t.now) a.u.now a.f.now a.d a.places a.y) a.from l.i l.invariant.0) (put_more _ _ a.out.now a.at l.r _ l.out _ p.1.1 (omega (arith, l.invariant.2, l.invariant.3)) l.invariant.4 (put_same _ _ _ _ _ _ (ap (words (lines_in a.t.now) a.u.now a.f.now a.d a.places) c.before.before.before.before.before.kid.ensures) c.before.before.before.emit-part.ensures)),
-      λ q. stands_put (words (lines_in a.t.now) a.u.now a.f.now a.d a.places c.before.before.before.before.before.kid.result) l.out l.r e.result _ l.invariant.3 (omega (arith, c.if1.false, e.ensures.long)) e.ensures,
+      omega (arith, c.if-e-out.false),
+      put_same _ _ _ _ _ _ (run_more (kid_words (lines_in a.t.now) a.u.now a.f.now a.d a.places a.y) a.from l.i l.invariant.0) (put_more _ _ a.out.now a.at l.r _ l.out _ p.1.1 (omega (arith, l.invariant.2, l.invariant.3)) l.invariant.4 (put_same _ _ _ _ _ _ (ap (words (lines_in a.t.now) a.u.now a.f.now a.d a.places) c.kid-p.ensures) c.emit_part-e.ensures)),
+      λ q. stands_put (words (lines_in a.t.now) a.u.now a.f.now a.d a.places c.kid-p.result) l.out l.r e.result _ l.invariant.3 (omega (arith, c.if-e-out.false, e.ensures.long)) e.ensures,
     )
 
-emit_kids_same_length_2 : (t : ℕ) → emit-kids-lts.Need-same-length-2 (
+emit_kids_same_length_2 : (t : ℕ) → emit-kids-lts.Need-shape_of-out (
   kids-reads.Asked,
   kids-reads.Learnt,
   kid-reads.Asked,
@@ -418,9 +418,9 @@ emit_kids_same_length_2 : (t : ℕ) → emit-kids-lts.Need-same-length-2 (
   emit-part.Post,
 ) (emit_kids_at t) emit-kids.Post emit_kids_Inv_loop emit_kids_μ_loop
 emit_kids_same_length_2 t c =
-    c.before.loop.invariant.2
+    c.loop-i.invariant.2
 
-emit_kids_returns_2 : (t : ℕ) → emit-kids-lts.Need-returns-2 (
+emit_kids_returns_2 : (t : ℕ) → emit-kids-lts.Need-returns (
   kids-reads.Asked,
   kids-reads.Learnt,
   kid-reads.Asked,
@@ -429,12 +429,12 @@ emit_kids_returns_2 : (t : ℕ) → emit-kids-lts.Need-returns-2 (
   emit-part.Post,
 ) (emit_kids_at t) emit-kids.Post emit_kids_Inv_loop emit_kids_μ_loop
 emit_kids_returns_2 t c =
-    let a = c.before.before.before.before.before.before.before.args in
-    let p = c.before.before.before.before.before.before.before.requires in
-    let e : c.before.loop.i ≡ kids_of (lines_in a.t.now) a.y = omega (arith, c.loop-test.false, c.before.loop.invariant.1, c.before.before.kids.ensures) in
-    put_same _ _ _ _ _ _ (ap (λ (i : ℕ). run (kid_words (lines_in a.t.now) a.u.now a.f.now a.d a.places a.y) a.from (i - a.from)) e) c.before.loop.invariant.4
+    let a = c.args in
+    let p = c.requires in
+    let e : c.loop-i.i ≡ kids_of (lines_in a.t.now) a.y = omega (arith, c.loop-i-test.false, c.loop-i.invariant.1, c.kids-n.ensures) in
+    put_same _ _ _ _ _ _ (ap (λ (i : ℕ). run (kid_words (lines_in a.t.now) a.u.now a.f.now a.d a.places a.y) a.from (i - a.from)) e) c.loop-i.invariant.4
 
-emit_name_decl_of_requires : (t : ℕ) → emit-name-lts.Need-decl-of-requires (
+emit_name_decl_of_requires : (t : ℕ) → emit-name-lts.Need-decl_of-m-requires (
   type-number-reads.Asked,
   type-number-reads.Learnt,
   decl-of-reads.Asked,
@@ -457,11 +457,11 @@ emit_name_decl_of_requires : (t : ℕ) → emit-name-lts.Need-decl-of-requires (
   emit-surplus.Post,
 ) (emit_name_at t) emit-name.Post
 emit_name_decl_of_requires t c κs =
-    let a = c.before.before.before.before.before.args in
-    let p = c.before.before.before.before.before.requires in
-    (p.1.0.0.tabled, omega (arith, c.type_number.ensures, (node_at (lines_in a.t.now) p.1.0.0.tabled.passed a.y p.1.0.0.type).named p.1.1))
+    let a = c.args in
+    let p = c.requires in
+    (p.1.0.0.tabled, omega (arith, c.type_number-n.ensures, (node_at (lines_in a.t.now) p.1.0.0.tabled.passed a.y p.1.0.0.type).named p.1.1))
 
-emit_name_state_requires : (t : ℕ) → emit-name-lts.Need-state-requires (
+emit_name_state_requires : (t : ℕ) → emit-name-lts.Need-state-x-requires (
   type-number-reads.Asked,
   type-number-reads.Learnt,
   decl-of-reads.Asked,
@@ -484,11 +484,11 @@ emit_name_state_requires : (t : ℕ) → emit-name-lts.Need-state-requires (
   emit-surplus.Post,
 ) (emit_name_at t) emit-name.Post
 emit_name_state_requires t c κs =
-    let a = c.before.before.before.before.before.before.args in
-    let p = c.before.before.before.before.before.before.requires in
-    omega (arith, c.decl_of.ensures, position_few (lines_in a.t.now) p.1.0.0.tabled.passed c.before.type_number.result)
+    let a = c.args in
+    let p = c.requires in
+    omega (arith, c.decl_of-m.ensures, position_few (lines_in a.t.now) p.1.0.0.tabled.passed c.type_number-n.result)
 
-emit_name_returns : (t : ℕ) → emit-name-lts.Need-returns (
+emit_name_returns : (t : ℕ) → emit-name-lts.Need-returns-then-x-eq0 (
   type-number-reads.Asked,
   type-number-reads.Learnt,
   decl-of-reads.Asked,
@@ -511,11 +511,11 @@ emit_name_returns : (t : ℕ) → emit-name-lts.Need-returns (
   emit-surplus.Post,
 ) (emit_name_at t) emit-name.Post
 emit_name_returns t c =
-    let a = c.before.before.before.before.before.before.before.before.before.before.before.before.before.args in
-    let p = c.before.before.before.before.before.before.before.before.before.before.before.before.before.requires in
-    put_gone (lines_in a.t.now) p.1.0.0.tabled.passed a.u.now a.f.now a.d a.places a.y p.1.0.0.type a.out.now a.at p.1.0.1 p.1.1 c.before.before.before.before.before.before.before.before.type_number.result c.before.before.before.before.before.before.before.decl_of.result c.before.before.before.before.before.before.state.result c.before.before.before.before.before.before.before.before.type_number.ensures c.before.before.before.before.before.before.before.decl_of.ensures c.before.before.before.before.before.before.state.ensures _ _ _ c.before.before.before.before.before.if1.true c.before.before.before.pack.ensures c.before.before.put.ensures
+    let a = c.args in
+    let p = c.requires in
+    put_gone (lines_in a.t.now) p.1.0.0.tabled.passed a.u.now a.f.now a.d a.places a.y p.1.0.0.type a.out.now a.at p.1.0.1 p.1.1 c.type_number-n.result c.decl_of-m.result c.state-x.result c.type_number-n.ensures c.decl_of-m.ensures c.state-x.ensures _ _ _ c.if-x-eq0.true c.pack.ensures c.put.ensures
 
-emit_name_returns_2 : (t : ℕ) → emit-name-lts.Need-returns-2 (
+emit_name_returns_2 : (t : ℕ) → emit-name-lts.Need-returns-then-r-out (
   type-number-reads.Asked,
   type-number-reads.Learnt,
   decl-of-reads.Asked,
@@ -538,11 +538,11 @@ emit_name_returns_2 : (t : ℕ) → emit-name-lts.Need-returns-2 (
   emit-surplus.Post,
 ) (emit_name_at t) emit-name.Post
 emit_name_returns_2 t c =
-    let a = c.before.before.before.before.before.before.before.before.before.before.before.before.before.before.args in
-    let p = c.before.before.before.before.before.before.before.before.before.before.before.before.before.before.requires in
-    stop_stays (lines_in a.t.now) p.1.0.0.tabled.passed a.u.now a.f.now a.d a.places a.y p.1.0.0.type a.out.now a.at p.1.0.1 p.1.1 c.before.before.before.before.before.before.before.before.before.type_number.result c.before.before.before.before.before.before.before.before.decl_of.result c.before.before.before.before.before.before.before.state.result c.before.before.before.before.before.before.before.before.before.type_number.ensures c.before.before.before.before.before.before.before.before.decl_of.ensures c.before.before.before.before.before.before.before.state.ensures _ _ (omega (arith, c.before.before.before.before.before.if2.true)) (omega (arith, c.if3.true, c.before.before.before.emit-kids.ensures.long)) c.before.before.before.emit-kids.ensures
+    let a = c.args in
+    let p = c.requires in
+    stop_stays (lines_in a.t.now) p.1.0.0.tabled.passed a.u.now a.f.now a.d a.places a.y p.1.0.0.type a.out.now a.at p.1.0.1 p.1.1 c.type_number-n.result c.decl_of-m.result c.state-x.result c.type_number-n.ensures c.decl_of-m.ensures c.state-x.ensures _ _ (omega (arith, c.if-x-gt2.true)) (omega (arith, c.if-r-out.true, c.emit_kids-r.ensures.long)) c.emit_kids-r.ensures
 
-emit_name_cast_pack : (t : ℕ) → emit-name-lts.Need-overflow-cast-pack (
+emit_name_cast_pack : (t : ℕ) → emit-name-lts.Need-overflow_cast-kids (
   type-number-reads.Asked,
   type-number-reads.Learnt,
   decl-of-reads.Asked,
@@ -565,11 +565,11 @@ emit_name_cast_pack : (t : ℕ) → emit-name-lts.Need-overflow-cast-pack (
   emit-surplus.Post,
 ) (emit_name_at t) emit-name.Post
 emit_name_cast_pack t c =
-    let a = c.before.before.before.before.before.before.before.before.before.before.before.before.before.before.before.before.args in
-    let p = c.before.before.before.before.before.before.before.before.before.before.before.before.before.before.before.before.requires in
+    let a = c.args in
+    let p = c.requires in
     omega (arith, c.kids.ensures, name_kids (lines_in a.t.now) p.1.0.0.tabled.passed a.y p.1.0.0.type p.1.1)
 
-emit_name_returns_3 : (t : ℕ) → emit-name-lts.Need-returns-3 (
+emit_name_returns_3 : (t : ℕ) → emit-name-lts.Need-returns-then-x-gt2 (
   type-number-reads.Asked,
   type-number-reads.Learnt,
   decl-of-reads.Asked,
@@ -592,11 +592,11 @@ emit_name_returns_3 : (t : ℕ) → emit-name-lts.Need-returns-3 (
   emit-surplus.Post,
 ) (emit_name_at t) emit-name.Post
 emit_name_returns_3 t c =
-    let a = c.before.before.before.before.before.before.before.before.before.before.before.before.before.before.before.before.before.before.before.before.args in
-    let p = c.before.before.before.before.before.before.before.before.before.before.before.before.before.before.before.before.before.before.before.before.requires in
-    put_stays (lines_in a.t.now) p.1.0.0.tabled.passed a.u.now a.f.now a.d a.places a.y p.1.0.0.type a.out.now a.at p.1.0.1 p.1.1 c.before.before.before.before.before.before.before.before.before.before.before.before.before.before.before.type_number.result c.before.before.before.before.before.before.before.before.before.before.before.before.before.before.decl_of.result c.before.before.before.before.before.before.before.before.before.before.before.before.before.state.result c.before.before.before.before.before.before.before.before.before.before.before.before.before.before.before.type_number.ensures c.before.before.before.before.before.before.before.before.before.before.before.before.before.before.decl_of.ensures c.before.before.before.before.before.before.before.before.before.before.before.before.before.state.ensures c.before.before.before.before.kids.result _ _ _ _ _ (omega (arith, c.before.before.before.before.before.before.before.before.before.before.before.if2.true)) (omega (arith, c.before.before.before.before.before.before.if3.false, c.before.before.before.before.before.before.before.before.before.emit-kids.ensures.long)) c.before.before.before.before.before.before.before.before.before.emit-kids.ensures c.before.before.before.before.kids.ensures c.before.before.before.pack2.ensures c.before.before.put2.ensures
+    let a = c.args in
+    let p = c.requires in
+    put_stays (lines_in a.t.now) p.1.0.0.tabled.passed a.u.now a.f.now a.d a.places a.y p.1.0.0.type a.out.now a.at p.1.0.1 p.1.1 c.type_number-n.result c.decl_of-m.result c.state-x.result c.type_number-n.ensures c.decl_of-m.ensures c.state-x.ensures c.kids.result _ _ _ _ _ (omega (arith, c.if-x-gt2.true)) (omega (arith, c.if-r-out.false, c.emit_kids-r.ensures.long)) c.emit_kids-r.ensures c.kids.ensures c.pack-then-x-gt2.ensures c.put-then-x-gt2.ensures
 
-emit_name_emit_form_requires : (t : ℕ) → emit-name-lts.Need-emit-form-requires (
+emit_name_emit_form_requires : (t : ℕ) → emit-name-lts.Need-emit_form-r-requires (
   type-number-reads.Asked,
   type-number-reads.Learnt,
   decl-of-reads.Asked,
@@ -619,11 +619,11 @@ emit_name_emit_form_requires : (t : ℕ) → emit-name-lts.Need-emit-form-requir
   emit-surplus.Post,
 ) (emit_name_at t) emit-name.Post
 emit_name_emit_form_requires t c κs =
-    let a = c.before.before.before.before.before.before.before.before.before.before.args in
-    let p = c.before.before.before.before.before.before.before.before.before.before.requires in
-    (omega (arith, p.0), (p.1.0.0, p.1.0.1, state_below a.u.now c.before.before.before.before.decl_of.result c.before.before.before.state.result _ c.before.before.before.state.ensures (omega (arith, c.before.if2.false)) p.1.0.0.states))
+    let a = c.args in
+    let p = c.requires in
+    (omega (arith, p.0), (p.1.0.0, p.1.0.1, state_below a.u.now c.decl_of-m.result c.state-x.result _ c.state-x.ensures (omega (arith, c.if-x-gt2.false)) p.1.0.0.states))
 
-emit_name_returns_4 : (t : ℕ) → emit-name-lts.Need-returns-4 (
+emit_name_returns_4 : (t : ℕ) → emit-name-lts.Need-returns-then-r-out-2 (
   type-number-reads.Asked,
   type-number-reads.Learnt,
   decl-of-reads.Asked,
@@ -646,11 +646,11 @@ emit_name_returns_4 : (t : ℕ) → emit-name-lts.Need-returns-4 (
   emit-surplus.Post,
 ) (emit_name_at t) emit-name.Post
 emit_name_returns_4 t c =
-    let a = c.before.before.before.before.before.before.before.before.before.before.before.before.before.before.args in
-    let p = c.before.before.before.before.before.before.before.before.before.before.before.before.before.before.requires in
-    stop_form (lines_in a.t.now) p.1.0.0.tabled.passed a.u.now a.f.now a.d a.places a.y p.1.0.0.type a.out.now a.at p.1.0.1 p.1.1 c.before.before.before.before.before.before.before.before.before.type_number.result c.before.before.before.before.before.before.before.before.decl_of.result c.before.before.before.before.before.before.before.state.result c.before.before.before.before.before.before.before.before.before.type_number.ensures c.before.before.before.before.before.before.before.before.decl_of.ensures c.before.before.before.before.before.before.before.state.ensures (λ e. c.before.before.before.before.before.before.if1.false e) (omega (arith, c.before.before.before.before.before.if2.false)) _ _ (omega (arith, c.if4.true, c.before.before.before.emit-form.ensures.long)) c.before.before.before.emit-form.ensures
+    let a = c.args in
+    let p = c.requires in
+    stop_form (lines_in a.t.now) p.1.0.0.tabled.passed a.u.now a.f.now a.d a.places a.y p.1.0.0.type a.out.now a.at p.1.0.1 p.1.1 c.type_number-n.result c.decl_of-m.result c.state-x.result c.type_number-n.ensures c.decl_of-m.ensures c.state-x.ensures (λ e. c.if-x-eq0.false e) (omega (arith, c.if-x-gt2.false)) _ _ (omega (arith, c.if-r-out-2.true, c.emit_form-r.ensures.long)) c.emit_form-r.ensures
 
-emit_name_params_requires : (t : ℕ) → emit-name-lts.Need-params-requires (
+emit_name_params_requires : (t : ℕ) → emit-name-lts.Need-params-k-requires (
   type-number-reads.Asked,
   type-number-reads.Learnt,
   decl-of-reads.Asked,
@@ -673,11 +673,11 @@ emit_name_params_requires : (t : ℕ) → emit-name-lts.Need-params-requires (
   emit-surplus.Post,
 ) (emit_name_at t) emit-name.Post
 emit_name_params_requires t c κs =
-    let a = c.before.before.before.before.before.before.before.before.before.before.before.before.before.before.args in
-    let p = c.before.before.before.before.before.before.before.before.before.before.before.before.before.before.requires in
-    (p.1.0.0.tabled, state_below a.u.now c.before.before.before.before.before.before.before.before.decl_of.result c.before.before.before.before.before.before.before.state.result _ c.before.before.before.before.before.before.before.state.ensures (omega (arith, c.before.before.before.before.before.if2.false)) p.1.0.0.states)
+    let a = c.args in
+    let p = c.requires in
+    (p.1.0.0.tabled, state_below a.u.now c.decl_of-m.result c.state-x.result _ c.state-x.ensures (omega (arith, c.if-x-gt2.false)) p.1.0.0.states)
 
-emit_name_returns_5 : (t : ℕ) → emit-name-lts.Need-returns-5 (
+emit_name_returns_5 : (t : ℕ) → emit-name-lts.Need-returns-then-kids-k (
   type-number-reads.Asked,
   type-number-reads.Learnt,
   decl-of-reads.Asked,
@@ -700,11 +700,11 @@ emit_name_returns_5 : (t : ℕ) → emit-name-lts.Need-returns-5 (
   emit-surplus.Post,
 ) (emit_name_at t) emit-name.Post
 emit_name_returns_5 t c =
-    let a = c.before.before.before.before.before.before.before.before.before.before.before.before.before.before.before.before.before.args in
-    let p = c.before.before.before.before.before.before.before.before.before.before.before.before.before.before.before.before.before.requires in
-    put_form (lines_in a.t.now) p.1.0.0.tabled.passed a.u.now a.f.now a.d a.places a.y p.1.0.0.type a.out.now a.at p.1.0.1 p.1.1 c.before.before.before.before.before.before.before.before.before.before.before.before.type_number.result c.before.before.before.before.before.before.before.before.before.before.before.decl_of.result c.before.before.before.before.before.before.before.before.before.before.state.result c.before.before.before.before.before.before.before.before.before.before.before.before.type_number.ensures c.before.before.before.before.before.before.before.before.before.before.before.decl_of.ensures c.before.before.before.before.before.before.before.before.before.before.state.ensures (λ e. c.before.before.before.before.before.before.before.before.before.if1.false e) (omega (arith, c.before.before.before.before.before.before.before.before.if2.false)) _ _ (omega (arith, c.if5.true, c.before.kids2.ensures, c.before.before.params.ensures)) c.before.before.before.before.before.before.emit-form.ensures
+    let a = c.args in
+    let p = c.requires in
+    put_form (lines_in a.t.now) p.1.0.0.tabled.passed a.u.now a.f.now a.d a.places a.y p.1.0.0.type a.out.now a.at p.1.0.1 p.1.1 c.type_number-n.result c.decl_of-m.result c.state-x.result c.type_number-n.ensures c.decl_of-m.ensures c.state-x.ensures (λ e. c.if-x-eq0.false e) (omega (arith, c.if-x-gt2.false)) _ _ (omega (arith, c.if-kids-k.true, c.kids-2.ensures, c.params-k.ensures)) c.emit_form-r.ensures
 
-emit_name_emit_surplus_requires : (t : ℕ) → emit-name-lts.Need-emit-surplus-requires (
+emit_name_emit_surplus_requires : (t : ℕ) → emit-name-lts.Need-emit_surplus-requires (
   type-number-reads.Asked,
   type-number-reads.Learnt,
   decl-of-reads.Asked,
@@ -727,11 +727,11 @@ emit_name_emit_surplus_requires : (t : ℕ) → emit-name-lts.Need-emit-surplus-
   emit-surplus.Post,
 ) (emit_name_at t) emit-name.Post
 emit_name_emit_surplus_requires t c κs =
-    let a = c.before.before.before.before.before.before.before.before.before.before.before.before.before.before.before.before.before.before.args in
-    let p = c.before.before.before.before.before.before.before.before.before.before.before.before.before.before.before.before.before.before.requires in
-    (omega (arith, p.0), ((p.1.0.0, omega (arith, (c.before.before.before.before.before.before.before.emit-form.ensures.room (omega (arith, c.before.before.before.before.if4.false, c.before.before.before.before.before.before.before.emit-form.ensures.long))).0), omega (arith, c.before.before.before.before.if4.false), omega (arith, c.before.if5.false, c.before.before.kids2.ensures)), p.1.1))
+    let a = c.args in
+    let p = c.requires in
+    (omega (arith, p.0), ((p.1.0.0, omega (arith, (c.emit_form-r.ensures.room (omega (arith, c.if-r-out-2.false, c.emit_form-r.ensures.long))).0), omega (arith, c.if-r-out-2.false), omega (arith, c.if-kids-k.false, c.kids-2.ensures)), p.1.1))
 
-emit_name_returns_6 : (t : ℕ) → emit-name-lts.Need-returns-6 (
+emit_name_returns_6 : (t : ℕ) → emit-name-lts.Need-returns (
   type-number-reads.Asked,
   type-number-reads.Learnt,
   decl-of-reads.Asked,
@@ -754,11 +754,11 @@ emit_name_returns_6 : (t : ℕ) → emit-name-lts.Need-returns-6 (
   emit-surplus.Post,
 ) (emit_name_at t) emit-name.Post
 emit_name_returns_6 t c =
-    let a = c.before.before.before.before.before.before.before.before.before.before.before.before.before.before.before.before.before.before.before.before.before.args in
-    let p = c.before.before.before.before.before.before.before.before.before.before.before.before.before.before.before.before.before.before.before.before.before.requires in
-    put_surplus (lines_in a.t.now) p.1.0.0.tabled.passed a.u.now a.f.now a.d a.places a.y p.1.0.0.type a.out.now a.at p.1.0.1 p.1.1 c.before.before.before.before.before.before.before.before.before.before.before.before.before.before.before.before.type_number.result c.before.before.before.before.before.before.before.before.before.before.before.before.before.before.before.decl_of.result c.before.before.before.before.before.before.before.before.before.before.before.before.before.before.state.result c.before.before.before.before.before.before.before.before.before.before.before.before.before.before.before.before.type_number.ensures c.before.before.before.before.before.before.before.before.before.before.before.before.before.before.before.decl_of.ensures c.before.before.before.before.before.before.before.before.before.before.before.before.before.before.state.ensures (λ e. c.before.before.before.before.before.before.before.before.before.before.before.before.before.if1.false e) (omega (arith, c.before.before.before.before.before.before.before.before.before.before.before.before.if2.false)) c.before.before.before.before.before.before.params.result c.before.before.before.before.before.before.before.before.before.before.emit-form.result _ _ _ c.before.before.before.before.before.before.params.ensures (omega (arith, c.before.before.before.before.before.before.before.if4.false, c.before.before.before.before.before.before.before.before.before.before.emit-form.ensures.long)) c.before.before.before.before.before.before.before.before.before.before.emit-form.ensures c.before.before.emit-surplus.ensures
+    let a = c.args in
+    let p = c.requires in
+    put_surplus (lines_in a.t.now) p.1.0.0.tabled.passed a.u.now a.f.now a.d a.places a.y p.1.0.0.type a.out.now a.at p.1.0.1 p.1.1 c.type_number-n.result c.decl_of-m.result c.state-x.result c.type_number-n.ensures c.decl_of-m.ensures c.state-x.ensures (λ e. c.if-x-eq0.false e) (omega (arith, c.if-x-gt2.false)) c.params-k.result c.emit_form-r.result _ _ _ c.params-k.ensures (omega (arith, c.if-r-out-2.false, c.emit_form-r.ensures.long)) c.emit_form-r.ensures c.emit_surplus.ensures
 
-emit_node_emit_part_requires : (t : ℕ) → emit-node-lts.Need-emit-part-requires (
+emit_node_emit_part_requires : (t : ℕ) → emit-node-lts.Need-emit_part-requires (
   emit_part_below t,
   emit-part.Post,
   left-word-reads.Asked,
@@ -767,13 +767,13 @@ emit_node_emit_part_requires : (t : ℕ) → emit-node-lts.Need-emit-part-requir
   put_reads.Learnt,
 ) (emit_node_at t) emit-node.Post
 emit_node_emit_part_requires t c κs =
-    let a = c.before.before.before.before.before.before.args in
-    let p = c.before.before.before.before.before.before.requires in
-    let h = p.1.0.2.given c.before.if1.true in
+    let a = c.args in
+    let p = c.requires in
+    let h = p.1.0.2.given c.if-p-y.true in
     let q = asked_kid (lines_in a.t.now) a.t.now a.u.now a.f.now a.y a.d _ a.p p.1.0.0 h.1 h.2 in
     (omega (arith, p.0, q.0), ((q.1, p.1.0.1), stands_at (words (lines_in a.t.now) a.u.now a.f.now a.d a.places) a.out.now a.from a.end a.at a.last a.p a.y q.0 p.1.1))
 
-emit_node_returns : (t : ℕ) → emit-node-lts.Need-returns (
+emit_node_returns : (t : ℕ) → emit-node-lts.Need-returns-then-p-y (
   emit_part_below t,
   emit-part.Post,
   left-word-reads.Asked,
@@ -782,11 +782,11 @@ emit_node_returns : (t : ℕ) → emit-node-lts.Need-returns (
   put_reads.Learnt,
 ) (emit_node_at t) emit-node.Post
 emit_node_returns t c =
-    let a = c.before.before.before.before.before.before.before.before.before.args in
-    let p = c.before.before.before.before.before.before.before.before.before.requires in
-    put_same _ _ _ _ _ _ (step_given (lines_in a.t.now) a.u.now a.f.now a.d a.places a.y a.w a.p p.1.0.2 c.before.before.before.before.if1.true) c.before.before.emit-part.ensures
+    let a = c.args in
+    let p = c.requires in
+    put_same _ _ _ _ _ _ (step_given (lines_in a.t.now) a.u.now a.f.now a.d a.places a.y a.w a.p p.1.0.2 c.if-p-y.true) c.emit_part.ensures
 
-emit_node_returns_2 : (t : ℕ) → emit-node-lts.Need-returns-2 (
+emit_node_returns_2 : (t : ℕ) → emit-node-lts.Need-returns (
   emit_part_below t,
   emit-part.Post,
   left-word-reads.Asked,
@@ -795,9 +795,9 @@ emit_node_returns_2 : (t : ℕ) → emit-node-lts.Need-returns-2 (
   put_reads.Learnt,
 ) (emit_node_at t) emit-node.Post
 emit_node_returns_2 t c =
-    let a = c.before.before.before.before.before.before.before.before.before.before.args in
-    let p = c.before.before.before.before.before.before.before.before.before.before.requires in
-    put_same _ _ _ _ _ _ (ap (λ (x : ℕ). x ∷ []) c.before.before.before.left_word.ensures ∙ step_left (lines_in a.t.now) a.u.now a.f.now a.d a.places a.y a.w a.p p.1.0.2 c.before.before.before.before.before.if1.false) c.before.before.put.ensures
+    let a = c.args in
+    let p = c.requires in
+    put_same _ _ _ _ _ _ (ap (λ (x : ℕ). x ∷ []) c.left_word.ensures ∙ step_left (lines_in a.t.now) a.u.now a.f.now a.d a.places a.y a.w a.p p.1.0.2 c.if-p-y.false) c.put.ensures
 
 emit_part_again_requires : (t : ℕ) → emit-part-lts.Need-again-requires (
   again-reads.Asked,
@@ -812,10 +812,10 @@ emit_part_again_requires : (t : ℕ) → emit-part-lts.Need-again-requires (
   emit-tree.Post,
 ) (emit_part_at t) emit-part.Post
 emit_part_again_requires t c κs =
-    let p = c.before.before.before.before.before.before.requires in
-    let z = p.1.1 c.before.if1.true in (z.order, z.before, p.1.0.1)
+    let p = c.requires in
+    let z = p.1.1 c.if-last-y.true in (z.order, z.before, p.1.0.1)
 
-emit_part_returns : (t : ℕ) → emit-part-lts.Need-returns (
+emit_part_returns : (t : ℕ) → emit-part-lts.Need-returns-then-last-y (
   again-reads.Asked,
   again-reads.Learnt,
   type-number-reads.Asked,
@@ -828,9 +828,9 @@ emit_part_returns : (t : ℕ) → emit-part-lts.Need-returns (
   emit-tree.Post,
 ) (emit_part_at t) emit-part.Post
 emit_part_returns t c =
-    put_stands _ _ _ _ _ _ _ (c.before.before.before.before.before.before.before.before.before.requires.1.1 c.before.before.before.before.if1.true) c.before.before.again.ensures
+    put_stands _ _ _ _ _ _ _ (c.requires.1.1 c.if-last-y.true) c.again.ensures
 
-emit_part_returns_2 : (t : ℕ) → emit-part-lts.Need-returns-2 (
+emit_part_returns_2 : (t : ℕ) → emit-part-lts.Need-returns-then-k-lt7 (
   again-reads.Asked,
   again-reads.Learnt,
   type-number-reads.Asked,
@@ -843,11 +843,11 @@ emit_part_returns_2 : (t : ℕ) → emit-part-lts.Need-returns-2 (
   emit-tree.Post,
 ) (emit_part_at t) emit-part.Post
 emit_part_returns_2 t c =
-    let a = c.before.before.before.before.before.before.before.before.before.before.before.before.args in
-    let p = c.before.before.before.before.before.before.before.before.before.before.before.before.requires in
-    put_leaf (lines_in a.t.now) p.1.0.0.tabled.passed a.u.now a.f.now a.d a.places a.y p.1.0.0.type a.out.now a.at p.1.0.1 _ _ _ (omega (arith, c.before.before.before.before.before.if2.true, c.before.before.before.before.before.before.type_number.ensures)) c.before.before.before.leaf-word.ensures c.before.before.put.ensures
+    let a = c.args in
+    let p = c.requires in
+    put_leaf (lines_in a.t.now) p.1.0.0.tabled.passed a.u.now a.f.now a.d a.places a.y p.1.0.0.type a.out.now a.at p.1.0.1 _ _ _ (omega (arith, c.if-k-lt7.true, c.type_number-k.ensures)) c.leaf_word.ensures c.put.ensures
 
-emit_part_emit_tree_requires : (t : ℕ) → emit-part-lts.Need-emit-tree-requires (
+emit_part_emit_tree_requires : (t : ℕ) → emit-part-lts.Need-emit_tree-requires (
   again-reads.Asked,
   again-reads.Learnt,
   type-number-reads.Asked,
@@ -860,9 +860,9 @@ emit_part_emit_tree_requires : (t : ℕ) → emit-part-lts.Need-emit-tree-requir
   emit-tree.Post,
 ) (emit_part_at t) emit-part.Post
 emit_part_emit_tree_requires t c κs =
-    let p = c.before.before.before.before.before.before.before.before.requires in (omega (arith, p.0), (p.1.0, omega (arith, c.before.if2.false, c.before.before.type_number.ensures)))
+    let p = c.requires in (omega (arith, p.0), (p.1.0, omega (arith, c.if-k-lt7.false, c.type_number-k.ensures)))
 
-emit_part_returns_3 : (t : ℕ) → emit-part-lts.Need-returns-3 (
+emit_part_returns_3 : (t : ℕ) → emit-part-lts.Need-returns (
   again-reads.Asked,
   again-reads.Learnt,
   type-number-reads.Asked,
@@ -875,9 +875,9 @@ emit_part_returns_3 : (t : ℕ) → emit-part-lts.Need-returns-3 (
   emit-tree.Post,
 ) (emit_part_at t) emit-part.Post
 emit_part_returns_3 t c =
-    c.before.before.emit-tree.ensures
+    c.emit_tree.ensures
 
-emit_surplus_returns : (t : ℕ) → emit-surplus-lts.Need-returns (
+emit_surplus_returns : (t : ℕ) → emit-surplus-lts.Need-returns-then-r-at (
   kind-reads.Asked,
   kind-reads.Learnt,
   kids-reads.Asked,
@@ -894,11 +894,11 @@ emit_surplus_returns : (t : ℕ) → emit-surplus-lts.Need-returns (
   put_reads.Learnt,
 ) (emit_surplus_at t) emit-surplus.Post
 emit_surplus_returns t c =
-    let a = c.before.before.before.before.before.args in
-    let p = c.before.before.before.before.before.requires in
-    surplus_none a.out.now a.at a.r (kids_of (lines_in a.t.now) a.y - a.k) (run (kid_words (lines_in a.t.now) a.u.now a.f.now a.d a.places a.y) a.k (kids_of (lines_in a.t.now) a.y - a.k)) c.if1.true (omega (arith, p.1.0.1, p.1.0.2))
+    let a = c.args in
+    let p = c.requires in
+    surplus_none a.out.now a.at a.r (kids_of (lines_in a.t.now) a.y - a.k) (run (kid_words (lines_in a.t.now) a.u.now a.f.now a.d a.places a.y) a.k (kids_of (lines_in a.t.now) a.y - a.k)) c.if-r-at.true (omega (arith, p.1.0.1, p.1.0.2))
 
-emit_surplus_returns_2 : (t : ℕ) → emit-surplus-lts.Need-returns-2 (
+emit_surplus_returns_2 : (t : ℕ) → emit-surplus-lts.Need-returns-then-kind-ne8 (
   kind-reads.Asked,
   kind-reads.Learnt,
   kids-reads.Asked,
@@ -915,11 +915,11 @@ emit_surplus_returns_2 : (t : ℕ) → emit-surplus-lts.Need-returns-2 (
   put_reads.Learnt,
 ) (emit_surplus_at t) emit-surplus.Post
 emit_surplus_returns_2 t c =
-    let a = c.before.before.before.before.before.before.before.before.args in
-    let p = c.before.before.before.before.before.before.before.before.requires in
-    surplus_kept a.out.now a.at a.r (kids_of (lines_in a.t.now) a.y - a.k) (run (kid_words (lines_in a.t.now) a.u.now a.f.now a.d a.places a.y) a.k (kids_of (lines_in a.t.now) a.y - a.k)) (below a.at a.r p.1.0.1 c.before.before.before.if1.false) p.1.0.2 (λ e. c.if2.true (c.before.kind.ensures ∙ e))
+    let a = c.args in
+    let p = c.requires in
+    surplus_kept a.out.now a.at a.r (kids_of (lines_in a.t.now) a.y - a.k) (run (kid_words (lines_in a.t.now) a.u.now a.f.now a.d a.places a.y) a.k (kids_of (lines_in a.t.now) a.y - a.k)) (below a.at a.r p.1.0.1 c.if-r-at.false) p.1.0.2 (λ e. c.if-kind-ne8.true (c.kind.ensures ∙ e))
 
-emit_surplus_emit_kids_requires : (t : ℕ) → emit-surplus-lts.Need-emit-kids-requires (
+emit_surplus_emit_kids_requires : (t : ℕ) → emit-surplus-lts.Need-emit_kids-e-requires (
   kind-reads.Asked,
   kind-reads.Learnt,
   kids-reads.Asked,
@@ -936,11 +936,11 @@ emit_surplus_emit_kids_requires : (t : ℕ) → emit-surplus-lts.Need-emit-kids-
   put_reads.Learnt,
 ) (emit_surplus_at t) emit-surplus.Post
 emit_surplus_emit_kids_requires t c κs =
-    let a = c.before.before.before.before.before.before.before.before.before.before.args in
-    let p = c.before.before.before.before.before.before.before.before.before.before.requires in
+    let a = c.args in
+    let p = c.requires in
     (omega (arith, p.0), (p.1.0.0, omega (arith, p.1.0.2), p.1.0.3))
 
-emit_surplus_returns_3 : (t : ℕ) → emit-surplus-lts.Need-returns-3 (
+emit_surplus_returns_3 : (t : ℕ) → emit-surplus-lts.Need-returns-then-e-out (
   kind-reads.Asked,
   kind-reads.Learnt,
   kids-reads.Asked,
@@ -957,11 +957,11 @@ emit_surplus_returns_3 : (t : ℕ) → emit-surplus-lts.Need-returns-3 (
   put_reads.Learnt,
 ) (emit_surplus_at t) emit-surplus.Post
 emit_surplus_returns_3 t c =
-    let a = c.before.before.before.before.before.before.before.before.before.before.before.before.before.before.args in
-    let p = c.before.before.before.before.before.before.before.before.before.before.before.before.before.before.requires in
-    surplus_stop a.out.now a.at a.r (kids_of (lines_in a.t.now) a.y - a.k) (run (kid_words (lines_in a.t.now) a.u.now a.f.now a.d a.places a.y) a.k (kids_of (lines_in a.t.now) a.y - a.k)) (below a.at a.r p.1.0.1 c.before.before.before.before.before.before.before.before.before.if1.false) p.1.0.2 _ _ (sym c.before.before.before.before.before.before.before.kind.ensures ∙ c.before.before.before.before.before.before.if2.false) (omega (arith, c.if3.true, c.before.before.before.emit-kids.ensures.long)) c.before.before.before.emit-kids.ensures
+    let a = c.args in
+    let p = c.requires in
+    surplus_stop a.out.now a.at a.r (kids_of (lines_in a.t.now) a.y - a.k) (run (kid_words (lines_in a.t.now) a.u.now a.f.now a.d a.places a.y) a.k (kids_of (lines_in a.t.now) a.y - a.k)) (below a.at a.r p.1.0.1 c.if-r-at.false) p.1.0.2 _ _ (sym c.kind.ensures ∙ c.if-kind-ne8.false) (omega (arith, c.if-e-out.true, c.emit_kids-e.ensures.long)) c.emit_kids-e.ensures
 
-emit_surplus_cast_pack : (t : ℕ) → emit-surplus-lts.Need-overflow-cast-pack (
+emit_surplus_cast_pack : (t : ℕ) → emit-surplus-lts.Need-overflow_cast-n (
   kind-reads.Asked,
   kind-reads.Learnt,
   kids-reads.Asked,
@@ -978,11 +978,11 @@ emit_surplus_cast_pack : (t : ℕ) → emit-surplus-lts.Need-overflow-cast-pack 
   put_reads.Learnt,
 ) (emit_surplus_at t) emit-surplus.Post
 emit_surplus_cast_pack t c =
-    let a = c.before.before.before.before.before.before.before.before.before.before.before.before.before.before.before.before.args in
-    let p = c.before.before.before.before.before.before.before.before.before.before.before.before.before.before.before.before.requires in
-    omega (arith, c.before.before.before.before.before.before.before.kids.ensures, name_kids (lines_in a.t.now) p.1.0.0.tabled.passed a.y p.1.0.0.type p.1.1)
+    let a = c.args in
+    let p = c.requires in
+    omega (arith, c.kids.ensures, name_kids (lines_in a.t.now) p.1.0.0.tabled.passed a.y p.1.0.0.type p.1.1)
 
-emit_surplus_add_pack : (t : ℕ) → emit-surplus-lts.Need-overflow-add-pack (
+emit_surplus_add_pack : (t : ℕ) → emit-surplus-lts.Need-overflow_add-count (
   kind-reads.Asked,
   kind-reads.Learnt,
   kids-reads.Asked,
@@ -999,11 +999,11 @@ emit_surplus_add_pack : (t : ℕ) → emit-surplus-lts.Need-overflow-add-pack (
   put_reads.Learnt,
 ) (emit_surplus_at t) emit-surplus.Post
 emit_surplus_add_pack t c =
-    let a = c.before.before.before.before.before.before.before.before.before.before.before.before.before.before.before.before.args in
-    let p = c.before.before.before.before.before.before.before.before.before.before.before.before.before.before.before.before.requires in
-    omega (arith, c.before.before.before.before.before.before.before.kids.ensures, name_kids (lines_in a.t.now) p.1.0.0.tabled.passed a.y p.1.0.0.type p.1.1, c.count.ensures, count_few (get_or a.out.now (a.r - 1) 0))
+    let a = c.args in
+    let p = c.requires in
+    omega (arith, c.kids.ensures, name_kids (lines_in a.t.now) p.1.0.0.tabled.passed a.y p.1.0.0.type p.1.1, c.count.ensures, count_few (get_or a.out.now (a.r - 1) 0))
 
-emit_surplus_returns_4 : (t : ℕ) → emit-surplus-lts.Need-returns-4 (
+emit_surplus_returns_4 : (t : ℕ) → emit-surplus-lts.Need-returns (
   kind-reads.Asked,
   kind-reads.Learnt,
   kids-reads.Asked,
@@ -1020,11 +1020,11 @@ emit_surplus_returns_4 : (t : ℕ) → emit-surplus-lts.Need-returns-4 (
   put_reads.Learnt,
 ) (emit_surplus_at t) emit-surplus.Post
 emit_surplus_returns_4 t c =
-    let a = c.before.before.before.before.before.before.before.before.before.before.before.before.before.before.before.before.before.before.before.before.before.args in
-    let p = c.before.before.before.before.before.before.before.before.before.before.before.before.before.before.before.before.before.before.before.before.before.requires in
-    surplus_put a.out.now a.at a.r (kids_of (lines_in a.t.now) a.y - a.k) (run (kid_words (lines_in a.t.now) a.u.now a.f.now a.d a.places a.y) a.k (kids_of (lines_in a.t.now) a.y - a.k)) (below a.at a.r p.1.0.1 c.before.before.before.before.before.before.before.before.before.before.before.before.before.before.before.before.if1.false) p.1.0.2 _ _ _ _ _ (sym c.before.before.before.before.before.before.before.before.before.before.before.before.before.before.kind.ensures ∙ c.before.before.before.before.before.before.before.before.before.before.before.before.before.if2.false) (omega (arith, c.before.before.before.before.before.before.before.if3.false, c.before.before.before.before.before.before.before.before.before.before.emit-kids.ensures.long)) (c.before.before.before.pack.ensures ∙ grown_word _ _ _ _ _ _ c.before.before.before.before.before.count.ensures c.before.before.before.before.own.ensures (ap (λ (i : ℕ). i - a.k) c.before.before.before.before.before.before.before.before.before.before.before.before.kids.ensures)) c.before.before.before.before.before.before.before.before.before.before.emit-kids.ensures c.before.before.put.ensures
+    let a = c.args in
+    let p = c.requires in
+    surplus_put a.out.now a.at a.r (kids_of (lines_in a.t.now) a.y - a.k) (run (kid_words (lines_in a.t.now) a.u.now a.f.now a.d a.places a.y) a.k (kids_of (lines_in a.t.now) a.y - a.k)) (below a.at a.r p.1.0.1 c.if-r-at.false) p.1.0.2 _ _ _ _ _ (sym c.kind.ensures ∙ c.if-kind-ne8.false) (omega (arith, c.if-e-out.false, c.emit_kids-e.ensures.long)) (c.pack.ensures ∙ grown_word _ _ _ _ _ _ c.count.ensures c.own.ensures (ap (λ (i : ℕ). i - a.k) c.kids.ensures)) c.emit_kids-e.ensures c.put.ensures
 
-emit_tree_returns : (t : ℕ) → emit-tree-lts.Need-returns (
+emit_tree_returns : (t : ℕ) → emit-tree-lts.Need-returns-then-k-eq8 (
   type-number-reads.Asked,
   type-number-reads.Learnt,
   emit_name_below t,
@@ -1037,9 +1037,9 @@ emit_tree_returns : (t : ℕ) → emit-tree-lts.Need-returns (
   put_reads.Learnt,
 ) (emit_tree_at t) emit-tree.Post
 emit_tree_returns t c =
-    c.before.before.emit-name.ensures
+    c.emit_name.ensures
 
-emit_tree_returns_2 : (t : ℕ) → emit-tree-lts.Need-returns-2 (
+emit_tree_returns_2 : (t : ℕ) → emit-tree-lts.Need-returns-then-r-out (
   type-number-reads.Asked,
   type-number-reads.Learnt,
   emit_name_below t,
@@ -1052,11 +1052,11 @@ emit_tree_returns_2 : (t : ℕ) → emit-tree-lts.Need-returns-2 (
   put_reads.Learnt,
 ) (emit_tree_at t) emit-tree.Post
 emit_tree_returns_2 t c =
-    let a = c.before.before.before.before.before.before.before.before.before.before.before.args in
-    let p = c.before.before.before.before.before.before.before.before.before.before.before.requires in
-    stop_plain (lines_in a.t.now) p.1.0.0.tabled.passed a.u.now a.f.now a.d a.places a.y p.1.0.0.type a.out.now a.at p.1.0.1 (λ e. omega (arith, p.1.1)) (λ e. c.before.before.before.before.before.if1.false (c.before.before.before.before.before.before.type_number.ensures ∙ e)) _ _ (omega (arith, c.if2.true, c.before.before.before.emit-kids.ensures.long)) c.before.before.before.emit-kids.ensures
+    let a = c.args in
+    let p = c.requires in
+    stop_plain (lines_in a.t.now) p.1.0.0.tabled.passed a.u.now a.f.now a.d a.places a.y p.1.0.0.type a.out.now a.at p.1.0.1 (λ e. omega (arith, p.1.1)) (λ e. c.if-k-eq8.false (c.type_number-k.ensures ∙ e)) _ _ (omega (arith, c.if-r-out.true, c.emit_kids-r.ensures.long)) c.emit_kids-r.ensures
 
-emit_tree_returns_3 : (t : ℕ) → emit-tree-lts.Need-returns-3 (
+emit_tree_returns_3 : (t : ℕ) → emit-tree-lts.Need-returns (
   type-number-reads.Asked,
   type-number-reads.Learnt,
   emit_name_below t,
@@ -1069,9 +1069,9 @@ emit_tree_returns_3 : (t : ℕ) → emit-tree-lts.Need-returns-3 (
   put_reads.Learnt,
 ) (emit_tree_at t) emit-tree.Post
 emit_tree_returns_3 t c =
-    let a = c.before.before.before.before.before.before.before.before.before.before.before.before.before.before.before.before.args in
-    let p = c.before.before.before.before.before.before.before.before.before.before.before.before.before.before.before.before.requires in
-    put_plain (lines_in a.t.now) p.1.0.0.tabled.passed a.u.now a.f.now a.d a.places a.y p.1.0.0.type a.out.now a.at p.1.0.1 (λ e. omega (arith, p.1.1)) (λ e. c.before.before.before.before.before.before.before.before.before.before.if1.false (c.before.before.before.before.before.before.before.before.before.before.before.type_number.ensures ∙ e)) _ _ _ _ _ (omega (arith, c.before.before.before.before.before.if2.false, c.before.before.before.before.before.before.before.before.emit-kids.ensures.long)) c.before.before.before.before.before.before.before.before.emit-kids.ensures c.before.before.before.own-word.ensures c.before.before.put.ensures
+    let a = c.args in
+    let p = c.requires in
+    put_plain (lines_in a.t.now) p.1.0.0.tabled.passed a.u.now a.f.now a.d a.places a.y p.1.0.0.type a.out.now a.at p.1.0.1 (λ e. omega (arith, p.1.1)) (λ e. c.if-k-eq8.false (c.type_number-k.ensures ∙ e)) _ _ _ _ _ (omega (arith, c.if-r-out.false, c.emit_kids-r.ensures.long)) c.emit_kids-r.ensures c.own_word.ensures c.put.ensures
 
 pub +emit_form_emit_kids_emit_name_emit_node_emit_part_emit_surplus_emit_tree_spec :
     {M : Type 1} → statement M

@@ -6,11 +6,11 @@ use Rattle.form_emit.proofs.emit.Statement.{statement}
 use Rattle.table_access.specs.Tables.{lines_in}
 use Rattle.form_emit.proofs.emit.Tie as tie
 
-returns : tie.Need-returns
+returns : tie.Need-returns-then-k-lt7
 returns c =
-    let a = c.before.before.before.before.before.before.before.before.before.before.before.args in
-    let p = c.before.before.before.before.before.before.before.before.before.before.before.requires in
-    put_leaf (lines_in a.t.now) p.0.tabled.passed a.u.now a.f.now a.d a.places a.y p.0.type a.out.now a.at p.1 _ _ _ (omega (arith, c.before.before.before.before.before.if1.true, c.before.before.before.before.before.before.type_number.ensures)) c.before.before.before.leaf-word.ensures c.before.before.put.ensures
+    let a = c.args in
+    let p = c.requires in
+    put_leaf (lines_in a.t.now) p.0.tabled.passed a.u.now a.f.now a.d a.places a.y p.0.type a.out.now a.at p.1 _ _ _ (omega (arith, c.if-k-lt7.true, c.type_number-k.ensures)) c.leaf_word.ensures c.put.ensures
 
 pub emit_spec : {M : Type 1} → statement M
 emit_spec =

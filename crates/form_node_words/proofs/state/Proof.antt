@@ -8,17 +8,17 @@ use borrow.Author.Rules.{rules}
 use Rattle.form_node_words.proofs.state.Statement.{statement}
 use Rattle.form_node_words.proofs.state.Tie as tie
 
-returns : tie.Need-returns
+returns : tie.Need-returns-then-d-u
 returns c =
-    let a = c.before.args in
+    let a = c.args in
     sym (get_or-eq_default a.u.now 3 {n = 2 * a.d} (omega arith))
 
-cast-result : tie.Need-overflow-cast-result
-cast-result c = omega (arith, c.shared-slice-known.given (2 * c.before.before.args.d))
+cast-result : tie.Need-overflow_cast-result
+cast-result c = omega (arith, c.shared_slice_known-1.given (2 * c.args.d))
 
-returns-2 : tie.Need-returns-2
+returns-2 : tie.Need-returns
 returns-2 c =
-    let a = c.before.before.args in
+    let a = c.args in
     get_or_within a.u.now (2 * a.d) 0 3 (omega arith)
 
 pub state_spec : {M : Type 1} → statement M

@@ -18,41 +18,41 @@ use borrow.Author.Rules.{rules}
 use Rattle.form_node_words.proofs.variable_word.Statement.{statement}
 use Rattle.form_node_words.proofs.variable_word.Tie as tie
 
-returns : tie.Need-returns
+returns : tie.Need-returns-then-i-params
 returns c =
-    let a = c.before.before.before.before.before.args in
+    let a = c.args in
     let ps = params_of (lines_in a.t.now) a.d in
-    c.pack.ensures ∙ ap word (unbound_word ps a.v (label a.places ps a.v) (omega (arith, c.before.if1.true, c.before.before.before.place_of.ensures, c.before.before.params.ensures)))
+    c.pack.ensures ∙ ap word (unbound_word ps a.v (label a.places ps a.v) (omega (arith, c.if-i-params.true, c.place_of-i.ensures, c.params.ensures)))
 
-cast-pack : tie.Need-overflow-cast-pack
+cast-pack : tie.Need-overflow_cast-i
 cast-pack c =
-    let a = c.before.before.before.before.before.args in
+    let a = c.args in
     let ls = lines_in a.t.now in
     omega (
       arith,
-      c.before.if1.false,
-      c.before.before.params.ensures,
+      c.if-i-params.false,
+      c.params.ensures,
       params_length ls (first_of param_line ls a.d) (first_of param_line ls (a.d + 1) - first_of param_line ls a.d),
       count_before_le param_line ls (start ls (a.d + 1)),
-      params_few (lines_in a.t.now) c.before.before.before.before.before.requires.0.passed,
+      params_few (lines_in a.t.now) c.requires.0.passed,
     )
 
-returns-2 : tie.Need-returns-2
+returns-2 : tie.Need-returns-then-places
 unfolding label
 returns-2 c =
-    let a = c.before.before.before.before.before.before.args in
+    let a = c.args in
     let ps = params_of (lines_in a.t.now) a.d in
-    c.pack2.ensures
-    ∙ (ap (λ (i : ℕ). word (node 3 0 i)) c.before.before.before.before.place_of.ensures
-    ∙ (ap word (bound_word ps a.v (place ps a.v) (omega (arith, c.before.before.if1.false, c.before.before.before.before.place_of.ensures, c.before.before.before.params.ensures))) ∙ rw c.before.if2.true))
+    c.pack-then-places.ensures
+    ∙ (ap (λ (i : ℕ). word (node 3 0 i)) c.place_of-i.ensures
+    ∙ (ap word (bound_word ps a.v (place ps a.v) (omega (arith, c.if-i-params.false, c.place_of-i.ensures, c.params.ensures))) ∙ rw c.if-places.true))
 
-returns-3 : tie.Need-returns-3
+returns-3 : tie.Need-returns
 unfolding label
 returns-3 c =
-    let a = c.before.before.before.before.before.before.args in
+    let a = c.args in
     let ps = params_of (lines_in a.t.now) a.d in
-    c.pack3.ensures
-    ∙ (ap word (bound_word ps a.v a.v (omega (arith, c.before.before.if1.false, c.before.before.before.before.place_of.ensures, c.before.before.before.params.ensures))) ∙ rw c.before.if2.false)
+    c.pack-2.ensures
+    ∙ (ap word (bound_word ps a.v a.v (omega (arith, c.if-i-params.false, c.place_of-i.ensures, c.params.ensures))) ∙ rw c.if-places.false)
 
 pub variable_word_spec : {M : Type 1} → statement M
 variable_word_spec =

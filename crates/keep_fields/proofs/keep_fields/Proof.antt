@@ -11,34 +11,34 @@ use Rattle.keep_fields.specs.KeepsLaws.{kept_none, kept_slotted}
 use Rattle.keep_fields.proofs.keep_fields.Statement.{statement}
 use Rattle.keep_fields.proofs.keep_fields.Tie as tie
 
-abbrev invariant-loop : tie.invariant-loop
+abbrev invariant-loop : tie.invariant-loop-d
 invariant-loop t node keep₀ n d₀ keep d = (d ≤ n) × (n ≡ decls_of (lines_in t)) × Kept (lines_in t) keep d × (length keep ≡ length keep₀)
 
-abbrev decreases-loop : tie.decreases-loop
+abbrev decreases-loop : tie.decreases-loop-d
 decreases-loop t node keep₀ n d₀ keep d = n - d
 
-loop-holds : tie.Need-loop-init invariant-loop decreases-loop
-loop-holds c = let a = c.before.before.before.before in (omega arith, c.decls.ensures, kept_none (lines_in a.args.t.now) a.args.keep.now a.requires.1.1, refl)
+loop-holds : tie.Need-loop-d-init invariant-loop decreases-loop
+loop-holds c = let a = c in (omega arith, c.decls-n.ensures, kept_none (lines_in a.args.t.now) a.args.keep.now a.requires.1.1, refl)
 
-put-fields-requires : tie.Need-put-fields-requires invariant-loop decreases-loop
+put-fields-requires : tie.Need-put_fields-requires invariant-loop decreases-loop
 put-fields-requires c κs =
-    let a = c.before.before.before.before.before.before.before in
-    let l = c.before.before.loop in
-    (a.requires.0, ((omega (arith, l.invariant.1, c.before.loop-test.true), a.requires.1.0), l.invariant.2))
+    let a = c in
+    let l = c.loop-d in
+    (a.requires.0, ((omega (arith, l.invariant.1, c.loop-d-test.true), a.requires.1.0), l.invariant.2))
 
-loop-again : tie.Need-loop-preserved invariant-loop decreases-loop
+loop-again : tie.Need-loop-d-preserved invariant-loop decreases-loop
 loop-again c =
-    let l = c.before.before.before.before.before.loop in
-    (omega arith, l.invariant.1, rw add-one c.before.before.put-fields.ensures, c.before.before.put-fields.auto.1.1.0 ∙ l.invariant.3)
+    let l = c.loop-d in
+    (omega arith, l.invariant.1, rw add-one c.put_fields.ensures, c.put_fields.auto.keep ∙ l.invariant.3)
 
-same_length : tie.Need-same-length invariant-loop decreases-loop
-same_length c = c.before.loop.invariant.3
+same_length : tie.Need-shape_of-keep invariant-loop decreases-loop
+same_length c = c.loop-d.invariant.3
 
 returns : tie.Need-returns invariant-loop decreases-loop
 returns c =
-    let a = c.before.before.before.before.before.before in
-    let l = c.before.loop in
-    let e : l.d ≡ decls_of (lines_in a.args.t.now) = omega (arith, l.invariant.0, l.invariant.1, c.loop-test.false) in
+    let a = c in
+    let l = c.loop-d in
+    let e : l.d ≡ decls_of (lines_in a.args.t.now) = omega (arith, l.invariant.0, l.invariant.1, c.loop-d-test.false) in
     kept_slotted (lines_in a.args.t.now) a.requires.0.passed l.keep (rw e at l.invariant.2)
 
 pub keep_fields_spec : {M : Type 1} → statement M

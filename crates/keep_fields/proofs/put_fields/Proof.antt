@@ -16,7 +16,7 @@ use Rattle.keep_fields.specs.KeepsLaws.{Partly, partly_none, partly_next, partly
 use Rattle.keep_fields.proofs.put_fields.Statement.{statement}
 use Rattle.keep_fields.proofs.put_fields.Tie as tie
 
-abbrev invariant-loop : tie.invariant-loop
+abbrev invariant-loop : tie.invariant-loop-f
 invariant-loop t node keep₀ d end import f₀ keep f =
     (first_of field_line (lines_in t) d ≤ f)
     × (f ≤ end)
@@ -25,57 +25,57 @@ invariant-loop t node keep₀ d end import f₀ keep f =
     × Partly (lines_in t) keep d f
     × (length keep ≡ length keep₀)
 
-abbrev decreases-loop : tie.decreases-loop
+abbrev decreases-loop : tie.decreases-loop-f
 decreases-loop t node keep₀ d end import f₀ keep f = end - f
 
-add-first-field : tie.Need-overflow-add-first-field invariant-loop decreases-loop
-add-first-field c = let a = c.before.before.before in omega (arith, a.requires.1.0.0, decls_few (lines_in a.args.t.now) a.requires.0.passed)
+add-first-field : tie.Need-overflow_add-d invariant-loop decreases-loop
+add-first-field c = let a = c in omega (arith, a.requires.1.0.0, decls_few (lines_in a.args.t.now) a.requires.0.passed)
 
-first-field-requires : tie.Need-first-field-requires invariant-loop decreases-loop
-first-field-requires c κs = let a = c.before.before.before in (a.requires.0, omega (arith, a.requires.1.0.0))
+first-field-requires : tie.Need-first_field-end-requires invariant-loop decreases-loop
+first-field-requires c κs = let a = c in (a.requires.0, omega (arith, a.requires.1.0.0))
 
-first-field-requires-2 : tie.Need-first-field-requires-2 invariant-loop decreases-loop
-first-field-requires-2 c κs = let a = c.before.before.before.before.before in (a.requires.0, omega (arith, a.requires.1.0.0))
+first-field-requires-2 : tie.Need-first_field-f-requires invariant-loop decreases-loop
+first-field-requires-2 c κs = let a = c in (a.requires.0, omega (arith, a.requires.1.0.0))
 
-is-import-requires : tie.Need-is-import-requires invariant-loop decreases-loop
-is-import-requires c κs = let a = c.before.before.before.before in (a.requires.0, a.requires.1.0.0)
+is-import-requires : tie.Need-is_import-import-requires invariant-loop decreases-loop
+is-import-requires c κs = let a = c in (a.requires.0, a.requires.1.0.0)
 
-loop-holds : tie.Need-loop-init invariant-loop decreases-loop
+loop-holds : tie.Need-loop-f-init invariant-loop decreases-loop
 loop-holds c =
-    let a = c.before.before.before.before.before.before in
-    let e : c.before.before.first_field.result ≡ first_of field_line (lines_in a.args.t.now) (suc a.args.d) = c.before.before.first_field.ensures ∙ rw add-one in
-    let g = c.first-field2.ensures in
-    (omega (arith, g), omega (arith, g, e, first_rises (lines_in a.args.t.now) a.args.d a.requires.1.0.0), e, c.before.is-import.ensures, rw g (partly_none (lines_in a.args.t.now) a.args.keep.now a.args.d a.requires.1.1), refl)
+    let a = c in
+    let e : c.first_field-end.result ≡ first_of field_line (lines_in a.args.t.now) (suc a.args.d) = c.first_field-end.ensures ∙ rw add-one in
+    let g = c.first_field-f.ensures in
+    (omega (arith, g), omega (arith, g, e, first_rises (lines_in a.args.t.now) a.args.d a.requires.1.0.0), e, c.is_import-import.ensures, rw g (partly_none (lines_in a.args.t.now) a.args.keep.now a.args.d a.requires.1.1), refl)
 
-is-kept-requires : tie.Need-is-kept-requires invariant-loop decreases-loop
+is-kept-requires : tie.Need-is_kept-requires invariant-loop decreases-loop
 is-kept-requires c κs =
-    let a = c.before.before.before.before.before.before.before.before in
-    let l = c.before.loop in
-    (a.requires.0, (omega (arith, l.invariant.2, c.loop-test.true, first_le field_line (lines_in a.args.t.now) (suc a.args.d)), a.requires.1.0.1))
+    let a = c in
+    let l = c.loop-f in
+    (a.requires.0, (omega (arith, l.invariant.2, c.loop-f-test.true, first_le field_line (lines_in a.args.t.now) (suc a.args.d)), a.requires.1.0.1))
 
-slice-write-keep : tie.Need-slice-write-keep invariant-loop decreases-loop
+slice-write-keep : tie.Need-bounds-keep-f invariant-loop decreases-loop
 slice-write-keep c =
-    let a = c.before.before.before.before.before.before.before.before.before.before in
-    let l = c.before.before.before.loop in
-    omega (arith, l.invariant.2, c.before.before.loop-test.true, first_le field_line (lines_in a.args.t.now) (suc a.args.d), l.invariant.4.before.size)
+    let a = c in
+    let l = c.loop-f in
+    omega (arith, l.invariant.2, c.loop-f-test.true, first_le field_line (lines_in a.args.t.now) (suc a.args.d), l.invariant.4.before.size)
 
-loop-again : tie.Need-loop-preserved invariant-loop decreases-loop
+loop-again : tie.Need-loop-f-preserved invariant-loop decreases-loop
 loop-again c =
-    let a = c.before.before.before.before.before.before.before.before.before.before in
-    let l = c.before.before.before.loop in
+    let a = c in
+    let l = c.loop-f in
     let ls = lines_in a.args.t.now in
     let n = first_le field_line ls (suc a.args.d) in
-    let h = c.before.before.loop-test.true in
-    (omega (arith, l.invariant.0), omega arith, l.invariant.2, l.invariant.3, partly_next ls l.keep a.args.d l.f c.bit.result a.requires.1.0.0 l.invariant.0 (omega (arith, l.invariant.2, l.invariant.4.before.size)) (c.bit.ensures ∙ ap bit (c.before.is-kept.ensures ∙ ap (λ (v : Bool). field_kept ls l.f v) l.invariant.3)) l.invariant.4, length-set l.keep l.f c.bit.result ∙ l.invariant.5)
+    let h = c.loop-f-test.true in
+    (omega (arith, l.invariant.0), omega arith, l.invariant.2, l.invariant.3, partly_next ls l.keep a.args.d l.f c.bit.result a.requires.1.0.0 l.invariant.0 (omega (arith, l.invariant.2, l.invariant.4.before.size)) (c.bit.ensures ∙ ap bit (c.is_kept.ensures ∙ ap (λ (v : Bool). field_kept ls l.f v) l.invariant.3)) l.invariant.4, length-set l.keep l.f c.bit.result ∙ l.invariant.5)
 
-same_length : tie.Need-same-length invariant-loop decreases-loop
-same_length c = c.before.loop.invariant.5
+same_length : tie.Need-shape_of-keep invariant-loop decreases-loop
+same_length c = c.loop-f.invariant.5
 
 returns : tie.Need-returns invariant-loop decreases-loop
 returns c =
-    let a = c.before.before.before.before.before.before.before.before in
-    let l = c.before.loop in
-    partly_all (lines_in a.args.t.now) l.keep a.args.d l.f (omega (arith, l.invariant.2, c.loop-test.false)) l.invariant.4
+    let a = c in
+    let l = c.loop-f in
+    partly_all (lines_in a.args.t.now) l.keep a.args.d l.f (omega (arith, l.invariant.2, c.loop-f-test.false)) l.invariant.4
 
 pub put_fields_spec : {M : Type 1} → statement M
 put_fields_spec =

@@ -8,53 +8,53 @@ use Rattle.resolve_calls.proofs.copy.Tie as tie
 use Rattle.resolve_calls.proofs.copy.Reads as reads
 use Rattle.resolve_calls.proofs.copy.Lts as lts
 
-abbrev invariant-loop : tie.invariant-loop
+abbrev invariant-loop : tie.invariant-loop-i
 invariant-loop out₀ from to n i₀ out i = (i ≤ n) × Copied from to i out₀ out
 
-abbrev decreases-loop : tie.decreases-loop
+abbrev decreases-loop : tie.decreases-loop-i
 decreases-loop out₀ from to n i₀ out i = n - i
 
-add-if1 : tie.Need-overflow-add-if1 invariant-loop decreases-loop
+add-if1 : tie.Need-overflow_add-to invariant-loop decreases-loop
 add-if1 c = omega arith
 
-returns : tie.Need-returns invariant-loop decreases-loop
-returns c = (c.if1.true, refl)
+returns : tie.Need-returns-then-to-n invariant-loop decreases-loop
+returns c = (c.if-to-n.true, refl)
 
-loop-holds : tie.Need-loop-init invariant-loop decreases-loop
+loop-holds : tie.Need-loop-i-init invariant-loop decreases-loop
 loop-holds c = (omega arith, copied_none _ _ _)
 
-add-out : tie.Need-overflow-add-out invariant-loop decreases-loop
-add-out c = omega (arith, c.loop-test.true)
+add-out : tie.Need-overflow_add-out invariant-loop decreases-loop
+add-out c = omega (arith, c.loop-i-test.true)
 
-mul-out : tie.Need-overflow-mul-out invariant-loop decreases-loop
-mul-out c = omega (arith, c.loop-test.true)
+mul-out : tie.Need-offset_bounds-out-from invariant-loop decreases-loop
+mul-out c = omega (arith, c.loop-i-test.true)
 
-slice-read-out : tie.Need-slice-read-out invariant-loop decreases-loop
-slice-read-out c = omega (arith, c.before.loop-test.true, c.before.before.loop.invariant.1.kept.long)
+slice-read-out : tie.Need-bounds-out-from invariant-loop decreases-loop
+slice-read-out c = omega (arith, c.loop-i-test.true, c.loop-i.invariant.1.kept.long)
 
-add-out-2 : tie.Need-overflow-add-out-2 invariant-loop decreases-loop
-add-out-2 c = omega (arith, c.before.loop-test.true)
+add-out-2 : tie.Need-overflow_add-out-in-loop-i invariant-loop decreases-loop
+add-out-2 c = omega (arith, c.loop-i-test.true)
 
-mul-out-2 : tie.Need-overflow-mul-out-2 invariant-loop decreases-loop
-mul-out-2 c = omega (arith, c.before.loop-test.true)
+mul-out-2 : tie.Need-offset_bounds-out-to invariant-loop decreases-loop
+mul-out-2 c = omega (arith, c.loop-i-test.true)
 
-slice-write-out : tie.Need-slice-write-out invariant-loop decreases-loop
-slice-write-out c = omega (arith, c.before.loop-test.true, c.before.before.before.if1.false, c.before.before.loop.invariant.1.kept.long)
+slice-write-out : tie.Need-bounds-out-to invariant-loop decreases-loop
+slice-write-out c = omega (arith, c.loop-i-test.true, c.if-to-n.false, c.loop-i.invariant.1.kept.long)
 
-add-i : tie.Need-overflow-add-i invariant-loop decreases-loop
-add-i c = omega (arith, c.before.loop-test.true)
+add-i : tie.Need-overflow_step-i invariant-loop decreases-loop
+add-i c = omega (arith, c.loop-i-test.true)
 
-loop-less : tie.Need-loop-smaller invariant-loop decreases-loop
-loop-less c = omega (arith, c.before.loop-test.true)
+loop-less : tie.Need-loop-i-smaller invariant-loop decreases-loop
+loop-less c = omega (arith, c.loop-i-test.true)
 
-loop-again : tie.Need-loop-preserved invariant-loop decreases-loop
-loop-again c = (omega (arith, c.before.loop-test.true), copied_more _ _ _ _ _ (omega (arith, c.before.loop-test.true)) (omega (arith, c.before.loop-test.true, c.before.before.before.if1.false)) c.before.before.loop.invariant.1)
+loop-again : tie.Need-loop-i-preserved invariant-loop decreases-loop
+loop-again c = (omega (arith, c.loop-i-test.true), copied_more _ _ _ _ _ (omega (arith, c.loop-i-test.true)) (omega (arith, c.loop-i-test.true, c.if-to-n.false)) c.loop-i.invariant.1)
 
-same_length : tie.Need-same-length invariant-loop decreases-loop
-same_length c = c.before.loop.invariant.1.kept.long
+same_length : tie.Need-shape_of-out invariant-loop decreases-loop
+same_length c = c.loop-i.invariant.1.kept.long
 
-returns-2 : tie.Need-returns-2 invariant-loop decreases-loop
-returns-2 c = (c.before.before.if1.false, subst (λ m. Copied c.before.before.before.args.from c.before.before.before.args.to m c.before.before.before.args.out.now c.before.loop.out) (omega (arith, c.before.loop.invariant.0, c.loop-test.false)) c.before.loop.invariant.1)
+returns-2 : tie.Need-returns invariant-loop decreases-loop
+returns-2 c = (c.if-to-n.false, subst (λ m. Copied c.args.from c.args.to m c.args.out.now c.loop-i.out) (omega (arith, c.loop-i.invariant.0, c.loop-i-test.false)) c.loop-i.invariant.1)
 
 pub copy_spec : {M : Type 1} → statement M
 copy_spec =

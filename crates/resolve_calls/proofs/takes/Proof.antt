@@ -12,35 +12,35 @@ use Rattle.resolve_calls.proofs.takes.Lts as lts
 use Rattle.resolve_kids.proofs.arguments.argument.Reads as argument-reads
 use Rattle.table_access.proofs.type_number.Reads as type-number-reads
 
-type-number-requires : tie.Need-type-number-requires
+type-number-requires : tie.Need-type_number-kind-requires
 type-number-requires c κs = search rules
 
-returns : tie.Need-returns
+returns : tie.Need-returns-then-kind-eq8
 returns c =
-    let a = c.before.before.before.before.args in
-    let p = c.before.before.before.before.requires in
-    takes_app (lines_in a.t.now) p.0.0.passed (params_of (lines_in a.t.now) a.d) (part a.at a.count a.out.now) a.y p.0.1 (sym c.before.type_number.ensures ∙ c.if1.true)
+    let a = c.args in
+    let p = c.requires in
+    takes_app (lines_in a.t.now) p.0.0.passed (params_of (lines_in a.t.now) a.d) (part a.at a.count a.out.now) a.y p.0.1 (sym c.type_number-kind.ensures ∙ c.if-kind-eq8.true)
 
-type-number-requires-2 : tie.Need-type-number-requires-2
+type-number-requires-2 : tie.Need-type_number-v-requires
 type-number-requires-2 c κs = search rules
 
-cast-v : tie.Need-overflow-cast-v
+cast-v : tie.Need-overflow_cast-v
 cast-v c = search rules
 
 argument-requires : tie.Need-argument-requires
 argument-requires c κs = search rules
 
-returns-2 : tie.Need-returns-2
+returns-2 : tie.Need-returns-then-kind-eq3
 returns-2 c =
-    let a = c.before.before.before.before.before.before.before.args in
-    let p = c.before.before.before.before.before.before.before.requires in
-    takes_var (lines_in a.t.now) p.0.0.passed (params_of (lines_in a.t.now) a.d) (part a.at a.count a.out.now) a.y p.0.1 _ _ (sym c.before.before.before.before.type_number.ensures ∙ c.before.before.if2.true) c.before.type-number2.ensures c.argument.ensures.0
+    let a = c.args in
+    let p = c.requires in
+    takes_var (lines_in a.t.now) p.0.0.passed (params_of (lines_in a.t.now) a.d) (part a.at a.count a.out.now) a.y p.0.1 _ _ (sym c.type_number-kind.ensures ∙ c.if-kind-eq3.true) c.type_number-v.ensures c.argument.ensures.0
 
-returns-3 : tie.Need-returns-3
+returns-3 : tie.Need-returns
 returns-3 c =
-    let a = c.before.before.before.before.before.args in
-    let p = c.before.before.before.before.before.requires in
-    takes_none (lines_in a.t.now) p.0.0.passed (params_of (lines_in a.t.now) a.d) (part a.at a.count a.out.now) a.y p.0.1 (λ e. c.if2.false (c.before.before.type_number.ensures ∙ e)) (λ e. c.before.if1.false (c.before.before.type_number.ensures ∙ e))
+    let a = c.args in
+    let p = c.requires in
+    takes_none (lines_in a.t.now) p.0.0.passed (params_of (lines_in a.t.now) a.d) (part a.at a.count a.out.now) a.y p.0.1 (λ e. c.if-kind-eq3.false (c.type_number-kind.ensures ∙ e)) (λ e. c.if-kind-eq8.false (c.type_number-kind.ensures ∙ e))
 
 pub takes_spec : {M : Type 1} → statement M
 takes_spec =

@@ -62,7 +62,7 @@ abbrev weigh_once_below : ℕ → In 2 weigh-once-kinds.ps
 weigh_once_below t =
     and 2 weigh-once-kinds.ps (falls 2 weigh-once-kinds.ps ◌<◌ μ_weigh_once t) weigh-once.Pre
 
-weigh_type_number_requires : (t : ℕ) → weigh-lts.Need-type-number-requires (
+weigh_type_number_requires : (t : ℕ) → weigh-lts.Need-type_number-requires (
   type-number-reads.Asked,
   type-number-reads.Learnt,
   argument-reads.Asked,
@@ -72,9 +72,9 @@ weigh_type_number_requires : (t : ℕ) → weigh-lts.Need-type-number-requires (
   weigh_kids_below t,
   weigh-kids.Post,
 ) (weigh_at t) weigh.Post
-weigh_type_number_requires t c κs = let p = c.before.before.requires.1 in (p.0.0, (p.0.1, omega arith))
+weigh_type_number_requires t c κs = let p = c.requires.1 in (p.0.0, (p.0.1, omega arith))
 
-weigh_type_number_requires_2 : (t : ℕ) → weigh-lts.Need-type-number-requires-2 (
+weigh_type_number_requires_2 : (t : ℕ) → weigh-lts.Need-type_number-v-requires (
   type-number-reads.Asked,
   type-number-reads.Learnt,
   argument-reads.Asked,
@@ -84,9 +84,9 @@ weigh_type_number_requires_2 : (t : ℕ) → weigh-lts.Need-type-number-requires
   weigh_kids_below t,
   weigh-kids.Post,
 ) (weigh_at t) weigh.Post
-weigh_type_number_requires_2 t c κs = let p = c.before.before.before.before.requires.1 in (p.0.0, (p.0.1, omega arith))
+weigh_type_number_requires_2 t c κs = let p = c.requires.1 in (p.0.0, (p.0.1, omega arith))
 
-weigh_cast_v : (t : ℕ) → weigh-lts.Need-overflow-cast-v (
+weigh_cast_v : (t : ℕ) → weigh-lts.Need-overflow_cast-v (
   type-number-reads.Asked,
   type-number-reads.Learnt,
   argument-reads.Asked,
@@ -108,7 +108,7 @@ weigh_argument_requires : (t : ℕ) → weigh-lts.Need-argument-requires (
   weigh_kids_below t,
   weigh-kids.Post,
 ) (weigh_at t) weigh.Post
-weigh_argument_requires t c κs = let p = c.before.before.before.before.before.requires.1 in (p.0.0, p.1.0, p.1.1)
+weigh_argument_requires t c κs = let p = c.requires.1 in (p.0.0, p.1.0, p.1.1)
 
 weigh_more_requires : (t : ℕ) → weigh-lts.Need-more-requires (
   type-number-reads.Asked,
@@ -120,9 +120,9 @@ weigh_more_requires : (t : ℕ) → weigh-lts.Need-more-requires (
   weigh_kids_below t,
   weigh-kids.Post,
 ) (weigh_at t) weigh.Post
-weigh_more_requires t c κs = (omega (arith, c.before.before.before.before.before.before.requires.1.1.2), omega (arith, c.argument.ensures.1))
+weigh_more_requires t c κs = (omega (arith, c.requires.1.1.2), omega (arith, c.argument.ensures.1))
 
-weigh_returns : (t : ℕ) → weigh-lts.Need-returns (
+weigh_returns : (t : ℕ) → weigh-lts.Need-returns-then-type_number-eq3 (
   type-number-reads.Asked,
   type-number-reads.Learnt,
   argument-reads.Asked,
@@ -133,9 +133,9 @@ weigh_returns : (t : ℕ) → weigh-lts.Need-returns (
   weigh-kids.Post,
 ) (weigh_at t) weigh.Post
 weigh_returns t c =
-    let a = c.before.before.before.before.before.before.before.args in
-    let p = c.before.before.before.before.before.before.before.requires.1 in
-    weigh_var (lines_in a.t.now) p.0.0.passed (params_of (lines_in a.t.now) a.d) (part a.at a.count a.out.now) a.y p.0.1 a.from _ _ _ (sym c.before.before.before.before.type_number.ensures ∙ c.before.before.before.if1.true) c.before.before.type-number2.ensures c.before.argument.ensures.0 c.more.ensures
+    let a = c.args in
+    let p = c.requires.1 in
+    weigh_var (lines_in a.t.now) p.0.0.passed (params_of (lines_in a.t.now) a.d) (part a.at a.count a.out.now) a.y p.0.1 a.from _ _ _ (sym c.type_number.ensures ∙ c.if-type_number-eq3.true) c.type_number-v.ensures c.argument.ensures.0 c.more.ensures
 
 weigh_more_requires_2 : (t : ℕ) → weigh-lts.Need-more-requires-2 (
   type-number-reads.Asked,
@@ -147,9 +147,9 @@ weigh_more_requires_2 : (t : ℕ) → weigh-lts.Need-more-requires-2 (
   weigh_kids_below t,
   weigh-kids.Post,
 ) (weigh_at t) weigh.Post
-weigh_more_requires_2 t c κs = (omega (arith, c.before.before.before.before.requires.1.1.2), omega arith)
+weigh_more_requires_2 t c κs = (omega (arith, c.requires.1.1.2), omega arith)
 
-weigh_weigh_kids_requires : (t : ℕ) → weigh-lts.Need-weigh-kids-requires (
+weigh_weigh_kids_requires : (t : ℕ) → weigh-lts.Need-weigh_kids-requires (
   type-number-reads.Asked,
   type-number-reads.Learnt,
   argument-reads.Asked,
@@ -160,10 +160,10 @@ weigh_weigh_kids_requires : (t : ℕ) → weigh-lts.Need-weigh-kids-requires (
   weigh-kids.Post,
 ) (weigh_at t) weigh.Post
 weigh_weigh_kids_requires t c κs =
-    let p = c.before.before.before.before.before.requires.1 in
-    (omega (arith, c.before.before.before.before.before.requires.0), ((p.0.0, p.0.1), (p.1.0, p.1.1, omega (arith, c.more2.ensures, capped_most 1024 (c.before.before.before.before.before.args.from + 1)))))
+    let p = c.requires.1 in
+    (omega (arith, c.requires.0), ((p.0.0, p.0.1), (p.1.0, p.1.1, omega (arith, c.more-2.ensures, capped_most 1024 (c.args.from + 1)))))
 
-weigh_returns_2 : (t : ℕ) → weigh-lts.Need-returns-2 (
+weigh_returns_2 : (t : ℕ) → weigh-lts.Need-returns (
   type-number-reads.Asked,
   type-number-reads.Learnt,
   argument-reads.Asked,
@@ -174,17 +174,17 @@ weigh_returns_2 : (t : ℕ) → weigh-lts.Need-returns-2 (
   weigh-kids.Post,
 ) (weigh_at t) weigh.Post
 weigh_returns_2 t c =
-    let a = c.before.before.before.before.before.before.args in
-    let p = c.before.before.before.before.before.before.requires.1 in
-    weigh_node (lines_in a.t.now) p.0.0.passed (params_of (lines_in a.t.now) a.d) (part a.at a.count a.out.now) a.y p.0.1 a.from _ _ (λ e. c.before.before.if1.false (c.before.before.before.type_number.ensures ∙ e)) c.before.more2.ensures c.weigh-kids.ensures
+    let a = c.args in
+    let p = c.requires.1 in
+    weigh_node (lines_in a.t.now) p.0.0.passed (params_of (lines_in a.t.now) a.d) (part a.at a.count a.out.now) a.y p.0.1 a.from _ _ (λ e. c.if-type_number-eq3.false (c.type_number.ensures ∙ e)) c.more-2.ensures c.weigh_kids.ensures
 
-abbrev weigh_kids_Inv_loop : weigh-kids-lts.invariant-loop
+abbrev weigh_kids_Inv_loop : weigh-kids-lts.invariant-loop-i
 weigh_kids_Inv_loop t y d out at count from n w₀ last₀ prior₀ i₀ w last prior i = (i ≤ n) × (w ≡ capped 1024 (from + weights_of (lines_in t) d out at count y i)) × ((z : ℕ) → z < y → w ≤ 1024 → z ≡ last → w ≡ prior + weight_of (lines_in t) d out at count z)
 
-abbrev weigh_kids_μ_loop : weigh-kids-lts.decreases-loop
+abbrev weigh_kids_μ_loop : weigh-kids-lts.decreases-loop-i
 weigh_kids_μ_loop t y d out at count from n w₀ last₀ prior₀ i₀ w last prior i = n - i
 
-weigh_kids_kids_requires : (t : ℕ) → weigh-kids-lts.Need-kids-requires (
+weigh_kids_kids_requires : (t : ℕ) → weigh-kids-lts.Need-kids-n-requires (
   kids-reads.Asked,
   kids-reads.Learnt,
   kid-reads.Asked,
@@ -192,9 +192,9 @@ weigh_kids_kids_requires : (t : ℕ) → weigh-kids-lts.Need-kids-requires (
   weigh_once_below t,
   weigh-once.Post,
 ) (weigh_kids_at t) weigh-kids.Post weigh_kids_Inv_loop weigh_kids_μ_loop
-weigh_kids_kids_requires t c κs = let p = c.before.before.requires.1 in (p.0.0, p.0.1)
+weigh_kids_kids_requires t c κs = let p = c.requires.1 in (p.0.0, p.0.1)
 
-weigh_kids_loop_holds : (t : ℕ) → weigh-kids-lts.Need-loop-init (
+weigh_kids_loop_holds : (t : ℕ) → weigh-kids-lts.Need-loop-i-init (
   kids-reads.Asked,
   kids-reads.Learnt,
   kid-reads.Asked,
@@ -203,10 +203,10 @@ weigh_kids_loop_holds : (t : ℕ) → weigh-kids-lts.Need-loop-init (
   weigh-once.Post,
 ) (weigh_kids_at t) weigh-kids.Post weigh_kids_Inv_loop weigh_kids_μ_loop
 weigh_kids_loop_holds t c =
-    let a = c.before.before.before.args in
-    (omega arith, kids_none (params_of (lines_in a.t.now) a.d) (part a.at a.count a.out.now) (λ i. type_of (lines_in a.t.now) (kid_of (lines_in a.t.now) a.y i)) a.from c.before.before.before.requires.1.1.2, λ z h f e. absurd (omega arith))
+    let a = c.args in
+    (omega arith, kids_none (params_of (lines_in a.t.now) a.d) (part a.at a.count a.out.now) (λ i. type_of (lines_in a.t.now) (kid_of (lines_in a.t.now) a.y i)) a.from c.requires.1.1.2, λ z h f e. absurd (omega arith))
 
-weigh_kids_returns : (t : ℕ) → weigh-kids-lts.Need-returns (
+weigh_kids_returns : (t : ℕ) → weigh-kids-lts.Need-returns-then-w-gt-LIMIT (
   kids-reads.Asked,
   kids-reads.Learnt,
   kid-reads.Asked,
@@ -215,10 +215,10 @@ weigh_kids_returns : (t : ℕ) → weigh-kids-lts.Need-returns (
   weigh-once.Post,
 ) (weigh_kids_at t) weigh-kids.Post weigh_kids_Inv_loop weigh_kids_μ_loop
 weigh_kids_returns t c =
-    let a = c.before.before.before.before.before.before.args in
-    kids_over (params_of (lines_in a.t.now) a.d) (part a.at a.count a.out.now) (λ i. type_of (lines_in a.t.now) (kid_of (lines_in a.t.now) a.y i)) a.from c.before.before.loop.i (kids_of (lines_in a.t.now) a.y) c.before.before.loop.w (omega (arith, c.before.before.loop.invariant.0, c.before.before.before.kids.ensures)) c.before.before.loop.invariant.1 c.if1.true
+    let a = c.args in
+    kids_over (params_of (lines_in a.t.now) a.d) (part a.at a.count a.out.now) (λ i. type_of (lines_in a.t.now) (kid_of (lines_in a.t.now) a.y i)) a.from c.loop-i.i (kids_of (lines_in a.t.now) a.y) c.loop-i.w (omega (arith, c.loop-i.invariant.0, c.kids-n.ensures)) c.loop-i.invariant.1 c.if-w-gt-LIMIT.true
 
-weigh_kids_kid_requires : (t : ℕ) → weigh-kids-lts.Need-kid-requires (
+weigh_kids_kid_requires : (t : ℕ) → weigh-kids-lts.Need-kid-kid-requires (
   kids-reads.Asked,
   kids-reads.Learnt,
   kid-reads.Asked,
@@ -226,9 +226,9 @@ weigh_kids_kid_requires : (t : ℕ) → weigh-kids-lts.Need-kid-requires (
   weigh_once_below t,
   weigh-once.Post,
 ) (weigh_kids_at t) weigh-kids.Post weigh_kids_Inv_loop weigh_kids_μ_loop
-weigh_kids_kid_requires t c κs = let p = c.before.before.before.before.before.before.requires.1 in (p.0.0, (p.0.1, omega (arith, c.before.before.before.kids.ensures, c.before.loop-test.true)))
+weigh_kids_kid_requires t c κs = let p = c.requires.1 in (p.0.0, (p.0.1, omega (arith, c.kids-n.ensures, c.loop-i-test.true)))
 
-weigh_kids_weigh_once_requires : (t : ℕ) → weigh-kids-lts.Need-weigh-once-requires (
+weigh_kids_weigh_once_requires : (t : ℕ) → weigh-kids-lts.Need-weigh_once-sum-requires (
   kids-reads.Asked,
   kids-reads.Learnt,
   kid-reads.Asked,
@@ -237,12 +237,12 @@ weigh_kids_weigh_once_requires : (t : ℕ) → weigh-kids-lts.Need-weigh-once-re
   weigh-once.Post,
 ) (weigh_kids_at t) weigh-kids.Post weigh_kids_Inv_loop weigh_kids_μ_loop
 weigh_kids_weigh_once_requires t c κs =
-    let a = c.before.before.before.before.before.before.before.args in
-    let p = c.before.before.before.before.before.before.before.requires.1 in
-    let l = (node_at (lines_in a.t.now) p.0.0.passed a.y p.0.1).lower c.before.before.before.loop.i (omega (arith, c.before.before.before.before.kids.ensures, c.before.before.loop-test.true)) in
-    (omega (arith, l, c.kid.ensures, c.before.before.before.before.before.before.before.requires.0), ((p.0.0, omega (arith, l, c.kid.ensures, p.0.1)), ((p.1.0, p.1.1, omega (arith, c.before.if1.false)), c.before.before.before.loop.invariant.2 _ (omega (arith, l, c.kid.ensures)) c.before.if1.false)))
+    let a = c.args in
+    let p = c.requires.1 in
+    let l = (node_at (lines_in a.t.now) p.0.0.passed a.y p.0.1).lower c.loop-i.i (omega (arith, c.kids-n.ensures, c.loop-i-test.true)) in
+    (omega (arith, l, c.kid-kid.ensures, c.requires.0), ((p.0.0, omega (arith, l, c.kid-kid.ensures, p.0.1)), ((p.1.0, p.1.1, omega (arith, c.if-w-gt-LIMIT.false)), c.loop-i.invariant.2 _ (omega (arith, l, c.kid-kid.ensures)) c.if-w-gt-LIMIT.false)))
 
-weigh_kids_add_i : (t : ℕ) → weigh-kids-lts.Need-overflow-add-i (
+weigh_kids_add_i : (t : ℕ) → weigh-kids-lts.Need-overflow_step-i (
   kids-reads.Asked,
   kids-reads.Learnt,
   kid-reads.Asked,
@@ -250,9 +250,9 @@ weigh_kids_add_i : (t : ℕ) → weigh-kids-lts.Need-overflow-add-i (
   weigh_once_below t,
   weigh-once.Post,
 ) (weigh_kids_at t) weigh-kids.Post weigh_kids_Inv_loop weigh_kids_μ_loop
-weigh_kids_add_i t c = omega (arith, c.before.before.before.loop-test.true)
+weigh_kids_add_i t c = omega (arith, c.loop-i-test.true)
 
-weigh_kids_loop_less : (t : ℕ) → weigh-kids-lts.Need-loop-smaller (
+weigh_kids_loop_less : (t : ℕ) → weigh-kids-lts.Need-loop-i-smaller (
   kids-reads.Asked,
   kids-reads.Learnt,
   kid-reads.Asked,
@@ -260,9 +260,9 @@ weigh_kids_loop_less : (t : ℕ) → weigh-kids-lts.Need-loop-smaller (
   weigh_once_below t,
   weigh-once.Post,
 ) (weigh_kids_at t) weigh-kids.Post weigh_kids_Inv_loop weigh_kids_μ_loop
-weigh_kids_loop_less t c = omega (arith, c.before.before.before.loop-test.true)
+weigh_kids_loop_less t c = omega (arith, c.loop-i-test.true)
 
-weigh_kids_loop_again : (t : ℕ) → weigh-kids-lts.Need-loop-preserved (
+weigh_kids_loop_again : (t : ℕ) → weigh-kids-lts.Need-loop-i-preserved (
   kids-reads.Asked,
   kids-reads.Learnt,
   kid-reads.Asked,
@@ -271,10 +271,10 @@ weigh_kids_loop_again : (t : ℕ) → weigh-kids-lts.Need-loop-preserved (
   weigh-once.Post,
 ) (weigh_kids_at t) weigh-kids.Post weigh_kids_Inv_loop weigh_kids_μ_loop
 weigh_kids_loop_again t c =
-    let a = c.before.before.before.before.before.before.before.before.args in
-    (omega (arith, c.before.before.before.loop-test.true), kids_more (params_of (lines_in a.t.now) a.d) (part a.at a.count a.out.now) (λ i. type_of (lines_in a.t.now) (kid_of (lines_in a.t.now) a.y i)) a.from c.before.before.before.before.loop.i c.before.before.before.before.loop.w _ c.before.before.before.before.loop.invariant.1 (c.weigh-once.ensures ∙ ap (λ k. capped 1024 (c.before.before.before.before.loop.w + weight_of (lines_in a.t.now) a.d a.out.now a.at a.count k)) c.before.kid.ensures), λ z h f e. once_last c.before.before.before.before.loop.w (weight_of (lines_in a.t.now) a.d a.out.now a.at a.count z) _ (c.weigh-once.ensures ∙ ap (λ k. capped 1024 (c.before.before.before.before.loop.w + weight_of (lines_in a.t.now) a.d a.out.now a.at a.count k)) (sym e)) f)
+    let a = c.args in
+    (omega (arith, c.loop-i-test.true), kids_more (params_of (lines_in a.t.now) a.d) (part a.at a.count a.out.now) (λ i. type_of (lines_in a.t.now) (kid_of (lines_in a.t.now) a.y i)) a.from c.loop-i.i c.loop-i.w _ c.loop-i.invariant.1 (c.weigh_once-sum.ensures ∙ ap (λ k. capped 1024 (c.loop-i.w + weight_of (lines_in a.t.now) a.d a.out.now a.at a.count k)) c.kid-kid.ensures), λ z h f e. once_last c.loop-i.w (weight_of (lines_in a.t.now) a.d a.out.now a.at a.count z) _ (c.weigh_once-sum.ensures ∙ ap (λ k. capped 1024 (c.loop-i.w + weight_of (lines_in a.t.now) a.d a.out.now a.at a.count k)) (sym e)) f)
 
-weigh_kids_returns_2 : (t : ℕ) → weigh-kids-lts.Need-returns-2 (
+weigh_kids_returns_2 : (t : ℕ) → weigh-kids-lts.Need-returns (
   kids-reads.Asked,
   kids-reads.Learnt,
   kid-reads.Asked,
@@ -283,16 +283,16 @@ weigh_kids_returns_2 : (t : ℕ) → weigh-kids-lts.Need-returns-2 (
   weigh-once.Post,
 ) (weigh_kids_at t) weigh-kids.Post weigh_kids_Inv_loop weigh_kids_μ_loop
 weigh_kids_returns_2 t c =
-    let a = c.before.before.before.before.before.args in
-    c.before.loop.invariant.1 ∙ ap (λ k. capped 1024 (a.from + weights_of (lines_in a.t.now) a.d a.out.now a.at a.count a.y k)) (omega (arith, c.before.before.kids.ensures, c.before.loop.invariant.0, c.loop-test.false))
+    let a = c.args in
+    c.loop-i.invariant.1 ∙ ap (λ k. capped 1024 (a.from + weights_of (lines_in a.t.now) a.d a.out.now a.at a.count a.y k)) (omega (arith, c.kids-n.ensures, c.loop-i.invariant.0, c.loop-i-test.false))
 
-weigh_once_sub_more : (t : ℕ) → weigh-once-lts.Need-overflow-sub-more (
+weigh_once_sub_more : (t : ℕ) → weigh-once-lts.Need-overflow_sub-from (
   more-reads.Asked,
   more-reads.Learnt,
   weigh_below t,
   weigh.Post,
 ) (weigh_once_at t) weigh-once.Post
-weigh_once_sub_more t c = omega (arith, c.before.before.before.requires.1.1.1 c.if1.true)
+weigh_once_sub_more t c = omega (arith, c.requires.1.1.1 c.if-y-last.true)
 
 weigh_once_more_requires : (t : ℕ) → weigh-once-lts.Need-more-requires (
   more-reads.Asked,
@@ -300,15 +300,15 @@ weigh_once_more_requires : (t : ℕ) → weigh-once-lts.Need-more-requires (
   weigh_below t,
   weigh.Post,
 ) (weigh_once_at t) weigh-once.Post
-weigh_once_more_requires t c κs = (omega (arith, c.before.before.before.requires.1.1.0.2), omega (arith, c.before.before.before.requires.1.1.0.2))
+weigh_once_more_requires t c κs = (omega (arith, c.requires.1.1.0.2), omega (arith, c.requires.1.1.0.2))
 
-weigh_once_returns : (t : ℕ) → weigh-once-lts.Need-returns (
+weigh_once_returns : (t : ℕ) → weigh-once-lts.Need-returns-then-y-last (
   more-reads.Asked,
   more-reads.Learnt,
   weigh_below t,
   weigh.Post,
 ) (weigh_once_at t) weigh-once.Post
-weigh_once_returns t c = once_more _ _ _ _ (c.before.before.before.before.requires.1.1.1 c.before.if1.true) c.more.ensures
+weigh_once_returns t c = once_more _ _ _ _ (c.requires.1.1.1 c.if-y-last.true) c.more.ensures
 
 weigh_once_weigh_requires : (t : ℕ) → weigh-once-lts.Need-weigh-requires (
   more-reads.Asked,
@@ -316,9 +316,9 @@ weigh_once_weigh_requires : (t : ℕ) → weigh-once-lts.Need-weigh-requires (
   weigh_below t,
   weigh.Post,
 ) (weigh_once_at t) weigh-once.Post
-weigh_once_weigh_requires t c κs = let p = c.before.before.before.requires.1 in (omega (arith, c.before.before.before.requires.0), (p.0, p.1.0))
+weigh_once_weigh_requires t c κs = let p = c.requires.1 in (omega (arith, c.requires.0), (p.0, p.1.0))
 
-weigh_once_returns_2 : (t : ℕ) → weigh-once-lts.Need-returns-2 (
+weigh_once_returns_2 : (t : ℕ) → weigh-once-lts.Need-returns (
   more-reads.Asked,
   more-reads.Learnt,
   weigh_below t,

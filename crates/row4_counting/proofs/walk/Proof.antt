@@ -20,13 +20,13 @@ quickly-requires : tie.Need-quickly-q-requires
 quickly-requires c κs = started c
 
 whole-requires : tie.Need-whole-requires
-whole-requires c κs = λ k. omega (arith, c.quickly-q.ensures.right.total, c.quickly-q.ensures.t_len_bound k, length_lines_of c.args.t.now)
+whole-requires c κs = λ k. omega (arith, c.quickly-q.ensures.0.total, c.quickly-q.ensures.1 k, length_lines_of c.args.t.now)
 
 returns : tie.Need-returns-then-whole
 returns c =
     let q = c in
     let t = q.args.t.now in
-    let g = q.quickly-q.ensures.right.right (c.whole.ensures c.if-whole.true) in
+    let g = q.quickly-q.ensures.0.right (c.whole.ensures c.if-whole.true) in
     (sym (g.none ∙ length_lines_of t), λ e. c.declared-counts.ensures ∙ declared_all (lines_of t) (length (lines_of t)) q.quickly-q.result.tally refl g.tally)
 
 searched-requires : tie.Need-searched-requires

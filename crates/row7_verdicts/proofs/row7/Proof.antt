@@ -52,7 +52,7 @@ returns c =
     let s = lines_of t in
     let o = c.loop-i in
     let w : o.i < length s = omega (arith, length_lines_of t) in
-    sym (first_found (row7 s) (length s) o.i w o.invariant.2 (tested c.before w ∙ c.if-not-good_line.true))
+    sym (first_found (row7 s) (length s) o.i w o.invariant.2 (tested c.before w ∙ ap not c.if-not-good_line.true))
 
 decl-at-requires : tie.Need-decl_at-d-requires invariant-loop decreases-loop
 decl-at-requires c κs =
@@ -69,7 +69,7 @@ loop-again c =
     let s = lines_of t in
     let o = c.loop-i in
     let w : o.i < length s = omega (arith, length_lines_of t) in
-    (omega arith, in_next s o.i w o.d o.invariant.1 c.decl_at-d.result c.decl_at-d.ensures, first_more (row7 s) o.i o.invariant.2 (tested c.before.before w ∙ c.if-not-good_line.false), omega (arith, o.invariant.3))
+    (omega arith, in_next s o.i w o.d o.invariant.1 c.decl_at-d.result c.decl_at-d.ensures, first_more (row7 s) o.i o.invariant.2 (tested c.before.before w ∙ ap not c.if-not-good_line.false), omega (arith, o.invariant.3))
 
 returns-2 : tie.Need-returns invariant-loop decreases-loop
 returns-2 c =

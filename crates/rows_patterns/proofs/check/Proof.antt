@@ -45,13 +45,13 @@ not_five c h = c.if-code-eq5.false (c.code_of-code.ensures ∙ h)
 
 -- ---- sums
 add-t13 : tie.Need-overflow_add-result
-add-t13 c = let p = start1 c.before.before in omega (arith, places p.args.a.now p.args.z.now p.pre.0.0 p.pre.0.1 p.pre.0.2)
+add-t13 c = let p = start1 c.before.before in omega (arith, places p.args.a.now p.args.z.now p.requires.0.0 p.requires.0.1 p.requires.0.2)
 
 add-t14 : tie.Need-overflow_add-result-then-k-gt-PATTERNS
-add-t14 c = let p = start3 c.before in omega (arith, places p.args.a.now p.args.z.now p.pre.0.0 p.pre.0.1 p.pre.0.2)
+add-t14 c = let p = start3 c.before in omega (arith, places p.args.a.now p.args.z.now p.requires.0.0 p.requires.0.1 p.requires.0.2)
 
 add-t17 : tie.Need-overflow_add-result-then-outside-k
-add-t17 c = let p = start5 c.before.before.before.before.before.before in omega (arith, places p.args.a.now p.args.z.now p.pre.0.0 p.pre.0.1 p.pre.0.2)
+add-t17 c = let p = start5 c.before.before.before.before.before.before in omega (arith, places p.args.a.now p.args.z.now p.requires.0.0 p.requires.0.1 p.requires.0.2)
 
 -- ---- the answers before the cells are written
 returns : tie.Need-returns-then-code-eq3
@@ -66,7 +66,7 @@ returns-2 : tie.Need-returns-then-other-k
 returns-2 c =
     let b = c in
     let p = start1 b.before.before in (
-      at_order p.args.a.now p.args.z.now p.pre.0.0 p.pre.0.1 p.pre.0.2 p.args.front p.pre.1.0 (not_three b.before.before) c.first_other-other.result c.first_other-other.ensures c.if-other-k.true,
+      at_order p.args.a.now p.args.z.now p.requires.0.0 p.requires.0.1 p.requires.0.2 p.args.front p.requires.1.0 (not_three b.before.before) c.first_other-other.result c.first_other-other.ensures c.if-other-k.true,
       kept_refused p.args.a.now p.args.z.now p.args.q.now _ _ 2 refl refl,
     )
 
@@ -75,7 +75,7 @@ returns-3 c =
     let b = c in
     let p = start2 b.before in
     let h = sym b.code_of-code.ensures ∙ c.if-code-eq4.true in (
-      at_four p.args.a.now p.args.z.now p.pre.0.0 p.pre.0.1 p.pre.0.2 p.args.front p.pre.1.0 (not_three b.before.before.before) (letters b.before) h,
+      at_four p.args.a.now p.args.z.now p.requires.0.0 p.requires.0.1 p.requires.0.2 p.args.front p.requires.1.0 (not_three b.before.before.before) (letters b.before) h,
       kept_refused p.args.a.now p.args.z.now p.args.q.now _ p.args.front 3 refl h,
     )
 
@@ -83,7 +83,7 @@ returns-4 : tie.Need-returns-then-k-gt-PATTERNS
 returns-4 c =
     let b = c in
     let p = start3 b.before in (
-      at_limit p.args.a.now p.args.z.now p.pre.0.0 p.pre.0.1 p.pre.0.2 p.args.front p.pre.1.0 (not_three b.before.before.before.before) (letters b.before.before) (not_four b.before) c.if-k-gt-PATTERNS.true,
+      at_limit p.args.a.now p.args.z.now p.requires.0.0 p.requires.0.1 p.requires.0.2 p.args.front p.requires.1.0 (not_three b.before.before.before.before) (letters b.before.before) (not_four b.before) c.if-k-gt-PATTERNS.true,
       kept_refused p.args.a.now p.args.z.now p.args.q.now _ _ 3 refl refl,
     )
 
@@ -93,7 +93,7 @@ returns-5 c =
     let p = start4 b.before in
     let d = b in
     let h = sym d.code_of-code.ensures ∙ c.if-code-eq5.true in (
-      at_five p.args.a.now p.args.z.now p.pre.0.0 p.pre.0.1 p.pre.0.2 p.args.front p.pre.1.0 (not_three d.before.before.before.before.before) (letters d.before.before.before) (not_four d.before.before) b.if-k-gt-PATTERNS.false h,
+      at_five p.args.a.now p.args.z.now p.requires.0.0 p.requires.0.1 p.requires.0.2 p.args.front p.requires.1.0 (not_three d.before.before.before.before.before) (letters d.before.before.before) (not_four d.before.before) b.if-k-gt-PATTERNS.false h,
       kept_refused p.args.a.now p.args.z.now p.args.q.now _ p.args.front 4 refl h,
     )
 
@@ -103,8 +103,8 @@ first-outside-requires c κs =
     let b = c in
     let p = start5 b.before.before in
     let d = b in (
-      patterned p.args.a.now p.args.z.now p.pre.0.0 p.pre.0.1 p.pre.0.2 p.args.front p.pre.1.0 (not_three d.before.before.before.before.before.before.before) (letters d.before.before.before.before.before) (not_four d.before.before.before.before) b.if-k-gt-PATTERNS.false,
-      p.pre.1.1,
+      patterned p.args.a.now p.args.z.now p.requires.0.0 p.requires.0.1 p.requires.0.2 p.args.front p.requires.1.0 (not_three d.before.before.before.before.before.before.before) (letters d.before.before.before.before.before) (not_four d.before.before.before.before) b.if-k-gt-PATTERNS.false,
+      p.requires.1.1,
     )
 
 returns-6 : tie.Need-returns-then-outside-k
@@ -116,7 +116,7 @@ returns-6 c =
     let d = b in
     let y = o.first_outside-outside.ensures in
     let e = y.0.place ∙ ap (λ (n : ℕ). first (links.row5 n (lines 6 p.args.z.now)) (count 6 p.args.z.now)) m.names_of-names.ensures in (
-      at_pattern p.args.a.now p.args.z.now p.pre.0.0 p.pre.0.1 p.pre.0.2 p.args.front p.pre.1.0 (not_three d.before.before.before.before.before.before.before.before.before.before.before) (letters d.before.before.before.before.before.before.before.before.before) (not_four d.before.before.before.before.before.before.before.before) b.if-k-gt-PATTERNS.false
+      at_pattern p.args.a.now p.args.z.now p.requires.0.0 p.requires.0.1 p.requires.0.2 p.args.front p.requires.1.0 (not_three d.before.before.before.before.before.before.before.before.before.before.before) (letters d.before.before.before.before.before.before.before.before.before) (not_four d.before.before.before.before.before.before.before.before) b.if-k-gt-PATTERNS.false
           (not_five b.before.before.before.before.before.before) o.first_outside-outside.result e c.if-outside-k.true,
       kept_refused p.args.a.now p.args.z.now p.args.q.now _ _ 4 y.1 refl,
     )
@@ -129,7 +129,7 @@ returns-7 c =
     let p = start5 b.before.before.before.before.before.before in
     let d = b in
     let y = o.first_outside-outside.ensures in
-    at_rest p.args.a.now p.args.z.now p.pre.0.0 p.pre.0.1 p.pre.0.2 p.args.front p.pre.1.0 (not_three d.before.before.before.before.before.before.before.before.before.before.before) (letters d.before.before.before.before.before.before.before.before.before) (not_four d.before.before.before.before.before.before.before.before) b.if-k-gt-PATTERNS.false
+    at_rest p.args.a.now p.args.z.now p.requires.0.0 p.requires.0.1 p.requires.0.2 p.args.front p.requires.1.0 (not_three d.before.before.before.before.before.before.before.before.before.before.before) (letters d.before.before.before.before.before.before.before.before.before) (not_four d.before.before.before.before.before.before.before.before) b.if-k-gt-PATTERNS.false
     m.names_of-names.result o.first_outside-outside.result p.args.q.now _ m.names_of-names.ensures y.0 c.if-outside-k.false y.1
 
 pub check_spec : {M : Type 1} → statement M

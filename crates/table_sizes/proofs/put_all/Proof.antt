@@ -9,40 +9,40 @@ use Rattle.table_sizes.specs.FillingLaws.{put_none, put_next}
 use Rattle.table_sizes.proofs.put_all.Statement.{statement}
 use Rattle.table_sizes.proofs.put_all.Tie as tie
 
-abbrev invariant-loop : tie.invariant-loop
+abbrev invariant-loop : tie.invariant-loop-k
 invariant-loop at n v t₀ k₀ t k = (k ≤ n) × Put t₀ t at k (all v) × (at + n ≤ length t₀)
 
-abbrev decreases-loop : tie.decreases-loop
+abbrev decreases-loop : tie.decreases-loop-k
 decreases-loop at n v t₀ k₀ t k = n - k
 
-loop-holds : tie.Need-loop-init invariant-loop decreases-loop
+loop-holds : tie.Need-loop-k-init invariant-loop decreases-loop
 loop-holds c = (omega arith, put_none c.args.t.now c.args.at (all c.args.v), c.requires)
 
-add-t : tie.Need-overflow-add-t invariant-loop decreases-loop
-add-t c = let l = c.before.loop in omega (arith, l.invariant.2, c.loop-test.true)
+add-t : tie.Need-overflow_add-t invariant-loop decreases-loop
+add-t c = let l = c.loop-k in omega (arith, l.invariant.2, c.loop-k-test.true)
 
-mul-t : tie.Need-overflow-mul-t invariant-loop decreases-loop
-mul-t c = let l = c.before.loop in omega (arith, l.invariant.2, c.loop-test.true)
+mul-t : tie.Need-offset_bounds-t-at invariant-loop decreases-loop
+mul-t c = let l = c.loop-k in omega (arith, l.invariant.2, c.loop-k-test.true)
 
-slice-write-t : tie.Need-slice-write-t invariant-loop decreases-loop
-slice-write-t c = let l = c.before.loop in omega (arith, l.invariant.2, l.invariant.1.sized, c.loop-test.true)
+slice-write-t : tie.Need-bounds-t-at invariant-loop decreases-loop
+slice-write-t c = let l = c.loop-k in omega (arith, l.invariant.2, l.invariant.1.sized, c.loop-k-test.true)
 
-add-k : tie.Need-overflow-add-k invariant-loop decreases-loop
-add-k c = let l = c.before.loop in omega (arith, l.invariant.2, c.loop-test.true)
+add-k : tie.Need-overflow_add-k invariant-loop decreases-loop
+add-k c = let l = c.loop-k in omega (arith, l.invariant.2, c.loop-k-test.true)
 
-loop-again : tie.Need-loop-preserved invariant-loop decreases-loop
+loop-again : tie.Need-loop-k-preserved invariant-loop decreases-loop
 loop-again c =
-    let a = c.before.before in
-    let l = c.before.loop in
-    (omega arith, put_next a.args.t.now l.t a.args.at l.k (all a.args.v) a.args.v (omega (arith, l.invariant.2, l.invariant.1.sized, c.loop-test.true)) refl l.invariant.1, l.invariant.2)
+    let a = c in
+    let l = c.loop-k in
+    (omega arith, put_next a.args.t.now l.t a.args.at l.k (all a.args.v) a.args.v (omega (arith, l.invariant.2, l.invariant.1.sized, c.loop-k-test.true)) refl l.invariant.1, l.invariant.2)
 
-same_length : tie.Need-same-length invariant-loop decreases-loop
-same_length c = c.before.loop.invariant.1.sized
+same_length : tie.Need-shape_of-t invariant-loop decreases-loop
+same_length c = c.loop-k.invariant.1.sized
 
 returns : tie.Need-returns invariant-loop decreases-loop
 returns c =
-    let a = c.before.before in
-    let l = c.before.loop in
+    let a = c in
+    let l = c.loop-k in
     let e : l.k ≡ a.args.n = omega arith in
     rw e at l.invariant.1
 

@@ -8,13 +8,13 @@ use Rattle.form_emit.proofs.words.argument_line.Statement.{statement}
 use Rattle.table_access.specs.Tables.{lines_in}
 use Rattle.form_emit.proofs.words.argument_line.Tie as tie
 
-returns-3 : tie.Need-returns-3
+returns-3 : tie.Need-returns
 returns-3 c =
-    let a = c.before.before.before.before.before.before.before.args in
-    let p = c.before.before.before.before.before.before.before.requires in
+    let a = c.args in
+    let p = c.requires in
     let l : c.kid.result < a.y =
-    omega (arith, c.kid.ensures, (node_at (lines_in a.t.now) p.0.passed a.y p.1).lower c.before.before.before.own.result (omega (arith, c.before.if2.false, c.before.before.kids.ensures))) in
-    argument_given (lines_in a.t.now) a.y a.w _ _ _ _ c.before.before.before.before.before.kind.ensures c.before.before.before.before.if1.false c.before.before.before.own.ensures c.before.before.kids.ensures c.before.if2.false c.kid.ensures l
+    omega (arith, c.kid.ensures, (node_at (lines_in a.t.now) p.0.passed a.y p.1).lower c.own-i.result (omega (arith, c.if-i-kids.false, c.kids.ensures))) in
+    argument_given (lines_in a.t.now) a.y a.w _ _ _ _ c.kind.ensures c.if-kind-ne3.false c.own-i.ensures c.kids.ensures c.if-i-kids.false c.kid.ensures l
 
 pub argument_line_spec : {M : Type 1} → statement M
 argument_line_spec =

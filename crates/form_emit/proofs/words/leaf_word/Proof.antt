@@ -5,12 +5,12 @@ use Rattle.form_emit.specs.Filling.{leaf_var, leaf_own}
 use Rattle.form_emit.proofs.words.leaf_word.Statement.{statement}
 use Rattle.form_emit.proofs.words.leaf_word.Tie as tie
 
-returns : tie.Need-returns
+returns : tie.Need-returns-then-k-eq3
 returns c =
-    leaf_var _ _ _ _ _ _ (sym c.before.before.before.type_number.ensures ∙ c.before.before.if1.true) c.before.type-number2.ensures c.variable-word.ensures
+    leaf_var _ _ _ _ _ _ (sym c.type_number-k.ensures ∙ c.if-k-eq3.true) c.type_number-v.ensures c.variable_word.ensures
 
-returns-2 : tie.Need-returns-2
-returns-2 c = leaf_own _ _ _ _ _ (λ e. c.before.if1.false (c.before.before.type_number.ensures ∙ e)) c.own-word.ensures
+returns-2 : tie.Need-returns
+returns-2 c = leaf_own _ _ _ _ _ (λ e. c.if-k-eq3.false (c.type_number-k.ensures ∙ e)) c.own_word.ensures
 
 pub leaf_word_spec : {M : Type 1} → statement M
 leaf_word_spec =

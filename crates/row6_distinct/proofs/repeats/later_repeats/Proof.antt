@@ -32,7 +32,7 @@ returns-2 c =
     let a = m in
     let v = c.number-x in
     after_param (nth_line (lines_of a.args.t.now) a.args.i) a.args.g a.args.declared.now a.args.params.now (drop 256 a.args.members.now) (take 256 a.args.members.now) m.letter-letter.result c.number-x.result m.letter-letter.ensures c.number-x.ensures
-    c.in-80.is c.seen.result c.seen.new.last c.seen.ensures.value c.seen.ensures.last_after
+    c.in-80.is c.seen.result c.seen.new.last c.seen.ensures.0 c.seen.ensures.1
 
 returns-3 : tie.Need-returns-in_default
 returns-3 c =

@@ -74,7 +74,7 @@ spelled_before_spec =
     (λ c κs. search rules)
     returns
     (λ c. omega (arith, in_befores c))
-    (λ c. in_befores c)
+    (λ c. in_befores c.before)
     (λ c κs. search rules)
     loop-less
     loop-again
