@@ -7,21 +7,21 @@ use Rattle.collapse_candidates.proofs.may_collapse.Statement.{statement}
 use Rattle.table_access.specs.Tables.{lines_in}
 use Rattle.collapse_candidates.proofs.may_collapse.Tie as tie
 
-returns : tie.Need-returns
-returns c = let a = c.before.before.before.before in import_none (lines_in a.args.t.now) a.args.d a.requires.1.0 (sym c.before.is-import.ensures ∙ c.if1.true)
+returns : tie.Need-returns-then-is_import
+returns c = let a = c in import_none (lines_in a.args.t.now) a.args.d a.requires.1.0 (sym c.is_import.ensures ∙ c.if-is_import.true)
 
-shared-slice-read-if2 : tie.Need-shared-slice-read-if2
-shared-slice-read-if2 c = let a = c.before.before.before.before.before in omega (arith, a.requires.1.0, a.requires.1.1.long)
+shared-slice-read-if2 : tie.Need-bounds-decl-d
+shared-slice-read-if2 c = let a = c in omega (arith, a.requires.1.0, a.requires.1.1.long)
 
-returns-2 : tie.Need-returns-2
+returns-2 : tie.Need-returns-then-decl-d-eq1
 returns-2 c =
-    let a = c.before.before.before.before.before.before in
-    erased_none (lines_in a.args.t.now) a.args.d a.requires.1.0 a.args.decl.now a.requires.1.1.marks (sym c.before.before.before.is-import.ensures ∙ c.before.before.if1.false) c.if2.true
+    let a = c in
+    erased_none (lines_in a.args.t.now) a.args.d a.requires.1.0 a.args.decl.now a.requires.1.1.marks (sym c.is_import.ensures ∙ c.if-is_import.false) c.if-decl-d-eq1.true
 
-returns-3 : tie.Need-returns-3
+returns-3 : tie.Need-returns
 returns-3 c =
-    let a = c.before.before.before.before.before.before.before in
-    by_flag (lines_in a.args.t.now) a.args.d a.requires.1.0 a.args.decl.now a.requires.1.1.marks (sym c.before.before.before.before.is-import.ensures ∙ c.before.before.before.if1.false) c.before.if2.false c.decl-number.result c.decl-number.ensures
+    let a = c in
+    by_flag (lines_in a.args.t.now) a.args.d a.requires.1.0 a.args.decl.now a.requires.1.1.marks (sym c.is_import.ensures ∙ c.if-is_import.false) c.if-decl-d-eq1.false c.decl_number.result c.decl_number.ensures
 
 pub may_collapse_spec : {M : Type 1} → statement M
 may_collapse_spec = tie.close (tie.spec (λ c κs. search rules) returns shared-slice-read-if2 returns-2 (λ c κs. search rules) returns-3)

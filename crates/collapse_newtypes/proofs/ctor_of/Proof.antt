@@ -9,29 +9,29 @@ use Rattle.collapse_newtypes.proofs.ctor_of.Statement.{statement}
 use Rattle.table_access.specs.Tables.{lines_in}
 use Rattle.collapse_newtypes.proofs.ctor_of.Tie as tie
 
-returns : tie.Need-returns
+returns : tie.Need-returns-then-decl_number-eq2
 unfolding ctor_told
 returns c =
-    let a = c.before.before.before.before in
-    let e = c.before.before.decl-number.ensures in
-    let r = c.decl-number2.ensures in
-    (rw (← e, c.before.if1.true) r, omega (arith, r, head_name_low (lines_in a.args.t.now) a.requires.0.passed a.args.d a.requires.1.0))
+    let a = c in
+    let e = c.decl_number.ensures in
+    let r = c.decl_number-then-decl_number-eq2.ensures in
+    (rw (← e, c.if-decl_number-eq2.true) r, omega (arith, r, head_name_low (lines_in a.args.t.now) a.requires.0.passed a.args.d a.requires.1.0))
 
-ctor-number-requires : tie.Need-ctor-number-requires
+ctor-number-requires : tie.Need-ctor_number-requires
 ctor-number-requires c κs =
-    let a = c.before.before.before.before in
-    let e = c.before.before.decl-number.ensures in
-    (a.requires.0, (omega (arith, c.first-ctor.ensures, ctor_within (lines_in a.args.t.now) a.requires.0.passed a.args.d a.requires.1.0 a.requires.1.1 (λ z. c.before.if1.false (e ∙ z))), omega arith))
+    let a = c in
+    let e = c.decl_number.ensures in
+    (a.requires.0, (omega (arith, c.first_ctor.ensures, ctor_within (lines_in a.args.t.now) a.requires.0.passed a.args.d a.requires.1.0 a.requires.1.1 (λ z. c.if-decl_number-eq2.false (e ∙ z))), omega arith))
 
-returns-2 : tie.Need-returns-2
+returns-2 : tie.Need-returns
 unfolding ctor_told
 returns-2 c =
-    let a = c.before.before.before.before.before in
-    let e = c.before.before.before.decl-number.ensures in
-    let f = c.before.first-ctor.ensures in
-    let r = c.ctor-number.ensures in
-    let w = ctor_within (lines_in a.args.t.now) a.requires.0.passed a.args.d a.requires.1.0 a.requires.1.1 (λ z. c.before.before.if1.false (e ∙ z)) in
-    (rw (← e, ne_eqb _ _ c.before.before.if1.false, ← f) r, rw (r, f) (ctor_name_low (lines_in a.args.t.now) a.requires.0.passed a.args.d a.requires.1.0 _ w))
+    let a = c in
+    let e = c.decl_number.ensures in
+    let f = c.first_ctor.ensures in
+    let r = c.ctor_number.ensures in
+    let w = ctor_within (lines_in a.args.t.now) a.requires.0.passed a.args.d a.requires.1.0 a.requires.1.1 (λ z. c.if-decl_number-eq2.false (e ∙ z)) in
+    (rw (← e, ne_eqb _ _ c.if-decl_number-eq2.false, ← f) r, rw (r, f) (ctor_name_low (lines_in a.args.t.now) a.requires.0.passed a.args.d a.requires.1.0 _ w))
 
 pub ctor_of_spec : {M : Type 1} → statement M
 ctor_of_spec =

@@ -8,26 +8,26 @@ use Rattle.collapse_newtypes.specs.NewtypesLaws.{places_passed}
 use Rattle.collapse_newtypes.proofs.next_kept.Statement.{statement}
 use Rattle.collapse_newtypes.proofs.next_kept.Tie as tie
 
-abbrev invariant-loop : tie.invariant-loop
+abbrev invariant-loop : tie.invariant-loop-f
 invariant-loop keep from end f₀ f = (from ≤ f) × (f ≤ end) × (kept_places keep from (end - from) ≡ kept_places keep f (end - f))
 
-abbrev decreases-loop : tie.decreases-loop
+abbrev decreases-loop : tie.decreases-loop-f
 decreases-loop keep from end f₀ f = end - f
 
-loop-holds : tie.Need-loop-init invariant-loop decreases-loop
+loop-holds : tie.Need-loop-f-init invariant-loop decreases-loop
 loop-holds c = (omega arith, omega arith, refl)
 
-returns : tie.Need-returns invariant-loop decreases-loop
-returns c = let l = c.before.before.before.loop in record { low = l.invariant.0; high = l.invariant.1; passed = l.invariant.2; stops = λ _. c.if1.true }
+returns : tie.Need-returns-then-keep-f-eq1 invariant-loop decreases-loop
+returns c = let l = c.loop-f in record { low = l.invariant.0; high = l.invariant.1; passed = l.invariant.2; stops = λ _. c.if-keep-f-eq1.true }
 
-loop-again : tie.Need-loop-preserved invariant-loop decreases-loop
+loop-again : tie.Need-loop-f-preserved invariant-loop decreases-loop
 loop-again c =
-    let l = c.before.before.before.loop in
-    let a = c.before.before.before.before in
-    (omega arith, omega arith, l.invariant.2 ∙ places_passed a.args.keep.now l.f a.args.end c.before.before.loop-test.true c.if1.false)
+    let l = c.loop-f in
+    let a = c in
+    (omega arith, omega arith, l.invariant.2 ∙ places_passed a.args.keep.now l.f a.args.end c.loop-f-test.true c.if-keep-f-eq1.false)
 
-returns-2 : tie.Need-returns-2 invariant-loop decreases-loop
-returns-2 c = let l = c.before.loop in record { low = l.invariant.0; high = l.invariant.1; passed = l.invariant.2; stops = λ h. absurd (omega arith) }
+returns-2 : tie.Need-returns invariant-loop decreases-loop
+returns-2 c = let l = c.loop-f in record { low = l.invariant.0; high = l.invariant.1; passed = l.invariant.2; stops = λ h. absurd (omega arith) }
 
 pub next_kept_spec : {M : Type 1} → statement M
 next_kept_spec =

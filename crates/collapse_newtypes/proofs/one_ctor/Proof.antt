@@ -5,17 +5,17 @@ use Rattle.collapse_newtypes.specs.Newtypes.{one_ctor}
 use Rattle.collapse_newtypes.proofs.one_ctor.Statement.{statement}
 use Rattle.collapse_newtypes.proofs.one_ctor.Tie as tie
 
-returns : tie.Need-returns
+returns : tie.Need-returns-then-kind-eq2
 unfolding one_ctor
-returns c = let e = c.before.decl-number.ensures in rw (← e, c.if1.true)
+returns c = let e = c.decl_number-kind.ensures in rw (← e, c.if-kind-eq2.true)
 
-returns-2 : tie.Need-returns-2
+returns-2 : tie.Need-returns-then-kind-eq3
 unfolding one_ctor
-returns-2 c = let e = c.before.before.before.decl-number.ensures in rw (← e, c.before.if2.true, ← c.decl-number2.ensures)
+returns-2 c = let e = c.decl_number-kind.ensures in rw (← e, c.if-kind-eq3.true, ← c.decl_number.ensures)
 
-returns-3 : tie.Need-returns-3
+returns-3 : tie.Need-returns
 unfolding one_ctor
-returns-3 c = let e = c.before.before.decl-number.ensures in rw (← e, ne_eqb _ _ c.before.if1.false, ne_eqb _ _ c.if2.false)
+returns-3 c = let e = c.decl_number-kind.ensures in rw (← e, ne_eqb _ _ c.if-kind-eq2.false, ne_eqb _ _ c.if-kind-eq3.false)
 
 pub one_ctor_spec : {M : Type 1} → statement M
 one_ctor_spec =

@@ -10,44 +10,44 @@ use Rattle.collapse_passes.specs.PassesLaws.{partly_none, partly_next, partly_al
 use Rattle.collapse_passes.proofs.passes.Statement.{statement}
 use Rattle.collapse_passes.proofs.passes.Tie as tie
 
-abbrev invariant-loop : tie.invariant-loop
+abbrev invariant-loop : tie.invariant-loop-d
 invariant-loop t decl fields bodies₀ n d₀ bodies d = (d ≤ n) × (n ≡ decls_of (lines_in t)) × Partly (lines_in t) bodies d × (length bodies₀ ≡ n)
 
-abbrev decreases-loop : tie.decreases-loop
+abbrev decreases-loop : tie.decreases-loop-d
 decreases-loop t decl fields bodies₀ n d₀ bodies d = n - d
 
-loop-holds : tie.Need-loop-init invariant-loop decreases-loop
+loop-holds : tie.Need-loop-d-init invariant-loop decreases-loop
 loop-holds c =
-    let a = c.before.before.before.before in
+    let a = c in
     let e = a.requires.1.1.1 in
     (omega arith, e, partly_none (lines_in a.args.t.now) a.args.bodies.now e, refl)
 
-shared-slice-read-passed : tie.Need-shared-slice-read-passed invariant-loop decreases-loop
-shared-slice-read-passed c = omega (arith, c.before.before.loop.invariant.1, c.before.loop-test.true, c.before.before.before.before.before.before.before.requires.1.1.0.long)
+shared-slice-read-passed : tie.Need-bounds-fields-d invariant-loop decreases-loop
+shared-slice-read-passed c = omega (arith, c.loop-d.invariant.1, c.loop-d-test.true, c.requires.1.1.0.long)
 
 passed-requires : tie.Need-passed-requires invariant-loop decreases-loop
 passed-requires c κs =
-    let a = c.before.before.before.before.before.before.before in
-    let h : c.before.before.loop.d < decls_of (lines_in a.args.t.now) = omega (arith, c.before.before.loop.invariant.1, c.before.loop-test.true) in
-    (a.requires.0, (h, (a.requires.1.0, a.requires.1.1.0.each c.before.before.loop.d h)))
+    let a = c in
+    let h : c.loop-d.d < decls_of (lines_in a.args.t.now) = omega (arith, c.loop-d.invariant.1, c.loop-d-test.true) in
+    (a.requires.0, (h, (a.requires.1.0, a.requires.1.1.0.each c.loop-d.d h)))
 
-slice-write-bodies : tie.Need-slice-write-bodies invariant-loop decreases-loop
-slice-write-bodies c = omega (arith, c.before.before.before.loop.invariant.1, c.before.before.loop-test.true, c.before.before.before.loop.invariant.2.long)
+slice-write-bodies : tie.Need-bounds-bodies-d invariant-loop decreases-loop
+slice-write-bodies c = omega (arith, c.loop-d.invariant.1, c.loop-d-test.true, c.loop-d.invariant.2.long)
 
-loop-again : tie.Need-loop-preserved invariant-loop decreases-loop
+loop-again : tie.Need-loop-d-preserved invariant-loop decreases-loop
 loop-again c =
-    let a = c.before.before.before.before.before.before.before.before in
-    let l = c.before.before.before.loop in
-    (omega arith, l.invariant.1, partly_next (lines_in a.args.t.now) l.bodies l.d c.passed.result (omega (arith, l.invariant.1, c.before.before.loop-test.true)) c.passed.ensures l.invariant.2, l.invariant.3)
+    let a = c in
+    let l = c.loop-d in
+    (omega arith, l.invariant.1, partly_next (lines_in a.args.t.now) l.bodies l.d c.passed.result (omega (arith, l.invariant.1, c.loop-d-test.true)) c.passed.ensures l.invariant.2, l.invariant.3)
 
-same_length : tie.Need-same-length invariant-loop decreases-loop
-same_length c = let i = c.before.loop.invariant in i.2.long ∙ (sym i.1 ∙ sym i.3)
+same_length : tie.Need-shape_of-bodies invariant-loop decreases-loop
+same_length c = let i = c.loop-d.invariant in i.2.long ∙ (sym i.1 ∙ sym i.3)
 
 returns : tie.Need-returns invariant-loop decreases-loop
 returns c =
-    let a = c.before.before.before.before.before.before in
-    let l = c.before.loop in
-    partly_all (lines_in a.args.t.now) l.bodies l.d (omega (arith, l.invariant.0, l.invariant.1, c.loop-test.false)) l.invariant.2
+    let a = c in
+    let l = c.loop-d in
+    partly_all (lines_in a.args.t.now) l.bodies l.d (omega (arith, l.invariant.0, l.invariant.1, c.loop-d-test.false)) l.invariant.2
 
 pub passes_spec : {M : Type 1} → statement M
 passes_spec =

@@ -9,65 +9,65 @@ use Rattle.erasure_fixpoint.proofs.erasure_fixpoint.Statement.{statement}
 use Rattle.table_access.specs.Tables.{lines_in}
 use Rattle.erasure_fixpoint.proofs.erasure_fixpoint.Tie as tie
 
-cast-none : tie.Need-overflow-cast-none
-cast-none c = let a = c.before.before.before in omega (arith, c.types.ensures, types_within base (lines_in a.args.t.now) a.requires.bounded)
+cast-none : tie.Need-overflow_cast-none
+cast-none c = let a = c in omega (arith, c.types-types.ensures, types_within base (lines_in a.args.t.now) a.requires.bounded)
 
-part-used-end : tie.Need-slice-bounds-used-end
+part-used-end : tie.Need-slice_bounds-used-end
 part-used-end c =
-    let a = c.before.before.before in
-    let e = c.before.decls in
+    let a = c in
+    let e = c.decls-n in
     let h : e.result ≤ 96 = omega (arith, e.ensures, decls_within base (lines_in a.args.t.now) a.requires.bounded) in
     search rules
 
-part-decl-end : tie.Need-slice-bounds-decl-end
+part-decl-end : tie.Need-slice_bounds-decl-end
 part-decl-end c =
-    let a = c.before.before.before.before in
-    let e = c.before.before.decls in
+    let a = c in
+    let e = c.decls-n in
     let h : e.result ≤ 96 = omega (arith, e.ensures, decls_within base (lines_in a.args.t.now) a.requires.bounded) in
     search rules
 
-part-node-end : tie.Need-slice-bounds-node-end
+part-node-end : tie.Need-slice_bounds-node-end
 part-node-end c =
-    let a = c.before.before.before.before.before in
-    let e = c.before.before.types in
+    let a = c in
+    let e = c.types-types in
     let h : e.result ≤ 1024 = omega (arith, e.ensures, types_within base (lines_in a.args.t.now) a.requires.bounded) in
     search rules
 
-part-member-end : tie.Need-slice-bounds-member-end
+part-member-end : tie.Need-slice_bounds-member-end
 part-member-end c =
-    let a = c.before.before.before.before.before.before in
-    let e = c.before.before.before.types in
+    let a = c in
+    let e = c.types-types in
     let h : e.result ≤ 1024 = omega (arith, e.ensures, types_within base (lines_in a.args.t.now) a.requires.bounded) in
     search rules
 
-part-field-end : tie.Need-slice-bounds-field-end
+part-field-end : tie.Need-slice_bounds-field-end
 part-field-end c =
-    let a = c.before.before.before.before.before.before.before in
-    let e = c.before.before.before.before.before.decls in
+    let a = c in
+    let e = c.decls-n in
     let h : e.result ≤ 96 = omega (arith, e.ensures, decls_within base (lines_in a.args.t.now) a.requires.bounded) in
     search rules
 
-part-wait-end : tie.Need-slice-bounds-wait-end
+part-wait-end : tie.Need-slice_bounds-wait-end
 part-wait-end c =
-    let a = c.before.before.before.before.before.before.before.before in
-    let e = c.before.before.before.before.before.before.decls in
+    let a = c in
+    let e = c.decls-n in
     let h : e.result ≤ 96 = omega (arith, e.ensures, decls_within base (lines_in a.args.t.now) a.requires.bounded) in
     search rules
 
-fixpoint-requires : tie.Need-fixpoint-requires
+fixpoint-requires : tie.Need-fixpoint-rounds-requires
 fixpoint-requires c κs =
-    let a = c.before.before.before.before.before.before.before.before.before in
-    let n = c.before.before.before.before.before.before.before.decls in
-    let y = c.before.before.before.before.before.before.types in
+    let a = c in
+    let n = c.decls-n in
+    let y = c.types-types in
     (a.requires.tabled, fresh_of (lines_in a.args.t.now) n.result y.result 96 1024 n.ensures y.ensures (decls_within base (lines_in a.args.t.now) a.requires.bounded) (types_within base (lines_in a.args.t.now) a.requires.bounded))
 
 returns : tie.Need-returns
 returns c =
-    let a = c.before.before.before.before.before.before.before.before.before.before.before.before.before.before.before.before in
-    let n = c.before.before.before.before.before.before.before.before.before.before.before.before.before.before.decls in
-    let y = c.before.before.before.before.before.before.before.before.before.before.before.before.before.types in
-    let f = c.before.before.before.before.before.before.fixpoint in
-    fixpoint_of (lines_in a.args.t.now) n.result y.result 96 1024 n.ensures y.ensures (decls_within base (lines_in a.args.t.now) a.requires.bounded) (types_within base (lines_in a.args.t.now) a.requires.bounded) f.new.1.1.0 f.new.1.1.1.0 _ _ f.result f.auto.1.1.0 f.auto.1.1.1.0 f.ensures
+    let a = c in
+    let n = c.decls-n in
+    let y = c.types-types in
+    let f = c.fixpoint-rounds in
+    fixpoint_of (lines_in a.args.t.now) n.result y.result 96 1024 n.ensures y.ensures (decls_within base (lines_in a.args.t.now) a.requires.bounded) (types_within base (lines_in a.args.t.now) a.requires.bounded) f.new.decl f.new.node _ _ f.result f.auto.decl f.auto.node f.ensures
 
 pub erasure_fixpoint_spec : {M : Type 1} → statement M
 erasure_fixpoint_spec =

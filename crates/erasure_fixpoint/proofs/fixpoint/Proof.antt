@@ -7,17 +7,17 @@ use Rattle.erasure_fixpoint.proofs.fixpoint.Tie as tie
 
 settle-requires : tie.Need-settle-requires
 settle-requires c κs =
-    let a = c.before.before.before.before.before.before.before.before.before.before.before.before.before.before.before.before.before.before.before.before.before in
-    let u = c.before.before.before.before.before.before.before.before.before.before.before.before.first-uses in
-    let v = c.before.before.before.before.before.before.before.before.start in
-    (a.requires.0, fresh_running (lines_in a.args.t.now) a.args.used.now a.args.decl.now v.new.1.0 a.args.node.now a.args.member.now a.args.field.now a.args.wait.now a.requires.1 u.new.1.0 u.ensures v.auto.1.0 v.ensures)
+    let a = c in
+    let u = c.first_uses in
+    let v = c.start in
+    (a.requires.0, fresh_running (lines_in a.args.t.now) a.args.used.now a.args.decl.now v.new.decl a.args.node.now a.args.member.now a.args.field.now a.args.wait.now a.requires.1 u.new.used u.ensures v.auto.decl v.ensures)
 
 returns : tie.Need-returns
 returns c =
-    let a = c.before.before.before.before.before.before.before.before.before.before.before.before.before.before.before.before.before.before.before.before.before.before.before.before.before.before.before.before.before.before.before.before in
-    let v = c.before.before.before.before.before.before.before.before.before.before.before.before.before.before.before.before.before.before.before.start in
-    let w = c.before.before.before.before.before.before.before.before.before.before.settle in
-    fixed_of (lines_in a.args.t.now) v.new.1.0 w.new.1.1.0 w.new.1.1.1.0 w.result v.ensures w.ensures
+    let a = c in
+    let v = c.start in
+    let w = c.settle in
+    fixed_of (lines_in a.args.t.now) v.new.decl w.new.decl w.new.node w.result v.ensures w.ensures
 
 pub fixpoint_spec : {M : Type 1} → statement M
 fixpoint_spec =

@@ -7,32 +7,32 @@ use Rattle.erasure_rulings.proofs.abbrev_erased.Statement.{statement}
 use Rattle.table_access.specs.Tables.{lines_in}
 use Rattle.erasure_rulings.proofs.abbrev_erased.Tie as tie
 
-mark-types-requires : tie.Need-mark-types-requires
+mark-types-requires : tie.Need-mark_types-low-requires
 mark-types-requires c κs =
-    let a = c.before.before.before.before.before.before.before.before.before in
-    (a.requires.0, ((omega (arith, c.before.before.decl-number.ensures, a.requires.1.0.2), a.requires.1.1.decl_size), a.requires.1.1.marks))
+    let a = c in
+    (a.requires.0, ((omega (arith, c.decl_number-y.ensures, a.requires.1.0.2), a.requires.1.1.decl_size), a.requires.1.1.marks))
 
-cast-wait : tie.Need-overflow-cast-wait
+cast-wait : tie.Need-overflow_cast-wait
 cast-wait c =
-    let a = c.before.before.before.before.before.before.before.before.before.before.before.before.before.before.before.before in
-    omega (arith, c.before.before.before.before.before.before.before.before.before.decl-number.ensures, a.requires.1.0.2, types_few (lines_in a.args.t.now) a.requires.0.passed)
+    let a = c in
+    omega (arith, c.decl_number-y.ensures, a.requires.1.0.2, types_few (lines_in a.args.t.now) a.requires.0.passed)
 
-returns : tie.Need-returns
+returns : tie.Need-returns-then-node-y-eq0
 returns c =
-    let a = c.before.before.before.before.before.before.before.before.before.before.before.before.before.before.before.before in
+    let a = c in
     let ls = lines_in a.args.t.now in
-    let m = c.before.before.before.before.before.before.mark-types in
-    let e = c.before.before.before.before.before.before.before.before.before.decl-number.ensures in
+    let m = c.mark_types-low in
+    let e = c.decl_number-y.ensures in
     rw e
-    (type_kept ls a.args.decl.now a.args.node.now a.args.member.now a.args.field.now a.args.wait.now m.new.1.1.0 m.new.1.1.1.0 a.args.right a.args.d a.requires.1.1 a.requires.1.0.0 a.requires.1.0.1 m.result m.ensures.0 (omega (arith, e, m.ensures.1)) (rw e at c.if1.true))
+    (type_kept ls a.args.decl.now a.args.node.now a.args.member.now a.args.field.now a.args.wait.now m.new.node m.new.member a.args.right a.args.d a.requires.1.1 a.requires.1.0.0 a.requires.1.0.1 m.result m.ensures.0 (omega (arith, e, m.ensures.1)) (rw e at c.if-node-y-eq0.true))
 
-returns-2 : tie.Need-returns-2
+returns-2 : tie.Need-returns
 returns-2 c =
-    let a = c.before.before.before.before.before.before.before.before.before.before.before.before.before.before.before.before in
+    let a = c in
     let ls = lines_in a.args.t.now in
-    let m = c.before.before.before.before.before.before.mark-types in
-    let e = c.before.before.before.before.before.before.before.before.before.decl-number.ensures in
-    type_gone ls a.args.decl.now a.args.node.now a.args.member.now a.args.field.now a.args.wait.now m.new.1.1.0 m.new.1.1.1.0 a.args.right a.args.d a.requires.1.1 a.requires.1.0.0 a.requires.1.0.1 m.result m.ensures.0 (omega (arith, e, m.ensures.1)) (rw e at c.if1.false)
+    let m = c.mark_types-low in
+    let e = c.decl_number-y.ensures in
+    type_gone ls a.args.decl.now a.args.node.now a.args.member.now a.args.field.now a.args.wait.now m.new.node m.new.member a.args.right a.args.d a.requires.1.1 a.requires.1.0.0 a.requires.1.0.1 m.result m.ensures.0 (omega (arith, e, m.ensures.1)) (rw e at c.if-node-y-eq0.false)
 
 pub abbrev_erased_spec : {M : Type 1} → statement M
 abbrev_erased_spec =

@@ -1,7 +1,7 @@
 -- `form_emit::emit_tree` and the functions that it calls in turn meet their contracts: each puts what its callees put, and the Y line falls.
 -- Assumes nothing.
 use Prim.Native.Nat.{ℕ, ◌+◌, ◌-◌, ◌*◌, ◌≤◌, ◌<◌}
-use mathlib.Core.Logic.{⊎_elim}
+use Rattle.form_emit.proofs.+emit_form_emit_kids_emit_name_emit_node_emit_part_emit_surplus_emit_tree.Lts-emit_form.{else-p-y, then-p-y}
 use mathlib.Core.List.{[], ◌∷◌}
 use mathlib.Core.Path.{◌≡◌, refl, ap, sym, ◌∙◌}
 use native.Mathlib.Omega.{arith}
@@ -266,10 +266,10 @@ emit_form_loop_again t c =
       omega (arith, e.ensures.long, l.invariant.1),
       omega (arith, c.if-e-out.false),
       put_same _ _ _ _ _ _ (filled_more (kid_words (lines_in a.t.now) a.u.now a.f.now a.d a.places a.y) (kids_of (lines_in a.t.now) a.y) a.f.now (get_or a.f.now (2 * a.m) 0) (get_or a.f.now (2 * a.m + 1) 0) (p.1.0.forms.inside a.m p.1.2) l.i c.loop-i-test.true) (put_more _ _ a.out.now a.at l.r _ l.out _ p.1.1 (omega (arith, l.invariant.1, l.invariant.2)) l.invariant.3 c.emit_node-e.ensures),
-      ⊎_elim
-          (λ w q. stands_by (words (lines_in a.t.now) a.u.now a.f.now a.d a.places) _ _ _ _ _ _ _ _ w.1 w.2 w.3 (stands_put (words (lines_in a.t.now) a.u.now a.f.now a.d a.places g.result) l.out l.r e.result _ l.invariant.2 h (put_same _ _ _ _ _ _ (sym (step_given (lines_in a.t.now) a.u.now a.f.now a.d a.places a.y _ _ g.ensures w.0.taken)) e.ensures)))
-          (λ w q. stands_by (words (lines_in a.t.now) a.u.now a.f.now a.d a.places) _ _ _ _ _ _ _ _ w.1 w.2 w.3 (stands_kept _ l.out l.r e.result _ l.invariant.2 h (words (lines_in a.t.now) a.u.now a.f.now a.d a.places l.last) l.from l.end e.ensures (l.invariant.4 (omega (arith, w.1)))))
-          c.if-p-y.branch,
+      elim c.if-p-y.branch [
+    then-p-y w ↦ λ q. stands_by (words (lines_in a.t.now) a.u.now a.f.now a.d a.places) _ _ _ _ _ _ _ _ w.last-is w.from-is w.end-is (stands_put (words (lines_in a.t.now) a.u.now a.f.now a.d a.places g.result) l.out l.r e.result _ l.invariant.2 h (put_same _ _ _ _ _ _ (sym (step_given (lines_in a.t.now) a.u.now a.f.now a.d a.places a.y _ _ g.ensures w.if-p-y.true)) e.ensures))
+    | else-p-y w ↦ λ q. stands_by (words (lines_in a.t.now) a.u.now a.f.now a.d a.places) _ _ _ _ _ _ _ _ w.last-is w.from-is w.end-is (stands_kept _ l.out l.r e.result _ l.invariant.2 h (words (lines_in a.t.now) a.u.now a.f.now a.d a.places l.last) l.from l.end e.ensures (l.invariant.4 (omega (arith, w.last-is))))
+    ],
     )
 
 emit_form_same_length_2 : (t : ℕ) → emit-form-lts.Need-shape_of-out (

@@ -20,40 +20,40 @@ over x y e z h = omega arith
 positive : (x y : ℕ) → x ≡ y → (x ≡ 0 → ⊥) → 0 < y
 positive x y e n = omega arith
 
-returns : tie.Need-returns
+returns : tie.Need-returns-then-x-eq0
 returns c =
-    let a = c.before.before.before.before.before.before.before.args in
-    let p = c.before.before.before.before.before.before.before.requires in
-    reached_same (lines_in a.t.now) a.t.now a.u.now a.rank.now p.0 a.r a.d p.1 a.f.now a.pos _ (λ o q. closed _ _ (get_or_within a.u.now (2 * a.d) 0 3 (omega (arith, p.0.long, p.1))) c.if1.true o.0) p.2
+    let a = c.args in
+    let p = c.requires in
+    reached_same (lines_in a.t.now) a.t.now a.u.now a.rank.now p.0 a.r a.d p.1 a.f.now a.pos _ (λ o q. closed _ _ (get_or_within a.u.now (2 * a.d) 0 3 (omega (arith, p.0.long, p.1))) c.if-x-eq0.true o.0) p.2
 
-returns-2 : tie.Need-returns-2
+returns-2 : tie.Need-returns-then-x-gt2
 returns-2 c =
-    let a = c.before.before.before.before.before.before.before.before.args in
-    let p = c.before.before.before.before.before.before.before.before.requires in
-    reached_same (lines_in a.t.now) a.t.now a.u.now a.rank.now p.0 a.r a.d p.1 a.f.now a.pos _ (λ o q. over _ _ (get_or_within a.u.now (2 * a.d) 0 3 (omega (arith, p.0.long, p.1))) c.if2.true o.1) p.2
+    let a = c.args in
+    let p = c.requires in
+    reached_same (lines_in a.t.now) a.t.now a.u.now a.rank.now p.0 a.r a.d p.1 a.f.now a.pos _ (λ o q. over _ _ (get_or_within a.u.now (2 * a.d) 0 3 (omega (arith, p.0.long, p.1))) c.if-x-gt2.true o.1) p.2
 
-cast-if3 : tie.Need-overflow-cast-if3
-cast-if3 c = omega (arith, c.shared-slice-known5.given c.before.before.before.before.before.before.before.before.before.args.d)
+cast-if3 : tie.Need-overflow_cast-rank
+cast-if3 c = omega (arith, c.shared_slice_known-5-1.given c.args.d)
 
-returns-3 : tie.Need-returns-3
+returns-3 : tie.Need-returns-then-rank-d
 returns-3 c =
-    let a = c.before.before.before.before.before.before.before.before.before.before.args in
-    let p = c.before.before.before.before.before.before.before.before.before.before.requires in
-    reached_same (lines_in a.t.now) a.t.now a.u.now a.rank.now p.0 a.r a.d p.1 a.f.now a.pos _ (λ o q. c.if3.true q) p.2
+    let a = c.args in
+    let p = c.requires in
+    reached_same (lines_in a.t.now) a.t.now a.u.now a.rank.now p.0 a.r a.d p.1 a.f.now a.pos _ (λ o q. c.if-rank-d.true q) p.2
 
-normal-form-requires : tie.Need-normal-form-requires
+normal-form-requires : tie.Need-normal_form-requires
 normal-form-requires c κs =
-    let a = c.before.before.before.before.before.before.before.before.before.before.before.before.args in
-    let p = c.before.before.before.before.before.before.before.before.before.before.before.before.requires in
-    let o : Open a.u.now a.d = (positive _ _ (get_or_within a.u.now (2 * a.d) 0 3 (omega (arith, p.0.long, p.1))) c.before.before.before.before.before.if1.false, omega (arith, c.before.before.before.before.if2.false, get_or_within a.u.now (2 * a.d) 0 3 (omega (arith, p.0.long, p.1)))) in
+    let a = c.args in
+    let p = c.requires in
+    let o : Open a.u.now a.d = (positive _ _ (get_or_within a.u.now (2 * a.d) 0 3 (omega (arith, p.0.long, p.1))) c.if-x-eq0.false, omega (arith, c.if-x-gt2.false, get_or_within a.u.now (2 * a.d) 0 3 (omega (arith, p.0.long, p.1)))) in
     (asked_body (lines_in a.t.now) a.t.now a.u.now a.rank.now p.0 a.f.now a.pos _ a.d p.2 p.1 o, omega (arith, p.0.long, p.1), p.2.head, p.2.room)
 
-returns-4 : tie.Need-returns-4
+returns-4 : tie.Need-returns
 returns-4 c =
-    let a = c.before.before.before.before.before.before.before.before.before.before.before.before.before.before.before.before.before.args in
-    let p = c.before.before.before.before.before.before.before.before.before.before.before.before.before.before.before.before.before.requires in
-    let o : Open a.u.now a.d = (positive _ _ (get_or_within a.u.now (2 * a.d) 0 3 (omega (arith, p.0.long, p.1))) c.before.before.before.before.before.before.before.before.before.before.if1.false, omega (arith, c.before.before.before.before.before.before.before.before.before.if2.false, get_or_within a.u.now (2 * a.d) 0 3 (omega (arith, p.0.long, p.1)))) in
-    reached_more (lines_in a.t.now) a.t.now a.u.now a.rank.now p.0 a.r a.d p.1 a.f.now _ a.pos _ _ o c.before.before.before.before.before.before.before.if3.false p.2 c.before.before.before.before.normal-form.ensures
+    let a = c.args in
+    let p = c.requires in
+    let o : Open a.u.now a.d = (positive _ _ (get_or_within a.u.now (2 * a.d) 0 3 (omega (arith, p.0.long, p.1))) c.if-x-eq0.false, omega (arith, c.if-x-gt2.false, get_or_within a.u.now (2 * a.d) 0 3 (omega (arith, p.0.long, p.1)))) in
+    reached_more (lines_in a.t.now) a.t.now a.u.now a.rank.now p.0 a.r a.d p.1 a.f.now _ a.pos _ _ o c.if-rank-d.false p.2 c.normal_form.ensures
 
 pub form_at_spec : {M : Type 1} → statement M
 form_at_spec =
@@ -61,11 +61,11 @@ form_at_spec =
     (tie.spec
     (λ c. search rules)
     (λ c. search rules)
-    (λ c. omega (arith, c.before.before.before.before.before.before.requires.0.long, c.before.before.before.before.before.before.requires.1))
+    (λ c. omega (arith, c.requires.0.long, c.requires.1))
     returns
     returns-2
-    (λ c. omega (arith, c.before.before.before.before.before.before.before.before.requires.0.ranks, c.before.before.before.before.before.before.before.before.requires.1))
-    (λ c. omega (arith, c.before.before.before.before.before.before.before.before.before.requires.0.ranks, c.before.before.before.before.before.before.before.before.before.requires.1))
+    (λ c. omega (arith, c.requires.0.ranks, c.requires.1))
+    (λ c. omega (arith, c.requires.0.ranks, c.requires.1))
     cast-if3
     returns-3
     normal-form-requires

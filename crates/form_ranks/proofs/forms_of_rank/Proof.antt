@@ -13,69 +13,69 @@ use Rattle.table_declared.specs.PassedLaws.{decls_few}
 use Rattle.form_ranks.proofs.forms_of_rank.Statement.{statement}
 use Rattle.form_ranks.proofs.forms_of_rank.Tie as tie
 
-abbrev invariant-loop : tie.invariant-loop
+abbrev invariant-loop : tie.invariant-loop-d
 invariant-loop t u rank f₀ scratch₀ r from end pos p₀ d₀ f scratch p d =
     (d ≤ end) × (length f ≡ length f₀) × (length scratch ≡ length scratch₀) × Table (lines_in t) u f p (Done (lines_in t) u rank r d)
 
-abbrev decreases-loop : tie.decreases-loop
+abbrev decreases-loop : tie.decreases-loop-d
 decreases-loop t u rank f₀ scratch₀ r from end pos p₀ d₀ f scratch p d = end - d
 
-returns : tie.Need-returns invariant-loop decreases-loop
+returns : tie.Need-returns-then-from-end invariant-loop decreases-loop
 returns c =
-    let a = c.before.before.before.before.before.before.args in
-    let p = c.before.before.before.before.before.before.requires in
-    reached_done (lines_in a.t.now) a.t.now a.u.now a.rank.now p.0.0 a.r _ _ a.f.now a.f.now a.pos refl (skip_table (lines_in a.t.now) a.u.now a.rank.now a.f.now a.pos a.r 0 _ _ (nowhere _ _ _ _ _ p.1 (omega (arith, c.if1.true))) p.0.1)
+    let a = c.args in
+    let p = c.requires in
+    reached_done (lines_in a.t.now) a.t.now a.u.now a.rank.now p.0.0 a.r _ _ a.f.now a.f.now a.pos refl (skip_table (lines_in a.t.now) a.u.now a.rank.now a.f.now a.pos a.r 0 _ _ (nowhere _ _ _ _ _ p.1 (omega (arith, c.if-from-end.true))) p.0.1)
 
-next-of-rank-requires : tie.Need-next-of-rank-requires invariant-loop decreases-loop
+next-of-rank-requires : tie.Need-next_of_rank-d-requires invariant-loop decreases-loop
 next-of-rank-requires c κs =
-    let p = c.before.before.before.before.before.before.requires in
+    let p = c.requires in
     let m = p.1.most in
-    (omega (arith, c.if1.false), omega (arith, p.0.0.ranks, m), omega (arith, decls_few _ p.0.0.tabled.passed, m))
+    (omega (arith, c.if-from-end.false), omega (arith, p.0.0.ranks, m), omega (arith, decls_few _ p.0.0.tabled.passed, m))
 
-loop-holds : tie.Need-loop-init invariant-loop decreases-loop
+loop-holds : tie.Need-loop-d-init invariant-loop decreases-loop
 loop-holds c =
-    let a = c.before.before.before.before.before.before.before.args in
-    let p = c.before.before.before.before.before.before.before.requires in
-    let x = c.next-of-rank.ensures in
-    let y = before _ _ _ _ _ p.1 (omega (arith, c.before.if1.false)) in
+    let a = c.args in
+    let p = c.requires in
+    let x = c.next_of_rank-d.ensures in
+    let y = before _ _ _ _ _ p.1 (omega (arith, c.if-from-end.false)) in
     (x.high, refl, refl, skip_table (lines_in a.t.now) a.u.now a.rank.now a.f.now a.pos a.r a.from _ _ x (skip_table (lines_in a.t.now) a.u.now a.rank.now a.f.now a.pos a.r 0 _ _ y p.0.1))
 
-form-at-requires : tie.Need-form-at-requires invariant-loop decreases-loop
+form-at-requires : tie.Need-form_at-p-requires invariant-loop decreases-loop
 form-at-requires c κs =
-    let p = c.before.before.before.before.before.before.before.before.before.before.before.requires in
-    (p.0.0, omega (arith, c.before.before.loop-test.true, p.1.most), c.before.before.before.loop.invariant.3)
+    let p = c.requires in
+    (p.0.0, omega (arith, c.loop-d-test.true, p.1.most), c.loop-d.invariant.3)
 
-returns-2 : tie.Need-returns-2 invariant-loop decreases-loop
+returns-2 : tie.Need-returns-then-p-f invariant-loop decreases-loop
 returns-2 c =
-    let a = c.before.before.before.before.before.before.before.before.before.before.before.before.before.before.before.before.before.args in
-    let p = c.before.before.before.before.before.before.before.before.before.before.before.before.before.before.before.before.before.requires in
-    let s = c.before.before.before.before.before.before.before.before.before.loop in
-    let x = c.before.before.before.before.before.form-at.ensures in
-    reached_stop (lines_in a.t.now) a.t.now a.u.now a.rank.now p.0.0 a.r (s.d + 1) a.r _ _ _ a.f.now _ _ _ s.invariant.1 s.invariant.2 (omega (arith, c.if2.true, x.same, s.invariant.1)) x
+    let a = c.args in
+    let p = c.requires in
+    let s = c.loop-d in
+    let x = c.form_at-p.ensures in
+    reached_stop (lines_in a.t.now) a.t.now a.u.now a.rank.now p.0.0 a.r (s.d + 1) a.r _ _ _ a.f.now _ _ _ s.invariant.1 s.invariant.2 (omega (arith, c.if-p-f.true, x.same, s.invariant.1)) x
 
-next-of-rank-requires-2 : tie.Need-next-of-rank-requires-2 invariant-loop decreases-loop
+next-of-rank-requires-2 : tie.Need-next_of_rank-d-requires-in-loop-d invariant-loop decreases-loop
 next-of-rank-requires-2 c κs =
-    let p = c.before.before.before.before.before.before.before.before.before.before.before.before.before.before.before.before.before.requires in
+    let p = c.requires in
     let m = p.1.most in
-    (omega (arith, c.before.before.before.before.before.before.before.before.loop-test.true), omega (arith, p.0.0.ranks, m), omega (arith, decls_few _ p.0.0.tabled.passed, m))
+    (omega (arith, c.loop-d-test.true), omega (arith, p.0.0.ranks, m), omega (arith, decls_few _ p.0.0.tabled.passed, m))
 
-loop-less : tie.Need-loop-smaller invariant-loop decreases-loop
-loop-less c = omega (arith, c.before.before.before.before.before.before.before.before.before.loop-test.true, c.next-of-rank2.ensures.low)
+loop-less : tie.Need-loop-d-smaller invariant-loop decreases-loop
+loop-less c = omega (arith, c.loop-d-test.true, c.next_of_rank-d-in-loop-d.ensures.low)
 
-loop-again : tie.Need-loop-preserved invariant-loop decreases-loop
+loop-again : tie.Need-loop-d-preserved invariant-loop decreases-loop
 loop-again c =
-    let a = c.before.before.before.before.before.before.before.before.before.before.before.before.before.before.before.before.before.before.args in
-    let s = c.before.before.before.before.before.before.before.before.before.before.loop in
-    let x = c.before.before.before.before.before.before.form-at.ensures in
-    let y = c.next-of-rank2.ensures in
-    (y.high, x.same ∙ s.invariant.1, search rules, skip_table (lines_in a.t.now) a.u.now a.rank.now _ _ a.r (s.d + 1) _ _ y (x.table (omega (arith, c.before.if2.false, x.same))))
+    let a = c.args in
+    let s = c.loop-d in
+    let x = c.form_at-p.ensures in
+    let y = c.next_of_rank-d-in-loop-d.ensures in
+    (y.high, x.same ∙ s.invariant.1, search rules, skip_table (lines_in a.t.now) a.u.now a.rank.now _ _ a.r (s.d + 1) _ _ y (x.table (omega (arith, c.if-p-f.false, x.same))))
 
-returns-3 : tie.Need-returns-3 invariant-loop decreases-loop
+returns-3 : tie.Need-returns invariant-loop decreases-loop
 returns-3 c =
-    let a = c.before.before.before.before.before.before.before.before.before.args in
-    let p = c.before.before.before.before.before.before.before.before.before.requires in
-    let s = c.before.loop in
-    let e : s.d ≡ a.end = omega (arith, c.loop-test.false, s.invariant.0) in
+    let a = c.args in
+    let p = c.requires in
+    let s = c.loop-d in
+    let e : s.d ≡ a.end = omega (arith, c.loop-d-test.false, s.invariant.0) in
     let t = subst (λ (i : ℕ). Table (lines_in a.t.now) a.u.now s.f s.p (Done (lines_in a.t.now) a.u.now a.rank.now a.r i)) e s.invariant.3 in
     reached_done (lines_in a.t.now) a.t.now a.u.now a.rank.now p.0.0 a.r _ _ a.f.now s.f s.p s.invariant.1 (skip_table (lines_in a.t.now) a.u.now a.rank.now s.f s.p a.r _ _ _ (behind _ _ _ _ _ p.1) t)
 
@@ -92,7 +92,7 @@ forms_of_rank_spec =
     (λ c. search rules)
     (λ c. search rules)
     returns-2
-    (λ c. omega (arith, c.before.before.before.before.before.before.before.before.loop-test.true))
+    (λ c. omega (arith, c.loop-d-test.true))
     next-of-rank-requires-2
     loop-less
     loop-again

@@ -9,35 +9,35 @@ use borrow.Author.Rules.{rules}
 use Rattle.left_fields.proofs.count_kept.Statement.{statement}
 use Rattle.left_fields.proofs.count_kept.Tie as tie
 
-abbrev invariant-loop : tie.invariant-loop
+abbrev invariant-loop : tie.invariant-loop-j
 invariant-loop keep i n m₀ j₀ m j = (j ≤ n) × (m ≡ kept_count keep i j)
 
-abbrev decreases-loop : tie.decreases-loop
+abbrev decreases-loop : tie.decreases-loop-j
 decreases-loop keep i n m₀ j₀ m j = n - j
 
-loop-holds : tie.Need-loop-init invariant-loop decreases-loop
+loop-holds : tie.Need-loop-j-init invariant-loop decreases-loop
 unfolding kept_count
 loop-holds c = (omega arith, refl)
 
-add-m : tie.Need-overflow-add-m invariant-loop decreases-loop
+add-m : tie.Need-overflow_add-m invariant-loop decreases-loop
 add-m c =
-    let a = c.before.before.before.before.args in
-    let l = c.before.before.before.loop in
+    let a = c.args in
+    let l = c.loop-j in
     omega (arith, l.invariant.1, kept_few a.keep.now a.i l.j)
 
-loop-again : tie.Need-loop-preserved invariant-loop decreases-loop
+loop-again : tie.Need-loop-j-preserved invariant-loop decreases-loop
 loop-again c =
-    let a = c.before.before.before.before.args in
-    let l = c.before.before.before.loop in (
+    let a = c.args in
+    let l = c.loop-j in (
       omega arith,
       ⊎_elim (λ w. w.1 ∙ (ap (λ (x : ℕ). x + 1) l.invariant.1 ∙ count_yes a.keep.now a.i l.j w.0.taken))
-          (λ w. w.1 ∙ (l.invariant.1 ∙ count_no a.keep.now a.i l.j w.0.left)) c.if1.branch,
+          (λ w. w.1 ∙ (l.invariant.1 ∙ count_no a.keep.now a.i l.j w.0.left)) c.if-keep-i-eq1.branch,
     )
 
 returns : tie.Need-returns invariant-loop decreases-loop
 returns c =
-    let l = c.before.loop in
-    let a = c.before.before.args in
+    let l = c.loop-j in
+    let a = c.args in
     let e : a.n ≡ l.j = omega arith in
     rw e l.invariant.1
 

@@ -7,20 +7,20 @@ use borrow.Author.Rules.{rules}
 use Rattle.left_places.proofs.put_line.Statement.{statement}
 use Rattle.left_places.proofs.put_line.Tie as tie
 
-row-at-requires : tie.Need-row-at-requires
+row-at-requires : tie.Need-row_at-requires
 row-at-requires c κs =
-    let a = c.before.before.args in
-    line_room (row a.letter a.numbers) a.p a.out.now c.before.before.requires
+    let a = c.args in
+    line_room (row a.letter a.numbers) a.p a.out.now c.requires
 
-add-t9 : tie.Need-overflow-add-t9
+add-t9 : tie.Need-overflow_add-result
 add-t9 c =
-    let a = c.before.before.before.before.before.args in
-    omega (arith, line_room (row a.letter a.numbers) a.p a.out.now c.before.before.before.before.before.requires)
+    let a = c.args in
+    omega (arith, line_room (row a.letter a.numbers) a.p a.out.now c.requires)
 
 returns : tie.Need-returns
 returns c =
-    let a = c.before.before.before.before.before.args in
-    line_writes (row a.letter a.numbers) a.p a.out.now _ (row_length 6 a.letter a.numbers (search rules)) c.before.before.row_at.ensures
+    let a = c.args in
+    line_writes (row a.letter a.numbers) a.p a.out.now _ (row_length 6 a.letter a.numbers (search rules)) c.row_at.ensures
 
 pub put_line_spec : {M : Type 1} → statement M
 put_line_spec = tie.close (tie.spec row-at-requires add-t9 (λ c. search rules) returns)

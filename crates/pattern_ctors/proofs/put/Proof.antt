@@ -7,7 +7,7 @@ use Rattle.pattern_ctors.specs.Sites.{put_site}
 use Rattle.pattern_ctors.proofs.put.Statement.{statement}
 use Rattle.pattern_ctors.proofs.put.Tie as tie
 
-slice-write-m-2 : tie.Need-slice-write-m-2
+slice-write-m-2 : tie.Need-bounds-m-i-2
 slice-write-m-2 c = rw length-set (omega arith)
 
 returns : tie.Need-returns

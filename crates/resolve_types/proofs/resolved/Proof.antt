@@ -16,34 +16,34 @@ use Rattle.resolve_weights.proofs.weigh.Reads as weigh-reads
 weigh-requires : tie.Need-weigh-requires
 weigh-requires c κs = search rules
 
-same_length : tie.Need-same-length
+same_length : tie.Need-shape_of-out-then-weigh-gt-LIMIT
 same_length c = search rules
 
-returns : tie.Need-returns
+returns : tie.Need-returns-then-weigh-gt-LIMIT
 returns c =
-    let a = c.before.before.before.before.before.before.before.args in
-    type_ten (lines_in a.t.now) a.t.now a.u.now a.y a.d c.before.before.before.before.before.before.before.requires.0 a.out.now _ c.before.weigh.ensures (fuel_of (lines_in a.t.now)) a.slots.now c.before.before.before.before.before.before.before.requires.1 c.if1.true
+    let a = c.args in
+    type_ten (lines_in a.t.now) a.t.now a.u.now a.y a.d c.requires.0 a.out.now _ c.weigh.ensures (fuel_of (lines_in a.t.now)) a.slots.now c.requires.1 c.if-weigh-gt-LIMIT.true
 
-decls-requires : tie.Need-decls-requires
-decls-requires c κs = c.before.before.before.before.before.before.before.requires.0.setup.tabled
+decls-requires : tie.Need-decls-fuel-requires
+decls-requires c κs = c.requires.0.setup.tabled
 
 node-requires : tie.Need-node-requires
 node-requires c κs =
-    let a = c.before.before.before.before.before.before.before.before.before.before.args in
-    (c.before.before.before.before.before.before.before.before.before.before.requires.0, ((record { inside = omega arith; room = omega arith; nodes = rw (part_none 0 a.out.now) nodes_none }, omega arith, λ e. omega arith), c.before.before.before.before.before.before.before.before.before.before.requires.1))
+    let a = c.args in
+    (c.requires.0, ((record { inside = omega arith; room = omega arith; nodes = rw (part_none 0 a.out.now) nodes_none }, omega arith, λ e. omega arith), c.requires.1))
 
-same-length-2 : tie.Need-same-length-2
+same-length-2 : tie.Need-shape_of-out
 same-length-2 c = search rules
 
-same-length-3 : tie.Need-same-length-3
+same-length-3 : tie.Need-shape_of-slots
 same-length-3 c = search rules
 
-returns-2 : tie.Need-returns-2
+returns-2 : tie.Need-returns
 returns-2 c =
-    let a = c.before.before.before.before.before.before.before.before.before.before.before.before.before.before.before.args in
+    let a = c.args in
     let ls = lines_in a.t.now in
-    rw (← c.before.before.before.before.before.before.before.decls.ensures)
-    (type_node ls a.t.now a.u.now a.y a.d c.before.before.before.before.before.before.before.before.before.before.before.before.before.before.before.requires.0 a.out.now _ c.before.before.before.before.before.before.before.before.before.weigh.ensures _ _ _ _ c.before.before.before.before.before.before.before.before.if1.false c.before.before.before.before.node.ensures)
+    rw (← c.decls-fuel.ensures)
+    (type_node ls a.t.now a.u.now a.y a.d c.requires.0 a.out.now _ c.weigh.ensures _ _ _ _ c.if-weigh-gt-LIMIT.false c.node.ensures)
 
 pub resolved_spec : {M : Type 1} → statement M
 resolved_spec =

@@ -14,39 +14,39 @@ use Rattle.rows_refusals.specs.PassedLaws.{checks_refused, checks_lines}
 use Rattle.rows_refusals.proofs.check_rows.Statement.{statement}
 use Rattle.rows_refusals.proofs.check_rows.Tie as tie
 
-returns : tie.Need-returns
+returns : tie.Need-returns-then-bad-n
 returns c =
-    let d = c.before.before.before.before in
-    let p = d.before.before.before.before in
-    let e = d.decode-lines.ensures.place in
-    checks_refused p.args.s.now d.decode-lines.new.1.1.0 c.refused.result 2 d.decode-lines.result c.refused.ensures
+    let d = c in
+    let p = d in
+    let e = d.decode_lines-bad.ensures.place in
+    checks_refused p.args.s.now d.decode_lines-bad.new.t c.refused.result 2 d.decode_lines-bad.result c.refused.ensures
     (at2 p.args.s.now p.requires.0 (omega (arith, e)) ∙ ap (refused_as 2) (sym e))
 
 -- ---- where row 2 does not apply
-abbrev start : tie.Else1 → tie.Start
+abbrev start : tie.Else-bad-n → tie.Start
 start c = c.before.before.before.before.before.before.before
 
-no_bad : (c : tie.Else1) → row2 6 (start c).args.s.now ≡ count 6 (start c).args.s.now
+no_bad : (c : tie.Else-bad-n) → row2 6 (start c).args.s.now ≡ count 6 (start c).args.s.now
 no_bad c =
-    let d = c.before.before.before in
-    no_bad_at (start c).args.s.now d.decode-lines.result d.decode-lines.ensures.place c.if1.false
+    let d = c in
+    no_bad_at (start c).args.s.now d.decode_lines-bad.result d.decode_lines-bad.ensures.place c.if-bad-n.false
 
 -- the cells are those of the lines
-held : (c : tie.Else1) → (let s = (start c).args.s.now in let t = c.before.before.before.decode-lines.new.1.1.0 in (length t ≡ 6 * count 6 s) × (lines_of t ≡ map bare (lines 6 s)))
+held : (c : tie.Else-bad-n) → (let s = (start c).args.s.now in let t = c.decode_lines-bad.new.t in (length t ≡ 6 * count 6 s) × (lines_of t ≡ map bare (lines 6 s)))
 held c =
-    let d = c.before.before.before in
+    let d = c in
     let p = start c in
-    let r = d.decode-lines.ensures in
-    decoded_lines 6 p.args.s.now p.args.t.now d.decode-lines.new.1.1.0 p.pre.1 (r.holds (r.place ∙ no_bad c))
+    let r = d.decode_lines-bad.ensures in
+    decoded_lines 6 p.args.s.now p.args.t.now d.decode_lines-bad.new.t p.requires.1 (r.holds (r.place ∙ no_bad c))
 
-lines-checked-requires : tie.Need-lines-checked-requires
-lines-checked-requires c κs = ((start c.before).requires.0, no_bad c.before, (held c.before).1)
+lines-checked-requires : tie.Need-lines_checked-requires
+lines-checked-requires c κs = ((start c).requires.0, no_bad c, (held c).1)
 
-returns-2 : tie.Need-returns-2
+returns-2 : tie.Need-returns
 returns-2 c =
-    let b = c.before.before in
-    let h = held b in
-    checks_lines (start b).args.s.now b.before.before.before.decode-lines.new.1.1.0 c.lines-checked.result c.lines-checked.ensures (no_bad b) h.0 h.1
+    let b = c in
+    let h = held b.before in
+    checks_lines (start b.before).args.s.now b.decode_lines-bad.new.t c.lines_checked.result c.lines_checked.ensures (no_bad b.before) h.0 h.1
 
 pub check_rows_spec : {M : Type 1} → statement M
 check_rows_spec =

@@ -8,43 +8,43 @@ use Rattle.state_names.proofs.cells.Tie as tie
 
 payload-requires : tie.Need-payload-requires
 payload-requires c κs =
-    let a = c.before.before.before.before in
-    (a.requires.0, a.requires.1.1.field _ _ c.before.l.given.1)
+    let a = c in
+    (a.requires.0, a.requires.1.1.field _ _ c.in-Newtype.is)
 
-cast-t8 : tie.Need-overflow-cast-t8
+cast-t8 : tie.Need-overflow_cast-result
 cast-t8 c =
-    let a = c.before.before.before.before.before in
+    let a = c in
     omega (arith, payload_fits (lines_in a.args.t.now) a.requires.0.passed _ _ c.payload.ensures)
 
-cast-t11 : tie.Need-overflow-cast-t11
+cast-t11 : tie.Need-overflow_cast-result-in-Abbreviation
 cast-t11 c =
-    let a = c.before.before.before.before.before in
-    omega (arith, c.decl-number.ensures, last_fits (lines_in a.args.t.now) a.requires.0.passed a.args.d a.requires.1.0 a.args.l a.requires.1.1 c.before.before.enum-told3.given.1)
+    let a = c in
+    omega (arith, c.decl_number.ensures, last_fits (lines_in a.args.t.now) a.requires.0.passed a.args.d a.requires.1.0 a.args.l a.requires.1.1 c.in-Abbreviation.is)
 
-returns : tie.Need-returns
+returns : tie.Need-returns-in-Erased
 returns c =
-    let a = c.before.before.before.args in
-    told_erased (lines_in a.t.now) a.d a.l 0 c.enum_told.given.1
+    let a = c.args in
+    told_erased (lines_in a.t.now) a.d a.l 0 c.in-Erased.is
 
-returns-2 : tie.Need-returns-2
+returns-2 : tie.Need-returns-in-Newtype
 returns-2 c =
-    let a = c.before.before.before.before.before.args in
-    told_newtype (lines_in a.t.now) a.d a.l _ _ _ c.before.before.l.given.1 c.payload.ensures
+    let a = c.args in
+    told_newtype (lines_in a.t.now) a.d a.l _ _ _ c.in-Newtype.is c.payload.ensures
 
-returns-3 : tie.Need-returns-3
+returns-3 : tie.Need-returns-in-Struct
 returns-3 c =
-    let a = c.before.before.before.args in
-    told_struct (lines_in a.t.now) a.d a.l 0 c.enum-told2.given.1
+    let a = c.args in
+    told_struct (lines_in a.t.now) a.d a.l 0 c.in-Struct.is
 
-returns-4 : tie.Need-returns-4
+returns-4 : tie.Need-returns-in-Abbreviation
 returns-4 c =
-    let a = c.before.before.before.before.before.args in
-    told_abbreviation (lines_in a.t.now) a.d a.l _ _ c.before.before.enum-told3.given.1 c.before.abbreviation.ensures c.decl-number.ensures
+    let a = c.args in
+    told_abbreviation (lines_in a.t.now) a.d a.l _ _ c.in-Abbreviation.is c.abbreviation.ensures c.decl_number.ensures
 
-returns-5 : tie.Need-returns-5
+returns-5 : tie.Need-returns-in-Opaque
 returns-5 c =
-    let a = c.before.before.before.args in
-    told_opaque (lines_in a.t.now) a.d a.l 0 c.enum-told4.given.1
+    let a = c.args in
+    told_opaque (lines_in a.t.now) a.d a.l 0 c.in-Opaque.is
 
 pub cells_spec : {M : Type 1} → statement M
 cells_spec =

@@ -12,48 +12,48 @@ use Rattle.state_names.specs.CellsLaws.{filled_none, filled_more, known, settled
 use Rattle.state_names.proofs.states.Statement.{statement}
 use Rattle.state_names.proofs.states.Tie as tie
 
-abbrev invariant-loop : tie.invariant-loop
+abbrev invariant-loop : tie.invariant-loop-d
 invariant-loop t u₀ vs n d₀ u d = (d ≤ n) × (length u ≡ length u₀) × Filled (lines_in t) vs d u
 
-abbrev decreases-loop : tie.decreases-loop
+abbrev decreases-loop : tie.decreases-loop-d
 decreases-loop t u₀ vs n d₀ u d = n - d
 
-loop-holds : tie.Need-loop-init invariant-loop decreases-loop
+loop-holds : tie.Need-loop-d-init invariant-loop decreases-loop
 loop-holds c =
-    let a = c.before.before.before in
-    (omega arith, refl, filled_none (lines_in a.args.t.now) a.args.t2 a.args.u.now a.requires.1.1)
+    let a = c in
+    (omega arith, refl, filled_none (lines_in a.args.t.now) a.args.vs a.args.u.now a.requires.1.1)
 
-mul-v : tie.Need-overflow-mul-v invariant-loop decreases-loop
+mul-v : tie.Need-offset_bounds-vs-d invariant-loop decreases-loop
 mul-v c =
-    let a = c.before.before.before.before.before in
-    omega (arith, c.loop-test.true, c.before.before.decls.ensures, decls_within base (lines_in a.args.t.now) a.requires.0.bounded)
+    let a = c in
+    omega (arith, c.loop-d-test.true, c.decls-n.ensures, decls_within base (lines_in a.args.t.now) a.requires.0.bounded)
 
-array-copy-out-v : tie.Need-array-copy-out-v invariant-loop decreases-loop
+array-copy-out-v : tie.Need-bounds-vs-d invariant-loop decreases-loop
 array-copy-out-v c =
-    let a = c.before.before.before.before.before in
-    omega (arith, c.loop-test.true, c.before.before.decls.ensures, decls_within base (lines_in a.args.t.now) a.requires.0.bounded)
+    let a = c in
+    omega (arith, c.loop-d-test.true, c.decls-n.ensures, decls_within base (lines_in a.args.t.now) a.requires.0.bounded)
 
-put-state-requires : tie.Need-put-state-requires invariant-loop decreases-loop
+put-state-requires : tie.Need-put_state-requires invariant-loop decreases-loop
 put-state-requires c κs =
-    let a = c.before.before.before.before.before.before.before in
-    let d = c.before.before.before.loop.d in
-    let u = c.before.before.before.loop.u in
-    let h : d < decls_of (lines_in a.args.t.now) = omega (arith, c.before.before.loop-test.true, c.before.before.before.before.decls.ensures) in
-    let l : 2 * d + 1 < length u = omega (arith, c.before.before.before.loop.invariant.2.long) in
-    (a.requires.0.tabled, ((h, l), known (lines_in a.args.t.now) a.requires.0.tabled.passed a.args.t2 a.requires.1.0 d h _))
+    let a = c in
+    let d = c.loop-d.d in
+    let u = c.loop-d.u in
+    let h : d < decls_of (lines_in a.args.t.now) = omega (arith, c.loop-d-test.true, c.decls-n.ensures) in
+    let l : 2 * d + 1 < length u = omega (arith, c.loop-d.invariant.2.long) in
+    (a.requires.0.tabled, ((h, l), known (lines_in a.args.t.now) a.requires.0.tabled.passed a.args.vs a.requires.1.0 d h _))
 
-loop-again : tie.Need-loop-preserved invariant-loop decreases-loop
+loop-again : tie.Need-loop-d-preserved invariant-loop decreases-loop
 loop-again c =
-    let l = c.before.before.before.before.before.before in
-    let a = l.before.before.before.before in
-    let h : l.loop.d < decls_of (lines_in a.args.t.now) = omega (arith, c.before.before.before.before.before.loop-test.true, l.before.decls.ensures) in
-    let f = filled_more (lines_in a.args.t.now) a.requires.0.tabled.passed a.args.t2 a.requires.1.0 l.loop.d h _ l.loop.u _ l.loop.invariant.2 c.before.before.put-state.ensures in
-    (omega (arith, c.before.before.before.before.before.loop-test.true), f.long ∙ sym a.requires.1.1, f)
+    let l = c in
+    let a = l in
+    let h : l.loop-d.d < decls_of (lines_in a.args.t.now) = omega (arith, c.loop-d-test.true, l.decls-n.ensures) in
+    let f = filled_more (lines_in a.args.t.now) a.requires.0.tabled.passed a.args.vs a.requires.1.0 l.loop-d.d h _ l.loop-d.u _ l.loop-d.invariant.2 c.put_state.ensures in
+    (omega (arith, c.loop-d-test.true), f.long ∙ sym a.requires.1.1, f)
 
 returns : tie.Need-returns invariant-loop decreases-loop
 returns c =
-    let a = c.before.before.before.before.before in
-    settled_at (lines_in a.args.t.now) a.requires.0.tabled.passed a.args.t2 a.requires.1.0 c.before.loop.d (omega (arith, c.loop-test.false, c.before.loop.invariant.0, c.before.before.decls.ensures)) c.before.loop.u c.before.loop.invariant.2
+    let a = c in
+    settled_at (lines_in a.args.t.now) a.requires.0.tabled.passed a.args.vs a.requires.1.0 c.loop-d.d (omega (arith, c.loop-d-test.false, c.loop-d.invariant.0, c.decls-n.ensures)) c.loop-d.u c.loop-d.invariant.2
 
 pub states_spec : {M : Type 1} → statement M
 states_spec =

@@ -7,18 +7,18 @@ use Rattle.table_index.specs.IndexLaws.{begin_put}
 use Rattle.table_index.proofs.put_begin.Statement.{statement}
 use Rattle.table_index.proofs.put_begin.Tie as tie
 
-slice-write-t-2 : tie.Need-slice-write-t-2
-slice-write-t-2 c = let a = c.before.before.before in simp length-set (omega (arith, a.requires.2))
+slice-write-t-2 : tie.Need-bounds-t-at-2
+slice-write-t-2 c = let a = c in simp length-set (omega (arith, a.requires.2))
 
-slice-write-t-3 : tie.Need-slice-write-t-3
-slice-write-t-3 c = let a = c.before.before.before.before in simp length-set (omega (arith, a.requires.2))
+slice-write-t-3 : tie.Need-bounds-t-at-3
+slice-write-t-3 c = let a = c in simp length-set (omega (arith, a.requires.2))
 
-slice-write-t-4 : tie.Need-slice-write-t-4
-slice-write-t-4 c = let a = c.before.before.before.before.before in simp length-set (omega (arith, a.requires.2))
+slice-write-t-4 : tie.Need-bounds-t-at-4
+slice-write-t-4 c = let a = c in simp length-set (omega (arith, a.requires.2))
 
 returns : tie.Need-returns
 returns c =
-    let a = c.before.before.before.before.before in
+    let a = c in
     begin_put a.args.t.now (get_or a.args.t.now 6 0 + a.args.c.decls * 4) a.args.i a.args.c a.requires.2
 
 pub put_begin_spec : {M : Type 1} → statement M

@@ -7,35 +7,35 @@ use borrow.Author.Rules.{rules}
 use Rattle.table_index.proofs.put_later.Statement.{statement}
 use Rattle.table_index.proofs.put_later.Tie as tie
 
-slice-read-letter : tie.Need-slice-read-letter
-slice-read-letter c = let a = c.before.before in (letter_read (lines_in a.args.t.now) a.args.t.now a.args.i a.args.c a.requires.0 a.requires.1.0).0
+slice-read-letter : tie.Need-bounds-t-i
+slice-read-letter c = let a = c in (letter_read (lines_in a.args.t.now) a.args.t.now a.args.i a.args.c a.requires.0 a.requires.1.0).0
 
-put-decl-requires : tie.Need-put-decl-requires
-put-decl-requires c κs = let a = c.before.before.before.before in (a.requires.0, (a.requires.1.0, head_read (lines_in a.args.t.now) a.args.t.now a.args.i a.args.c a.requires.0 a.requires.1.0 (inr c.before.match.keys1)))
+put-decl-requires : tie.Need-put_decl-requires
+put-decl-requires c κs = let a = c in (a.requires.0, (a.requires.1.0, head_read (lines_in a.args.t.now) a.args.t.now a.args.i a.args.c a.requires.0 a.requires.1.0 (inr c.in-73.is)))
 
-put-place-requires : tie.Need-put-place-requires
+put-place-requires : tie.Need-put_place-requires
 put-place-requires c κs =
-    let a = c.before.before.before.before in
-    (param_room (lines_in a.args.t.now) a.args.t.now a.args.i a.args.c a.requires.0 a.requires.1.0 (is_letter (lines_in a.args.t.now) a.args.t.now a.args.i a.args.c a.requires.0 a.requires.1.0 80 c.before.match.keys2), (line_fits (lines_in a.args.t.now) a.args.t.now a.args.i a.args.c a.requires.0 a.requires.1.0).line)
+    let a = c in
+    (param_room (lines_in a.args.t.now) a.args.t.now a.args.i a.args.c a.requires.0 a.requires.1.0 (is_letter (lines_in a.args.t.now) a.args.t.now a.args.i a.args.c a.requires.0 a.requires.1.0 80 c.in-80.is), (line_fits (lines_in a.args.t.now) a.args.t.now a.args.i a.args.c a.requires.0 a.requires.1.0).line)
 
-add-t16 : tie.Need-overflow-add-t16
-add-t16 c = let a = c.before.before.before.before.before.before.before.before in omega (arith, (line_fits (lines_in a.args.t.now) a.args.t.now a.args.i a.args.c a.requires.0 a.requires.1.0).params)
+add-t16 : tie.Need-overflow_add-result
+add-t16 c = let a = c in omega (arith, (line_fits (lines_in a.args.t.now) a.args.t.now a.args.i a.args.c a.requires.0 a.requires.1.0).params)
 
-returns-2 : tie.Need-returns-2
+returns-2 : tie.Need-returns-in-80
 returns-2 c =
-    let a = c.before.before.before.before.before.before.before.before in
-    let q = c.before.before.before.put-place in
-    param_next (lines_in a.args.t.now) a.args.t.now a.args.i a.args.c a.requires.0 a.requires.1.0 (is_letter (lines_in a.args.t.now) a.args.t.now a.args.i a.args.c a.requires.0 a.requires.1.0 80 c.before.before.before.before.before.match.keys2) q.new.1.1.1.0 q.ensures
+    let a = c in
+    let q = c.put_place in
+    param_next (lines_in a.args.t.now) a.args.t.now a.args.i a.args.c a.requires.0 a.requires.1.0 (is_letter (lines_in a.args.t.now) a.args.t.now a.args.i a.args.c a.requires.0 a.requires.1.0 80 c.in-80.is) c.put_place.new.t c.put_place.ensures
 
-returns-3 : tie.Need-returns-3
+returns-3 : tie.Need-returns-in_default
 returns-3 c =
-    let a = c.before.before.before in
-    let r = c.match.rest in
+    let a = c in
+    let r = c.in_default.in_default-own.rest in
     let l = (letter_read (lines_in a.args.t.now) a.args.t.now a.args.i a.args.c a.requires.0 a.requires.1.0).1 in
     other_next (lines_in a.args.t.now) a.args.t.now a.args.i a.args.c a.requires.0 a.requires.1.0
     (no_letter (lines_in a.args.t.now) a.args.t.now a.args.i a.args.c a.requires.0 a.requires.1.0 68 (λ e. omega (arith, a.requires.1.1)))
-    (no_letter (lines_in a.args.t.now) a.args.t.now a.args.i a.args.c a.requires.0 a.requires.1.0 73 r.0.1)
-    (no_letter (lines_in a.args.t.now) a.args.t.now a.args.i a.args.c a.requires.0 a.requires.1.0 80 r.1)
+    (no_letter (lines_in a.args.t.now) a.args.t.now a.args.i a.args.c a.requires.0 a.requires.1.0 73 c.in_default.in_default-own.rest.0.1)
+    (no_letter (lines_in a.args.t.now) a.args.t.now a.args.i a.args.c a.requires.0 a.requires.1.0 80 c.in_default.in_default-own.rest.1)
     (no_letter (lines_in a.args.t.now) a.args.t.now a.args.i a.args.c a.requires.0 a.requires.1.0 67 (λ e. omega (arith, a.requires.1.1)))
     (no_letter (lines_in a.args.t.now) a.args.t.now a.args.i a.args.c a.requires.0 a.requires.1.0 70 (λ e. omega (arith, a.requires.1.1)))
 

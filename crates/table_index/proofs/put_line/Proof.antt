@@ -7,17 +7,17 @@ use borrow.Author.Rules.{rules}
 use Rattle.table_index.proofs.put_line.Statement.{statement}
 use Rattle.table_index.proofs.put_line.Tie as tie
 
-slice-read-letter : tie.Need-slice-read-letter
-slice-read-letter c = let a = c.before.before in (letter_read (lines_in a.args.t.now) a.args.t.now a.args.i a.args.c a.requires.0 a.requires.1.0).0
+slice-read-letter : tie.Need-bounds-t-i
+slice-read-letter c = let a = c in (letter_read (lines_in a.args.t.now) a.args.t.now a.args.i a.args.c a.requires.0 a.requires.1.0).0
 
-put-later-requires : tie.Need-put-later-requires
-put-later-requires c κs = let a = c.before.before.before.before in (a.requires.0, (a.requires.1.0, omega (arith, c.before.if1.true, (letter_read (lines_in a.args.t.now) a.args.t.now a.args.i a.args.c a.requires.0 a.requires.1.0).1)))
+put-later-requires : tie.Need-put_later-requires
+put-later-requires c κs = let a = c in (a.requires.0, (a.requires.1.0, omega (arith, c.if-letter-gt70.true, (letter_read (lines_in a.args.t.now) a.args.t.now a.args.i a.args.c a.requires.0 a.requires.1.0).1)))
 
-put-decl-requires : tie.Need-put-decl-requires
-put-decl-requires c κs = let a = c.before.before.before.before.before in (a.requires.0, (a.requires.1.0, head_read (lines_in a.args.t.now) a.args.t.now a.args.i a.args.c a.requires.0 a.requires.1.0 (inl c.before.if2.true)))
+put-decl-requires : tie.Need-put_decl-requires
+put-decl-requires c κs = let a = c in (a.requires.0, (a.requires.1.0, head_read (lines_in a.args.t.now) a.args.t.now a.args.i a.args.c a.requires.0 a.requires.1.0 (inl c.if-letter-eq68.true)))
 
-put-member-requires : tie.Need-put-member-requires
-put-member-requires c κs = let a = c.before.before.before.before.before in (a.requires.0, (a.requires.1.0, member_read (lines_in a.args.t.now) a.args.t.now a.args.i a.args.c a.requires.0 a.requires.1.0 a.requires.1.1 c.before.before.if1.false c.before.if2.false))
+put-member-requires : tie.Need-put_member-requires
+put-member-requires c κs = let a = c in (a.requires.0, (a.requires.1.0, member_read (lines_in a.args.t.now) a.args.t.now a.args.i a.args.c a.requires.0 a.requires.1.0 a.requires.1.1 c.if-letter-gt70.false c.if-letter-eq68.false))
 
 pub put_line_spec : {M : Type 1} → statement M
 put_line_spec =

@@ -13,23 +13,23 @@ bits : (b : Bool) → (pick b 0 1 ≤ 1) × (pick b 1 0 ≤ 1)
 bits true = (omega arith, omega arith)
 bits false = (omega arith, omega arith)
 
-add-ctors : tie.Need-overflow-add-ctors
-add-ctors c = let a = c.before.before.before.before.before in omega (arith, (line_fits (lines_in a.args.t.now) a.args.t.now a.args.i a.args.c a.requires.0 a.requires.1.0).ctors, c.before.picked3.ensures, (bits a.args.field).0)
+add-ctors : tie.Need-overflow_add-ctors
+add-ctors c = let a = c in omega (arith, (line_fits (lines_in a.args.t.now) a.args.t.now a.args.i a.args.c a.requires.0 a.requires.1.0).ctors, c.picked.ensures, (bits a.args.field).0)
 
-add-fields : tie.Need-overflow-add-fields
-add-fields c = let a = c.before.before.before.before.before.before.before in omega (arith, (line_fits (lines_in a.args.t.now) a.args.t.now a.args.i a.args.c a.requires.0 a.requires.1.0).fields, c.before.picked4.ensures, (bits a.args.field).1)
+add-fields : tie.Need-overflow_add-fields
+add-fields c = let a = c in omega (arith, (line_fits (lines_in a.args.t.now) a.args.t.now a.args.i a.args.c a.requires.0 a.requires.1.0).fields, c.picked-2.ensures, (bits a.args.field).1)
 
-put-place-requires : tie.Need-put-place-requires
+put-place-requires : tie.Need-put_place-requires
 put-place-requires c κs =
-    let a = c.before.before.before.before.before.before.before.before in
-    (rw (c.before.before.before.before.before.before.picked.ensures, c.before.before.before.before.before.picked2.ensures) (member_room (lines_in a.args.t.now) a.args.t.now a.args.i a.args.c a.requires.0 a.requires.1.0 a.args.field a.requires.1.1), (line_fits (lines_in a.args.t.now) a.args.t.now a.args.i a.args.c a.requires.0 a.requires.1.0).line)
+    let a = c in
+    (rw (c.picked-section.ensures, c.picked-place.ensures) (member_room (lines_in a.args.t.now) a.args.t.now a.args.i a.args.c a.requires.0 a.requires.1.0 a.args.field a.requires.1.1), (line_fits (lines_in a.args.t.now) a.args.t.now a.args.i a.args.c a.requires.0 a.requires.1.0).line)
 
 returns : tie.Need-returns
 returns c =
-    let a = c.before.before.before.before.before.before.before.before.before.before.before in
-    let q = c.before.before.put-place in
-    rw (c.before.before.before.before.before.before.before.picked3.ensures, c.before.before.before.before.before.picked4.ensures)
-    (member_next (lines_in a.args.t.now) a.args.t.now a.args.i a.args.c a.requires.0 a.requires.1.0 a.args.field a.requires.1.1 q.new.1.1.1.0 (rw (c.before.before.before.before.before.before.before.before.before.picked.ensures, c.before.before.before.before.before.before.before.before.picked2.ensures) at q.ensures))
+    let a = c in
+    let q = c.put_place in
+    rw (c.picked.ensures, c.picked-2.ensures)
+    (member_next (lines_in a.args.t.now) a.args.t.now a.args.i a.args.c a.requires.0 a.requires.1.0 a.args.field a.requires.1.1 q.new.t (rw (c.picked-section.ensures, c.picked-place.ensures) at q.ensures))
 
 pub put_member_spec : {M : Type 1} → statement M
 put_member_spec =

@@ -6,25 +6,25 @@ use Rattle.collapse_candidates.proofs.payloads.payload.Statement.{statement}
 use Rattle.table_access.specs.Tables.{lines_in}
 use Rattle.collapse_candidates.proofs.payloads.payload.Tie as tie
 
-type-number-requires : tie.Need-type-number-requires
+type-number-requires : tie.Need-type_number-kind-requires
 type-number-requires c κs =
-    let a = c.before.before in
-    (a.requires.0, (inside (lines_in a.args.t.now) a.requires.0.passed a.args.f a.requires.1 _ c.field-number.ensures, search rules))
+    let a = c in
+    (a.requires.0, (inside (lines_in a.args.t.now) a.requires.0.passed a.args.f a.requires.1 _ c.field_number-y.ensures, search rules))
 
-type-number-requires-2 : tie.Need-type-number-requires-2
+type-number-requires-2 : tie.Need-type_number-requires
 type-number-requires-2 c κs =
-    let a = c.before.before.before.before in
-    (a.requires.0, (inside (lines_in a.args.t.now) a.requires.0.passed a.args.f a.requires.1 _ c.before.before.field-number.ensures, search rules))
+    let a = c in
+    (a.requires.0, (inside (lines_in a.args.t.now) a.requires.0.passed a.args.f a.requires.1 _ c.field_number-y.ensures, search rules))
 
-returns : tie.Need-returns
+returns : tie.Need-returns-then-kind-eq12
 returns c =
-    let a = c.before.before.before.before.before in
-    payload_inline (lines_in a.args.t.now) a.requires.0.passed a.args.f a.requires.1 _ c.before.before.before.field-number.ensures _ (sym c.before.before.type_number.ensures ∙ c.before.if1.true) c.type-number2.ensures
+    let a = c in
+    payload_inline (lines_in a.args.t.now) a.requires.0.passed a.args.f a.requires.1 _ c.field_number-y.ensures _ (sym c.type_number-kind.ensures ∙ c.if-kind-eq12.true) c.type_number.ensures
 
-returns-2 : tie.Need-returns-2
+returns-2 : tie.Need-returns
 returns-2 c =
-    let a = c.before.before.before.before in
-    payload_plain (lines_in a.args.t.now) a.requires.0.passed a.args.f a.requires.1 _ c.before.before.field-number.ensures (λ e. c.if1.false (c.before.type_number.ensures ∙ e))
+    let a = c in
+    payload_plain (lines_in a.args.t.now) a.requires.0.passed a.args.f a.requires.1 _ c.field_number-y.ensures (λ e. c.if-kind-eq12.false (c.type_number-kind.ensures ∙ e))
 
 pub payload_spec : {M : Type 1} → statement M
 payload_spec =

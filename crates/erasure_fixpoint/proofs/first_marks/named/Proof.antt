@@ -8,22 +8,22 @@ use Rattle.erasure_fixpoint.proofs.first_marks.named.Statement.{statement}
 use Rattle.table_access.specs.Tables.{lines_in}
 use Rattle.erasure_fixpoint.proofs.first_marks.named.Tie as tie
 
-decl-of-requires : tie.Need-decl-of-requires
+decl-of-requires : tie.Need-decl_of-requires
 decl-of-requires c κs =
-    let a = c.before.before.before.before in
-    (a.requires.0, rw c.type-number2.ensures (name_of_app (lines_in a.args.t.now) a.requires.0.passed a.args.y a.requires.1 (sym c.before.before.type_number.ensures ∙ c.before.if1.true)))
+    let a = c in
+    (a.requires.0, rw c.type_number-then-type_number-eq8.ensures (name_of_app (lines_in a.args.t.now) a.requires.0.passed a.args.y a.requires.1 (sym c.type_number.ensures ∙ c.if-type_number-eq8.true)))
 
-returns : tie.Need-returns
+returns : tie.Need-returns-then-type_number-eq8
 returns c =
-    let a = c.before.before.before.before.before in
-    let e : part (lines_in a.args.t.now) a.args.y 0 ≡ 8 = sym c.before.before.before.type_number.ensures ∙ c.before.before.if1.true in
-    c.decl_of.ensures ∙ rw (e, c.before.type-number2.ensures)
+    let a = c in
+    let e : part (lines_in a.args.t.now) a.args.y 0 ≡ 8 = sym c.type_number.ensures ∙ c.if-type_number-eq8.true in
+    c.decl_of.ensures ∙ rw (e, c.type_number-then-type_number-eq8.ensures)
 
-returns-2 : tie.Need-returns-2
+returns-2 : tie.Need-returns
 returns-2 c =
-    let a = c.before.before.before.before in
-    let n = c.before.if1.false in
-    c.decls.ensures ∙ rw (ne_eqb (part (lines_in a.args.t.now) a.args.y 0) 8 (λ q. n (c.before.before.type_number.ensures ∙ q)))
+    let a = c in
+    let n = c.if-type_number-eq8.false in
+    c.decls.ensures ∙ rw (ne_eqb (part (lines_in a.args.t.now) a.args.y 0) 8 (λ q. n (c.type_number.ensures ∙ q)))
 
 pub named_spec : {M : Type 1} → statement M
 named_spec =

@@ -12,33 +12,33 @@ use Rattle.erasure_laws.specs.FixpointLaws.{start_next, start_marks}
 use Rattle.erasure_fixpoint.proofs.first_marks.start.Statement.{statement}
 use Rattle.erasure_fixpoint.proofs.first_marks.start.Tie as tie
 
-abbrev invariant-loop : tie.invariant-loop
+abbrev invariant-loop : tie.invariant-loop-d
 invariant-loop t decl₀ n d₀ decl d =
     (d ≤ n) × (n ≡ decls_of (lines_in t)) × (length decl ≡ n) × (length decl₀ ≡ n) × ((i : ℕ) → i < d → get_or decl i 0 ≡ bit (start_of (origin_at (program (lines_in t)) i)))
 
-abbrev decreases-loop : tie.decreases-loop
+abbrev decreases-loop : tie.decreases-loop-d
 decreases-loop t decl₀ n d₀ decl d = n - d
 
-loop-holds : tie.Need-loop-init invariant-loop decreases-loop
-loop-holds c = (omega arith, c.before.before.requires.1, refl, refl, λ i h. absurd (omega arith))
+loop-holds : tie.Need-loop-d-init invariant-loop decreases-loop
+loop-holds c = (omega arith, c.requires.1, refl, refl, λ i h. absurd (omega arith))
 
-starts-erased-requires : tie.Need-starts-erased-requires invariant-loop decreases-loop
-starts-erased-requires c κs = (c.before.before.before.before.requires.0, omega (arith, c.before.loop.invariant.1, c.loop-test.true))
+starts-erased-requires : tie.Need-starts_erased-requires invariant-loop decreases-loop
+starts-erased-requires c κs = (c.requires.0, omega (arith, c.loop-d.invariant.1, c.loop-d-test.true))
 
-loop-again : tie.Need-loop-preserved invariant-loop decreases-loop
+loop-again : tie.Need-loop-d-preserved invariant-loop decreases-loop
 loop-again c =
-    let a = c.before.before.before.before.before.before in
-    let l = c.before.before.before.loop in
-    (omega arith, l.invariant.1, length-set l.decl l.d c.bit.result ∙ l.invariant.2, l.invariant.3, start_next (lines_in a.args.t.now) l.decl l.d c.bit.result (omega (arith, l.invariant.2, c.before.before.loop-test.true)) l.invariant.4 (c.bit.ensures ∙ ap bit c.before.starts-erased.ensures))
+    let a = c in
+    let l = c.loop-d in
+    (omega arith, l.invariant.1, length-set l.decl l.d c.bit.result ∙ l.invariant.2, l.invariant.3, start_next (lines_in a.args.t.now) l.decl l.d c.bit.result (omega (arith, l.invariant.2, c.loop-d-test.true)) l.invariant.4 (c.bit.ensures ∙ ap bit c.starts_erased.ensures))
 
-same_length : tie.Need-same-length invariant-loop decreases-loop
-same_length c = let i = c.before.loop.invariant in i.2 ∙ sym i.3
+same_length : tie.Need-shape_of-decl invariant-loop decreases-loop
+same_length c = let i = c.loop-d.invariant in i.2 ∙ sym i.3
 
 returns : tie.Need-returns invariant-loop decreases-loop
 returns c =
-    let a = c.before.before.before.before in
-    let l = c.before.loop in
-    start_marks (lines_in a.args.t.now) l.decl (l.invariant.2 ∙ l.invariant.1) (λ i h. l.invariant.4 i (omega (arith, l.invariant.1, c.loop-test.false)))
+    let a = c in
+    let l = c.loop-d in
+    start_marks (lines_in a.args.t.now) l.decl (l.invariant.2 ∙ l.invariant.1) (λ i h. l.invariant.4 i (omega (arith, l.invariant.1, c.loop-d-test.false)))
 
 pub start_spec : {M : Type 1} → statement M
 start_spec =

@@ -8,15 +8,15 @@ use Rattle.erasure_fixpoint.proofs.first_marks.starts_erased.Statement.{statemen
 use Rattle.table_access.specs.Tables.{lines_in}
 use Rattle.erasure_fixpoint.proofs.first_marks.starts_erased.Tie as tie
 
-returns : tie.Need-returns
+returns : tie.Need-returns-then-is_import
 returns c =
-    let a = c.before.before.before.before in
-    ap (λ (x : ℕ). eqb x 1) c.verdict-number.ensures ∙ sym (starts_import (lines_in a.args.t.now) a.requires.0.passed a.args.d a.requires.1 (sym c.before.before.is-import.ensures ∙ c.before.if1.true))
+    let a = c in
+    ap (λ (x : ℕ). eqb x 1) c.verdict_number.ensures ∙ sym (starts_import (lines_in a.args.t.now) a.requires.0.passed a.args.d a.requires.1 (sym c.is_import.ensures ∙ c.if-is_import.true))
 
-returns-2 : tie.Need-returns-2
+returns-2 : tie.Need-returns
 returns-2 c =
-    let a = c.before.before.before in
-    sym (starts_local (lines_in a.args.t.now) a.args.d a.requires.1 (sym c.before.is-import.ensures ∙ c.if1.false))
+    let a = c in
+    sym (starts_local (lines_in a.args.t.now) a.args.d a.requires.1 (sym c.is_import.ensures ∙ c.if-is_import.false))
 
 pub starts_erased_spec : {M : Type 1} → statement M
 starts_erased_spec =

@@ -17,7 +17,7 @@ use Rattle.erasure_laws.specs.RoundsLaws.{sweep_next, sweep_end, sweep_begin}
 use Rattle.erasure_settling.proofs.sweeps.sweep.Statement.{statement}
 use Rattle.erasure_settling.proofs.sweeps.sweep.Tie as tie
 
-abbrev invariant-loop : tie.invariant-loop
+abbrev invariant-loop : tie.invariant-loop-d
 invariant-loop t used decl₀ node₀ member₀ field₀ wait₀ right n erased₀ low₀ d₀ decl node member field wait erased low d =
     (d ≤ n)
     × (n ≡ decls_of (lines_in t))
@@ -27,67 +27,67 @@ invariant-loop t used decl₀ node₀ member₀ field₀ wait₀ right n erased�
     × (erased ≡ 0 → marks_of decl ≡ marks_of decl₀)
     × Running (lines_in t) used decl₀ node₀ member₀ field₀ wait₀ right
 
-abbrev decreases-loop : tie.decreases-loop
+abbrev decreases-loop : tie.decreases-loop-d
 decreases-loop t used decl₀ node₀ member₀ field₀ wait₀ right n erased₀ low₀ d₀ decl node member field wait erased low d = n - d
 
-loop-holds : tie.Need-loop-init invariant-loop decreases-loop
+loop-holds : tie.Need-loop-d-init invariant-loop decreases-loop
 loop-holds c =
-    let a = c.before.before.before.before.before.before.before in
+    let a = c in
     let m = a.args.decl.now in
     (omega arith, a.requires.1.state.decl_size, a.requires.1, sweep_begin (rule (program (lines_in a.args.t.now))) (length m) (marks_of m) (length-map m (λ x. eqb x 1)), omega arith, (λ _. refl), a.requires.1)
 
-update-requires : tie.Need-update-requires invariant-loop decreases-loop
+update-requires : tie.Need-update-r-requires invariant-loop decreases-loop
 update-requires c κs =
-    let a = c.before.before.before.before.before.before.before.before.before.before.before.before.before.before in
-    let l = c.before.before.before.before.before.before.loop in
-    (a.requires.0, (omega (arith, l.invariant.1, c.before.before.before.before.before.loop-test.true), l.invariant.2))
+    let a = c in
+    let l = c.loop-d in
+    (a.requires.0, (omega (arith, l.invariant.1, c.loop-d-test.true), l.invariant.2))
 
-add-erased : tie.Need-overflow-add-erased invariant-loop decreases-loop
+add-erased : tie.Need-overflow_add-erased invariant-loop decreases-loop
 add-erased c =
-    let a = c.before.before.before.before.before.before.before.before.before.before.before.before.before.before.before.before.before.before.before.before.before.before.before.before.before.before in
-    let l = c.before.before.before.before.before.before.before.before.before.before.before.before.before.before.before.before.before.before.loop in
-    let u = c.before.before.before.before.before.before.before.before.before.before.before.update in
-    let m = u.new.1.1.0 in
+    let a = c in
+    let l = c.loop-d in
+    let u = c.update-r in
+    let m = u.new.decl in
     omega (arith, l.invariant.4, u.ensures.counted, trues_le (marks_of m), length-map m (λ x. eqb x 1), u.ensures.running.state.decl_size, decls_few (lines_in a.args.t.now) a.requires.0.passed)
 
-add-d : tie.Need-overflow-add-d invariant-loop decreases-loop
+add-d : tie.Need-overflow_add-d invariant-loop decreases-loop
 add-d c =
-    let a = c.before.before.before.before.before.before.before.before.before.before.before.before.before.before.before.before.before.before.before.before.before.before.before.before.before.before in
-    omega (arith, c.before.before.before.before.before.before.before.before.before.before.before.before.before.before.before.before.before.loop-test.true, c.before.before.before.before.before.before.before.before.before.before.before.before.before.before.before.before.before.before.loop.invariant.1, decls_few (lines_in a.args.t.now) a.requires.0.passed)
+    let a = c in
+    omega (arith, c.loop-d-test.true, c.loop-d.invariant.1, decls_few (lines_in a.args.t.now) a.requires.0.passed)
 
-loop-again : tie.Need-loop-preserved invariant-loop decreases-loop
+loop-again : tie.Need-loop-d-preserved invariant-loop decreases-loop
 loop-again c =
-    let a = c.before.before.before.before.before.before.before.before.before.before.before.before.before.before.before.before.before.before.before.before.before.before.before.before.before.before in
-    let l = c.before.before.before.before.before.before.before.before.before.before.before.before.before.before.before.before.before.before.loop in
-    let u = c.before.before.before.before.before.before.before.before.before.before.before.update in
+    let a = c in
+    let l = c.loop-d in
+    let u = c.update-r in
     let r = rule (program (lines_in a.args.t.now)) in
-    let h = c.before.before.before.before.before.before.before.before.before.before.before.before.before.before.before.before.before.loop-test.true in
+    let h = c.loop-d-test.true in
     let n = length a.args.decl.now in
     (omega arith, l.invariant.1, u.ensures.running, ap (sweep r (n - (l.d + 1)) (l.d + 1)) u.ensures.marks ∙ sym (sweep_next r n l.d (marks_of l.decl) h) ∙ l.invariant.3, omega (arith, l.invariant.4, u.ensures.counted), (λ z. u.ensures.still (omega arith) ∙ l.invariant.5 (omega arith)), l.invariant.6)
 
-same_length : tie.Need-same-length invariant-loop decreases-loop
-same_length c = let i = c.before.loop.invariant in i.2.state.decl_size ∙ sym i.6.state.decl_size
+same_length : tie.Need-shape_of-decl invariant-loop decreases-loop
+same_length c = let i = c.loop-d.invariant in i.2.state.decl_size ∙ sym i.6.state.decl_size
 
-same-length-2 : tie.Need-same-length-2 invariant-loop decreases-loop
-same-length-2 c = let i = c.before.loop.invariant in i.2.state.marks.node_size ∙ sym i.6.state.marks.node_size
+same-length-2 : tie.Need-shape_of-node invariant-loop decreases-loop
+same-length-2 c = let i = c.loop-d.invariant in i.2.state.marks.node_size ∙ sym i.6.state.marks.node_size
 
-same-length-3 : tie.Need-same-length-3 invariant-loop decreases-loop
-same-length-3 c = let i = c.before.loop.invariant in i.2.state.marks.member_size ∙ sym i.6.state.marks.member_size
+same-length-3 : tie.Need-shape_of-member invariant-loop decreases-loop
+same-length-3 c = let i = c.loop-d.invariant in i.2.state.marks.member_size ∙ sym i.6.state.marks.member_size
 
-same-length-4 : tie.Need-same-length-4 invariant-loop decreases-loop
-same-length-4 c = let i = c.before.loop.invariant in i.2.state.places.field_size ∙ sym i.6.state.places.field_size
+same-length-4 : tie.Need-shape_of-field invariant-loop decreases-loop
+same-length-4 c = let i = c.loop-d.invariant in i.2.state.places.field_size ∙ sym i.6.state.places.field_size
 
-same-length-5 : tie.Need-same-length-5 invariant-loop decreases-loop
-same-length-5 c = let i = c.before.loop.invariant in i.2.state.places.wait_size ∙ sym i.6.state.places.wait_size
+same-length-5 : tie.Need-shape_of-wait invariant-loop decreases-loop
+same-length-5 c = let i = c.loop-d.invariant in i.2.state.places.wait_size ∙ sym i.6.state.places.wait_size
 
 returns : tie.Need-returns invariant-loop decreases-loop
 returns c =
-    let a = c.before.before.before.before.before.before.before.before.before in
-    let l = c.before.loop in
+    let a = c in
+    let l = c.loop-d in
     let i = l.invariant in
     record {
       running = i.2;
-      marks = sym (sweep_end (rule (program (lines_in a.args.t.now))) (length a.args.decl.now) l.d (marks_of l.decl) c.loop-test.false) ∙ i.3;
+      marks = sym (sweep_end (rule (program (lines_in a.args.t.now))) (length a.args.decl.now) l.d (marks_of l.decl) c.loop-d-test.false) ∙ i.3;
       counted = i.4;
       still = i.5;
     }

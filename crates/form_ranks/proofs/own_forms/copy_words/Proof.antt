@@ -10,21 +10,21 @@ use borrow.Author.Rules.{rules}
 use Rattle.form_ranks.proofs.own_forms.copy_words.Statement.{statement}
 use Rattle.form_ranks.proofs.own_forms.copy_words.Tie as tie
 
-abbrev invariant-loop : tie.invariant-loop
+abbrev invariant-loop : tie.invariant-loop-i
 invariant-loop f₀ at ws n i₀ f i = (i ≤ n) × (at + n ≤ length f₀) × (n ≤ length ws) × (length f ≡ length f₀) × (f ≡ paste f₀ at ws i)
 
-abbrev decreases-loop : tie.decreases-loop
+abbrev decreases-loop : tie.decreases-loop-i
 decreases-loop f₀ at ws n i₀ f i = n - i
 
-loop-holds : tie.Need-loop-init invariant-loop decreases-loop
+loop-holds : tie.Need-loop-i-init invariant-loop decreases-loop
 loop-holds c =
     let a = c.args in
     (omega arith, c.requires.0, c.requires.1, refl, paste-zero a.f.now a.at a.ws.now)
 
-loop-again : tie.Need-loop-preserved invariant-loop decreases-loop
+loop-again : tie.Need-loop-i-preserved invariant-loop decreases-loop
 loop-again c =
-    let s = c.before.before.loop in
-    let a = c.before.before.before.args in (
+    let s = c.loop-i in
+    let a = c.args in (
       omega arith,
       s.invariant.1,
       s.invariant.2,
@@ -34,8 +34,8 @@ loop-again c =
 
 returns : tie.Need-returns invariant-loop decreases-loop
 returns c =
-    let s = c.before.loop in
-    let a = c.before.before.args in
+    let s = c.loop-i in
+    let a = c.args in
     let e : s.i ≡ a.n = omega arith in
     s.invariant.4 ∙ (ap (λ (k : ℕ). paste a.f.now a.at a.ws.now k) e ∙ append_assoc (take a.at a.f.now) (take a.n a.ws.now) (drop (a.at + a.n) a.f.now))
 

@@ -8,27 +8,27 @@ use borrow.Author.Rules.{rules}
 use Rattle.form_ranks.proofs.own_forms.normal_form.Statement.{statement}
 use Rattle.form_ranks.proofs.own_forms.normal_form.Tie as tie
 
-cast-y : tie.Need-overflow-cast-y
-cast-y c = omega (arith, c.shared-slice-known3.given (2 * c.before.before.before.before.before.args.d + 1))
+cast-y : tie.Need-overflow_cast-y
+cast-y c = omega (arith, c.shared_slice_known-3-1.given (2 * c.args.d + 1))
 
-returns : tie.Need-returns
+returns : tie.Need-returns-then-n-scratch
 returns c =
-    let a = c.before.before.before.before.before.before.before.before.before.before.before.args in
-    added_none _ a.scratch.now a.d a.pos c.before.before.before.emit.result a.f.now _ c.before.before.before.emit.ensures (inl (omega (arith, c.if1.true, c.before.before.before.emit.ensures.long)))
+    let a = c.args in
+    added_none _ a.scratch.now a.d a.pos c.emit-n.result a.f.now _ c.emit-n.ensures (inl (omega (arith, c.if-n-scratch.true, c.emit-n.ensures.long)))
 
-returns-2 : tie.Need-returns-2
+returns-2 : tie.Need-returns-then-pos-n
 returns-2 c =
-    let a = c.before.before.before.before.before.before.before.before.before.before.before.before.args in
-    added_none _ a.scratch.now a.d a.pos c.before.before.before.before.emit.result a.f.now _ c.before.before.before.before.emit.ensures (inr (omega (arith, c.before.if1.false, c.before.before.before.before.emit.ensures.long), omega (arith, c.if2.true)))
+    let a = c.args in
+    added_none _ a.scratch.now a.d a.pos c.emit-n.result a.f.now _ c.emit-n.ensures (inr (omega (arith, c.if-n-scratch.false, c.emit-n.ensures.long), omega (arith, c.if-pos-n.true)))
 
-slice-write-f-2 : tie.Need-slice-write-f-2
-slice-write-f-2 c = simp length-set (omega (arith, c.before.before.before.before.before.before.before.before.before.before.before.before.before.before.before.before.before.requires))
+slice-write-f-2 : tie.Need-bounds-f-d-2
+slice-write-f-2 c = simp length-set (omega (arith, c.requires))
 
-returns-3 : tie.Need-returns-3
+returns-3 : tie.Need-returns
 returns-3 c =
-    let a = c.before.before.before.before.before.before.before.before.before.before.before.before.before.before.before.before.before.args in
-    let p = c.before.before.before.before.before.before.before.before.before.before.before.before.before.before.before.before.before.requires in
-    added_some _ a.scratch.now a.d a.pos c.before.before.before.before.before.before.before.before.before.emit.result a.f.now _ _ c.before.before.before.before.before.before.before.before.before.emit.ensures (omega (arith, c.before.before.before.before.before.before.if1.false, c.before.before.before.before.before.before.before.before.before.emit.ensures.long)) (omega (arith, c.before.before.before.before.before.if2.false)) (omega (arith, p.0.decl, p.2)) c.before.before.copy-words.ensures
+    let a = c.args in
+    let p = c.requires in
+    added_some _ a.scratch.now a.d a.pos c.emit-n.result a.f.now _ _ c.emit-n.ensures (omega (arith, c.if-n-scratch.false, c.emit-n.ensures.long)) (omega (arith, c.if-pos-n.false)) (omega (arith, p.0.decl, p.2)) c.copy_words.ensures
 
 pub normal_form_spec : {M : Type 1} → statement M
 normal_form_spec =

@@ -12,29 +12,29 @@ use borrow.Author.Rules.{rules}
 use Rattle.left_places.proofs.node_rows.write_nodes.Statement.{statement}
 use Rattle.left_places.proofs.node_rows.write_nodes.Tie as tie
 
-abbrev invariant-loop : tie.invariant-loop
+abbrev invariant-loop : tie.invariant-loop-i
 invariant-loop nodes stack₀ out₀ q₀ i₀ i-end stack out q i =
     (i ≤ length nodes) × (i-end ≡ length nodes) × (length out ≡ length out₀) × (length stack ≡ length stack₀) × Room (map node_of (drop i nodes)) q out stack
     × (sheet q out stack ≡ write_lines (map node_of (take i nodes)) (sheet q₀ out₀ stack₀))
 
-abbrev decreases-loop : tie.decreases-loop
+abbrev decreases-loop : tie.decreases-loop-i
 decreases-loop nodes stack₀ out₀ q₀ i₀ i-end stack out q i = i-end - i
 
-loop-holds : tie.Need-loop-init invariant-loop decreases-loop
+loop-holds : tie.Need-loop-i-init invariant-loop decreases-loop
 unfolding write_lines
-loop-holds c = (omega arith, refl, refl, refl, c.before.before.before.requires, refl)
+loop-holds c = (omega arith, refl, refl, refl, c.requires, refl)
 
-write-node-requires : tie.Need-write-node-requires invariant-loop decreases-loop
+write-node-requires : tie.Need-write_node-q-requires invariant-loop decreases-loop
 write-node-requires c κs =
-    let s = c.before.before.before.before.loop in
-    let a = c.before.before.before.before.before.before.before.before.args in
+    let s = c.loop-i in
+    let a = c.args in
     room_first (node_of (get_or a.nodes.now s.i 0)) (map node_of (drop (s.i + 1) a.nodes.now)) s.q s.out s.stack (rw (words_drop a.nodes.now s.i (search rules)) at s.invariant.4)
 
-loop-again : tie.Need-loop-preserved invariant-loop decreases-loop
+loop-again : tie.Need-loop-i-preserved invariant-loop decreases-loop
 loop-again c =
-    let s = c.before.before.before.before.before.before.before.before.before.loop in
-    let a = c.before.before.before.before.before.before.before.before.before.before.before.before.before.args in
-    let w = c.before.before.before.before.write_node in
+    let s = c.loop-i in
+    let a = c.args in
+    let w = c.write_node-q in
     let r = rw (words_drop a.nodes.now s.i (search rules)) at s.invariant.4 in (
       search rules,
       refl,
@@ -46,8 +46,8 @@ loop-again c =
 
 returns : tie.Need-returns invariant-loop decreases-loop
 returns c =
-    let s = c.before.loop in
-    let a = c.before.before.before.before.before.args in
+    let s = c.loop-i in
+    let a = c.args in
     s.invariant.5 ∙ rw (take_all s.i a.nodes.now (omega arith))
 
 pub write_nodes_spec : {M : Type 1} → statement M

@@ -88,7 +88,7 @@ once_at t = and 4 once-kinds.ps (is 4 once-kinds.ps μ_once t) once.Pre
 abbrev once_below : ℕ → In 4 once-kinds.ps
 once_below t = and 4 once-kinds.ps (falls 4 once-kinds.ps ◌<◌ μ_once t) once.Pre
 
-apply_answered_requires : (t : ℕ) → apply-lts.Need-answered-requires (
+apply_answered_requires : (t : ℕ) → apply-lts.Need-answered-known-requires (
   answered-reads.Asked,
   answered-reads.Learnt,
   decl-of-reads.Asked,
@@ -98,9 +98,9 @@ apply_answered_requires : (t : ℕ) → apply-lts.Need-answered-requires (
   remember-reads.Asked,
   remember-reads.Learnt,
 ) (apply_at t) apply.Post
-apply_answered_requires t c κs = let p = c.before.before.before.before.before.before.requires.1 in (p.0, (p.1.0, p.1.1))
+apply_answered_requires t c κs = let p = c.requires.1 in (p.0, (p.1.0, p.1.1))
 
-apply_same_length : (t : ℕ) → apply-lts.Need-same-length (
+apply_same_length : (t : ℕ) → apply-lts.Need-shape_of-out-then-known-ne0 (
   answered-reads.Asked,
   answered-reads.Learnt,
   decl-of-reads.Asked,
@@ -112,7 +112,7 @@ apply_same_length : (t : ℕ) → apply-lts.Need-same-length (
 ) (apply_at t) apply.Post
 apply_same_length t c = search rules
 
-apply_same_length_2 : (t : ℕ) → apply-lts.Need-same-length-2 (
+apply_same_length_2 : (t : ℕ) → apply-lts.Need-shape_of-slots-then-known-ne0 (
   answered-reads.Asked,
   answered-reads.Learnt,
   decl-of-reads.Asked,
@@ -124,7 +124,7 @@ apply_same_length_2 : (t : ℕ) → apply-lts.Need-same-length-2 (
 ) (apply_at t) apply.Post
 apply_same_length_2 t c = search rules
 
-apply_returns : (t : ℕ) → apply-lts.Need-returns (
+apply_returns : (t : ℕ) → apply-lts.Need-returns-then-known-ne0 (
   answered-reads.Asked,
   answered-reads.Learnt,
   decl-of-reads.Asked,
@@ -134,9 +134,9 @@ apply_returns : (t : ℕ) → apply-lts.Need-returns (
   remember-reads.Asked,
   remember-reads.Learnt,
 ) (apply_at t) apply.Post
-apply_returns t c = c.before.answered.ensures.found c.if1.true c.before.before.before.before.before.before.before.before.args.k
+apply_returns t c = c.answered-known.ensures.found c.if-known-ne0.true c.args.k
 
-apply_decl_of_requires : (t : ℕ) → apply-lts.Need-decl-of-requires (
+apply_decl_of_requires : (t : ℕ) → apply-lts.Need-decl_of-d-requires (
   answered-reads.Asked,
   answered-reads.Learnt,
   decl-of-reads.Asked,
@@ -146,9 +146,9 @@ apply_decl_of_requires : (t : ℕ) → apply-lts.Need-decl-of-requires (
   remember-reads.Asked,
   remember-reads.Learnt,
 ) (apply_at t) apply.Post
-apply_decl_of_requires t c κs = let p = c.before.before.before.before.before.before.before.before.requires.1 in (p.0.0.tabled, p.0.1)
+apply_decl_of_requires t c κs = let p = c.requires.1 in (p.0.0.tabled, p.0.1)
 
-apply_enter_requires : (t : ℕ) → apply-lts.Need-enter-requires (
+apply_enter_requires : (t : ℕ) → apply-lts.Need-enter-r-requires (
   answered-reads.Asked,
   answered-reads.Learnt,
   decl-of-reads.Asked,
@@ -159,9 +159,9 @@ apply_enter_requires : (t : ℕ) → apply-lts.Need-enter-requires (
   remember-reads.Learnt,
 ) (apply_at t) apply.Post
 apply_enter_requires t c κs =
-    let a = c.before.before.before.before.before.before.before.before.before.before.before.args in
-    let p = c.before.before.before.before.before.before.before.before.before.before.before.requires.1 in
-    (omega (arith, c.before.before.before.before.before.before.before.before.before.before.before.requires.0), (unfolded_here (lines_in a.t.now) a.t.now a.u.now p.0.0 a.n _ a.at a.count c.before.before.decl_of.ensures a.out.now p.1.0 a.slots.now p.1.1 _ c.before.before.before.before.answered.ensures c.before.before.before.if1.false, (p.1.0, p.1.1)))
+    let a = c.args in
+    let p = c.requires.1 in
+    (omega (arith, c.requires.0), (unfolded_here (lines_in a.t.now) a.t.now a.u.now p.0.0 a.n _ a.at a.count c.decl_of-d.ensures a.out.now p.1.0 a.slots.now p.1.1 _ c.answered-known.ensures c.if-known-ne0.false, (p.1.0, p.1.1)))
 
 apply_remember_requires : (t : ℕ) → apply-lts.Need-remember-requires (
   answered-reads.Asked,
@@ -173,9 +173,9 @@ apply_remember_requires : (t : ℕ) → apply-lts.Need-remember-requires (
   remember-reads.Asked,
   remember-reads.Learnt,
 ) (apply_at t) apply.Post
-apply_remember_requires t c κs = let p = c.before.before.before.before.before.before.before.before.before.before.before.before.before.before.before.before.before.before.requires.1 in let e = c.before.before.before.before.before.before.enter.ensures in (omega (arith, p.0.1, names_few (lines_in c.before.before.before.before.before.before.before.before.before.before.before.before.before.before.before.before.before.before.args.t.now) p.0.0.tabled.passed), omega (arith, p.1.0.room, e.kept.long), e.small)
+apply_remember_requires t c κs = let p = c.requires.1 in let e = c.enter-r.ensures in (omega (arith, p.0.1, names_few (lines_in c.args.t.now) p.0.0.tabled.passed), omega (arith, p.1.0.room, e.kept.long), e.small)
 
-apply_same_length_3 : (t : ℕ) → apply-lts.Need-same-length-3 (
+apply_same_length_3 : (t : ℕ) → apply-lts.Need-shape_of-out (
   answered-reads.Asked,
   answered-reads.Learnt,
   decl-of-reads.Asked,
@@ -185,9 +185,9 @@ apply_same_length_3 : (t : ℕ) → apply-lts.Need-same-length-3 (
   remember-reads.Asked,
   remember-reads.Learnt,
 ) (apply_at t) apply.Post
-apply_same_length_3 t c = c.before.before.before.before.before.before.before.before.before.enter.ensures.kept.long
+apply_same_length_3 t c = c.enter-r.ensures.kept.long
 
-apply_same_length_4 : (t : ℕ) → apply-lts.Need-same-length-4 (
+apply_same_length_4 : (t : ℕ) → apply-lts.Need-shape_of-slots (
   answered-reads.Asked,
   answered-reads.Learnt,
   decl-of-reads.Asked,
@@ -199,7 +199,7 @@ apply_same_length_4 : (t : ℕ) → apply-lts.Need-same-length-4 (
 ) (apply_at t) apply.Post
 apply_same_length_4 t c = search rules
 
-apply_returns_2 : (t : ℕ) → apply-lts.Need-returns-2 (
+apply_returns_2 : (t : ℕ) → apply-lts.Need-returns (
   answered-reads.Asked,
   answered-reads.Learnt,
   decl-of-reads.Asked,
@@ -210,19 +210,19 @@ apply_returns_2 : (t : ℕ) → apply-lts.Need-returns-2 (
   remember-reads.Learnt,
 ) (apply_at t) apply.Post
 apply_returns_2 t c =
-    let a = c.before.before.before.before.before.before.before.before.before.before.before.before.before.before.before.before.before.before.before.before.before.args in
-    let p = c.before.before.before.before.before.before.before.before.before.before.before.before.before.before.before.before.before.before.before.before.before.requires.1 in
+    let a = c.args in
+    let p = c.requires.1 in
     apply_kept (lines_in a.t.now) a.t.now a.u.now a.n a.at a.count a.out.now a.k _ _ _ _ p.1.0.room
-    (apply_enter (lines_in a.t.now) a.t.now a.u.now p.0.0 a.n _ _ a.at a.count c.before.before.before.before.before.before.before.before.before.before.before.before.decl_of.ensures refl a.out.now p.1.0 a.slots.now p.1.1 a.k _ _ _ c.before.before.before.before.before.before.before.before.before.enter.ensures)
-    c.before.before.remember.ensures
+    (apply_enter (lines_in a.t.now) a.t.now a.u.now p.0.0 a.n _ _ a.at a.count c.decl_of-d.ensures refl a.out.now p.1.0 a.slots.now p.1.1 a.k _ _ _ c.enter-r.ensures)
+    c.remember.ensures
 
-abbrev args_Inv_loop : args-lts.invariant-loop
+abbrev args_Inv_loop : args-lts.invariant-loop-i
 args_Inv_loop t u out₀ slots₀ k y d at count top n next₀ last₀ i₀ out slots next last i = (i ≤ n) × (next ≡ top + i) × (length slots ≡ length slots₀) × Done (evals_of (lines_in t) u d (part at count out₀) y) top i out₀ out (call_of (lines_in t) u) slots × ((z : ℕ) → z < y → Again (lines_in t) u d (part at count out₀) z last next out)
 
-abbrev args_μ_loop : args-lts.decreases-loop
+abbrev args_μ_loop : args-lts.decreases-loop-i
 args_μ_loop t u out₀ slots₀ k y d at count top n next₀ last₀ i₀ out slots next last i = n - i
 
-args_kids_requires : (t : ℕ) → args-lts.Need-kids-requires (
+args_kids_requires : (t : ℕ) → args-lts.Need-kids-n-requires (
   kids-reads.Asked,
   kids-reads.Learnt,
   kid-reads.Asked,
@@ -230,9 +230,9 @@ args_kids_requires : (t : ℕ) → args-lts.Need-kids-requires (
   once_below t,
   once.Post,
 ) (args_at t) args.Post args_Inv_loop args_μ_loop
-args_kids_requires t c κs = let p = c.before.before.before.before.requires.1 in (p.0.setup.tabled, p.0.type)
+args_kids_requires t c κs = let p = c.requires.1 in (p.0.setup.tabled, p.0.type)
 
-args_loop_holds : (t : ℕ) → args-lts.Need-loop-init (
+args_loop_holds : (t : ℕ) → args-lts.Need-loop-i-init (
   kids-reads.Asked,
   kids-reads.Learnt,
   kid-reads.Asked,
@@ -241,11 +241,11 @@ args_loop_holds : (t : ℕ) → args-lts.Need-loop-init (
   once.Post,
 ) (args_at t) args.Post args_Inv_loop args_μ_loop
 args_loop_holds t c =
-    let a = c.before.before.before.before.before.args in
-    let p = c.before.before.before.before.before.requires.1 in
+    let a = c.args in
+    let p = c.requires.1 in
     (omega arith, omega arith, refl, args_none (lines_in a.t.now) a.t.now a.u.now a.y a.d p.0 a.at a.count a.top a.out.now p.1.0 a.slots.now p.1.1, λ z h. again_none (lines_in a.t.now) a.t.now a.u.now a.y a.d p.0 a.at a.count a.top a.out.now p.1.0 z a.top a.out.now h)
 
-args_same_length : (t : ℕ) → args-lts.Need-same-length (
+args_same_length : (t : ℕ) → args-lts.Need-shape_of-out-then-next-out (
   kids-reads.Asked,
   kids-reads.Learnt,
   kid-reads.Asked,
@@ -253,9 +253,9 @@ args_same_length : (t : ℕ) → args-lts.Need-same-length (
   once_below t,
   once.Post,
 ) (args_at t) args.Post args_Inv_loop args_μ_loop
-args_same_length t c = c.before.before.loop.invariant.3.kept.long
+args_same_length t c = c.loop-i.invariant.3.kept.long
 
-args_same_length_2 : (t : ℕ) → args-lts.Need-same-length-2 (
+args_same_length_2 : (t : ℕ) → args-lts.Need-shape_of-slots-then-next-out (
   kids-reads.Asked,
   kids-reads.Learnt,
   kid-reads.Asked,
@@ -263,9 +263,9 @@ args_same_length_2 : (t : ℕ) → args-lts.Need-same-length-2 (
   once_below t,
   once.Post,
 ) (args_at t) args.Post args_Inv_loop args_μ_loop
-args_same_length_2 t c = c.before.before.loop.invariant.2
+args_same_length_2 t c = c.loop-i.invariant.2
 
-args_returns : (t : ℕ) → args-lts.Need-returns (
+args_returns : (t : ℕ) → args-lts.Need-returns-then-next-out (
   kids-reads.Asked,
   kids-reads.Learnt,
   kid-reads.Asked,
@@ -274,11 +274,11 @@ args_returns : (t : ℕ) → args-lts.Need-returns (
   once.Post,
 ) (args_at t) args.Post args_Inv_loop args_μ_loop
 args_returns t c =
-    let a = c.before.before.before.before.before.before.before.before.args in
-    let p = c.before.before.before.before.before.before.before.before.requires.1 in
-    args_full (lines_in a.t.now) a.t.now a.u.now a.y a.d p.0 a.at a.count a.top a.out.now p.1.0 c.before.before.loop.i a.k c.before.before.loop.out c.before.before.loop.slots c.before.before.loop.invariant.3 (omega (arith, c.before.before.before.kids.ensures, c.before.loop-test.true)) (omega (arith, c.if1.true, c.before.before.loop.invariant.1))
+    let a = c.args in
+    let p = c.requires.1 in
+    args_full (lines_in a.t.now) a.t.now a.u.now a.y a.d p.0 a.at a.count a.top a.out.now p.1.0 c.loop-i.i a.k c.loop-i.out c.loop-i.slots c.loop-i.invariant.3 (omega (arith, c.kids-n.ensures, c.loop-i-test.true)) (omega (arith, c.if-next-out.true, c.loop-i.invariant.1))
 
-args_kid_requires : (t : ℕ) → args-lts.Need-kid-requires (
+args_kid_requires : (t : ℕ) → args-lts.Need-kid-kid-requires (
   kids-reads.Asked,
   kids-reads.Learnt,
   kid-reads.Asked,
@@ -286,9 +286,9 @@ args_kid_requires : (t : ℕ) → args-lts.Need-kid-requires (
   once_below t,
   once.Post,
 ) (args_at t) args.Post args_Inv_loop args_μ_loop
-args_kid_requires t c κs = let p = c.before.before.before.before.before.before.before.before.requires.1 in (p.0.setup.tabled, (p.0.type, omega (arith, c.before.before.before.kids.ensures, c.before.loop-test.true)))
+args_kid_requires t c κs = let p = c.requires.1 in (p.0.setup.tabled, (p.0.type, omega (arith, c.kids-n.ensures, c.loop-i-test.true)))
 
-args_once_requires : (t : ℕ) → args-lts.Need-once-requires (
+args_once_requires : (t : ℕ) → args-lts.Need-once-r-requires (
   kids-reads.Asked,
   kids-reads.Learnt,
   kid-reads.Asked,
@@ -297,20 +297,20 @@ args_once_requires : (t : ℕ) → args-lts.Need-once-requires (
   once.Post,
 ) (args_at t) args.Post args_Inv_loop args_μ_loop
 args_once_requires t c κs =
-    let a = c.before.before.before.before.before.before.before.before.before.before.before.args in
-    let p = c.before.before.before.before.before.before.before.before.before.before.before.requires.1 in
-    let l = kid_below (lines_in a.t.now) p.0.setup.tabled.passed a.y p.0.type c.before.before.before.before.before.loop.i (omega (arith, c.before.before.before.before.before.before.kids.ensures, c.before.before.before.before.loop-test.true)) in (
-      omega (arith, l, c.before.before.kid.ensures, c.before.before.before.before.before.before.before.before.before.before.before.requires.0),
+    let a = c.args in
+    let p = c.requires.1 in
+    let l = kid_below (lines_in a.t.now) p.0.setup.tabled.passed a.y p.0.type c.loop-i.i (omega (arith, c.kids-n.ensures, c.loop-i-test.true)) in (
+      omega (arith, l, c.kid-kid.ensures, c.requires.0),
       (
-        record { setup = p.0.setup; type = omega (arith, l, c.before.before.kid.ensures, p.0.type); decl = p.0.decl },
+        record { setup = p.0.setup; type = omega (arith, l, c.kid-kid.ensures, p.0.type); decl = p.0.decl },
         (
-          (record { inside = omega (arith, p.1.0.inside, c.before.before.before.before.before.loop.invariant.1); room = omega (arith, c.before.before.before.if1.false); nodes = subst Nodes (sym (part_same a.at a.count a.top c.before.before.before.before.before.loop.out a.out.now p.1.0.inside c.before.before.before.before.before.loop.invariant.3.kept)) p.1.0.nodes }, again_kept (lines_in a.t.now) a.t.now a.u.now a.y a.d p.0 a.at a.count a.top a.out.now p.1.0 c.before.before.before.before.before.loop.i _ _ _ c.before.before.before.before.before.loop.out c.before.before.before.before.before.loop.slots c.before.before.before.before.before.loop.invariant.3 (c.before.before.before.before.before.loop.invariant.4 _ (omega (arith, l, c.before.before.kid.ensures)))),
-          c.before.before.before.before.before.loop.invariant.3.slots,
+          (record { inside = omega (arith, p.1.0.inside, c.loop-i.invariant.1); room = omega (arith, c.if-next-out.false); nodes = subst Nodes (sym (part_same a.at a.count a.top c.loop-i.out a.out.now p.1.0.inside c.loop-i.invariant.3.kept)) p.1.0.nodes }, again_kept (lines_in a.t.now) a.t.now a.u.now a.y a.d p.0 a.at a.count a.top a.out.now p.1.0 c.loop-i.i _ _ _ c.loop-i.out c.loop-i.slots c.loop-i.invariant.3 (c.loop-i.invariant.4 _ (omega (arith, l, c.kid-kid.ensures)))),
+          c.loop-i.invariant.3.slots,
         ),
       ),
     )
 
-args_same_length_3 : (t : ℕ) → args-lts.Need-same-length-3 (
+args_same_length_3 : (t : ℕ) → args-lts.Need-shape_of-out-then-r-lt-VALUE (
   kids-reads.Asked,
   kids-reads.Learnt,
   kid-reads.Asked,
@@ -318,9 +318,9 @@ args_same_length_3 : (t : ℕ) → args-lts.Need-same-length-3 (
   once_below t,
   once.Post,
 ) (args_at t) args.Post args_Inv_loop args_μ_loop
-args_same_length_3 t c = c.before.before.before.before.before.once.ensures.kept.long ∙ c.before.before.before.before.before.before.before.before.before.before.before.loop.invariant.3.kept.long
+args_same_length_3 t c = c.once-r.ensures.kept.long ∙ c.loop-i.invariant.3.kept.long
 
-args_same_length_4 : (t : ℕ) → args-lts.Need-same-length-4 (
+args_same_length_4 : (t : ℕ) → args-lts.Need-shape_of-slots-then-r-lt-VALUE (
   kids-reads.Asked,
   kids-reads.Learnt,
   kid-reads.Asked,
@@ -330,7 +330,7 @@ args_same_length_4 : (t : ℕ) → args-lts.Need-same-length-4 (
 ) (args_at t) args.Post args_Inv_loop args_μ_loop
 args_same_length_4 t c = search rules
 
-args_returns_2 : (t : ℕ) → args-lts.Need-returns-2 (
+args_returns_2 : (t : ℕ) → args-lts.Need-returns-then-r-lt-VALUE (
   kids-reads.Asked,
   kids-reads.Learnt,
   kid-reads.Asked,
@@ -339,11 +339,11 @@ args_returns_2 : (t : ℕ) → args-lts.Need-returns-2 (
   once.Post,
 ) (args_at t) args.Post args_Inv_loop args_μ_loop
 args_returns_2 t c =
-    let a = c.before.before.before.before.before.before.before.before.before.before.before.before.before.before.before.before.before.args in
-    let p = c.before.before.before.before.before.before.before.before.before.before.before.before.before.before.before.before.before.requires.1 in
-    args_stop (lines_in a.t.now) a.t.now a.u.now a.y a.d p.0 a.at a.count a.top a.out.now p.1.0 c.before.before.before.before.before.before.before.before.before.before.before.loop.i _ c.before.before.before.before.before.before.before.before.before.before.before.loop.out c.before.before.before.before.before.before.before.before.before.before.before.loop.slots c.before.before.before.before.before.before.before.before.before.before.before.loop.invariant.3 (omega (arith, c.before.before.before.before.before.before.before.before.before.before.before.before.kids.ensures, c.before.before.before.before.before.before.before.before.before.before.loop-test.true)) c.before.before.before.before.before.before.before.before.kid.ensures a.k _ _ _ (rw c.before.before.before.before.before.before.before.before.before.before.before.loop.invariant.1 at c.before.before.before.before.before.once.ensures) c.if2.true (omega (arith, c.before.before.before.before.before.before.before.before.before.if1.false, c.before.before.before.before.before.before.before.before.before.before.before.loop.invariant.1))
+    let a = c.args in
+    let p = c.requires.1 in
+    args_stop (lines_in a.t.now) a.t.now a.u.now a.y a.d p.0 a.at a.count a.top a.out.now p.1.0 c.loop-i.i _ c.loop-i.out c.loop-i.slots c.loop-i.invariant.3 (omega (arith, c.kids-n.ensures, c.loop-i-test.true)) c.kid-kid.ensures a.k _ _ _ (rw c.loop-i.invariant.1 at c.once-r.ensures) c.if-r-lt-VALUE.true (omega (arith, c.if-next-out.false, c.loop-i.invariant.1))
 
-args_cast_out : (t : ℕ) → args-lts.Need-overflow-cast-out (
+args_cast_out : (t : ℕ) → args-lts.Need-overflow_cast-out (
   kids-reads.Asked,
   kids-reads.Learnt,
   kid-reads.Asked,
@@ -351,9 +351,9 @@ args_cast_out : (t : ℕ) → args-lts.Need-overflow-cast-out (
   once_below t,
   once.Post,
 ) (args_at t) args.Post args_Inv_loop args_μ_loop
-args_cast_out t c = omega (arith, c.before.before.before.before.before.once.ensures.small)
+args_cast_out t c = omega (arith, c.once-r.ensures.small)
 
-args_mul_out : (t : ℕ) → args-lts.Need-overflow-mul-out (
+args_mul_out : (t : ℕ) → args-lts.Need-offset_bounds-out-next (
   kids-reads.Asked,
   kids-reads.Learnt,
   kid-reads.Asked,
@@ -361,9 +361,9 @@ args_mul_out : (t : ℕ) → args-lts.Need-overflow-mul-out (
   once_below t,
   once.Post,
 ) (args_at t) args.Post args_Inv_loop args_μ_loop
-args_mul_out t c = omega (arith, c.before.before.before.before.before.before.before.before.before.if1.false, c.before.before.before.before.before.before.before.before.before.before.before.loop.invariant.3.kept.long, c.before.before.before.before.before.before.before.before.before.before.before.before.before.before.before.before.before.well-formed.1.1.0)
+args_mul_out t c = omega (arith, c.if-next-out.false, c.loop-i.invariant.3.kept.long, c.well_formed.1.1.0)
 
-args_slice_write_out : (t : ℕ) → args-lts.Need-slice-write-out (
+args_slice_write_out : (t : ℕ) → args-lts.Need-bounds-out-next (
   kids-reads.Asked,
   kids-reads.Learnt,
   kid-reads.Asked,
@@ -371,9 +371,9 @@ args_slice_write_out : (t : ℕ) → args-lts.Need-slice-write-out (
   once_below t,
   once.Post,
 ) (args_at t) args.Post args_Inv_loop args_μ_loop
-args_slice_write_out t c = omega (arith, c.before.before.before.before.before.before.before.before.before.if1.false, c.before.before.before.before.before.once.ensures.kept.long)
+args_slice_write_out t c = omega (arith, c.if-next-out.false, c.once-r.ensures.kept.long)
 
-args_add_next : (t : ℕ) → args-lts.Need-overflow-add-next (
+args_add_next : (t : ℕ) → args-lts.Need-overflow_add-next (
   kids-reads.Asked,
   kids-reads.Learnt,
   kid-reads.Asked,
@@ -381,9 +381,9 @@ args_add_next : (t : ℕ) → args-lts.Need-overflow-add-next (
   once_below t,
   once.Post,
 ) (args_at t) args.Post args_Inv_loop args_μ_loop
-args_add_next t c = omega (arith, c.before.before.before.before.before.before.before.before.before.if1.false, c.before.before.before.before.before.before.before.before.before.before.before.loop.invariant.3.kept.long, c.before.before.before.before.before.before.before.before.before.before.before.before.before.before.before.before.before.well-formed.1.1.0)
+args_add_next t c = omega (arith, c.if-next-out.false, c.loop-i.invariant.3.kept.long, c.well_formed.1.1.0)
 
-args_add_i : (t : ℕ) → args-lts.Need-overflow-add-i (
+args_add_i : (t : ℕ) → args-lts.Need-overflow_step-i (
   kids-reads.Asked,
   kids-reads.Learnt,
   kid-reads.Asked,
@@ -391,9 +391,9 @@ args_add_i : (t : ℕ) → args-lts.Need-overflow-add-i (
   once_below t,
   once.Post,
 ) (args_at t) args.Post args_Inv_loop args_μ_loop
-args_add_i t c = omega (arith, c.before.before.before.before.before.before.before.before.before.before.loop-test.true)
+args_add_i t c = omega (arith, c.loop-i-test.true)
 
-args_loop_less : (t : ℕ) → args-lts.Need-loop-smaller (
+args_loop_less : (t : ℕ) → args-lts.Need-loop-i-smaller (
   kids-reads.Asked,
   kids-reads.Learnt,
   kid-reads.Asked,
@@ -401,9 +401,9 @@ args_loop_less : (t : ℕ) → args-lts.Need-loop-smaller (
   once_below t,
   once.Post,
 ) (args_at t) args.Post args_Inv_loop args_μ_loop
-args_loop_less t c = omega (arith, c.before.before.before.before.before.before.before.before.before.before.loop-test.true)
+args_loop_less t c = omega (arith, c.loop-i-test.true)
 
-args_loop_again : (t : ℕ) → args-lts.Need-loop-preserved (
+args_loop_again : (t : ℕ) → args-lts.Need-loop-i-preserved (
   kids-reads.Asked,
   kids-reads.Learnt,
   kid-reads.Asked,
@@ -412,16 +412,16 @@ args_loop_again : (t : ℕ) → args-lts.Need-loop-preserved (
   once.Post,
 ) (args_at t) args.Post args_Inv_loop args_μ_loop
 args_loop_again t c =
-    let a = c.before.before.before.before.before.before.before.before.before.before.before.before.before.before.before.before.before.args in
-    let p = c.before.before.before.before.before.before.before.before.before.before.before.before.before.before.before.before.before.requires.1 in (
-      omega (arith, c.before.before.before.before.before.before.before.before.before.before.loop-test.true),
-      omega (arith, c.before.before.before.before.before.before.before.before.before.before.before.loop.invariant.1),
+    let a = c.args in
+    let p = c.requires.1 in (
+      omega (arith, c.loop-i-test.true),
+      omega (arith, c.loop-i.invariant.1),
       search rules,
-      rw (sym c.before.before.before.before.before.before.before.before.before.before.before.loop.invariant.1) at (args_more (lines_in a.t.now) a.t.now a.u.now a.y a.d p.0 a.at a.count a.top a.out.now p.1.0 c.before.before.before.before.before.before.before.before.before.before.before.loop.i _ c.before.before.before.before.before.before.before.before.before.before.before.loop.out c.before.before.before.before.before.before.before.before.before.before.before.loop.slots c.before.before.before.before.before.before.before.before.before.before.before.loop.invariant.3 (omega (arith, c.before.before.before.before.before.before.before.before.before.before.before.before.kids.ensures, c.before.before.before.before.before.before.before.before.before.before.loop-test.true)) c.before.before.before.before.before.before.before.before.kid.ensures a.k _ _ _ (rw c.before.before.before.before.before.before.before.before.before.before.before.loop.invariant.1 at c.before.before.before.before.before.once.ensures) c.if2.false (omega (arith, c.before.before.before.before.before.before.before.before.before.if1.false, c.before.before.before.before.before.before.before.before.before.before.before.loop.invariant.1))),
-      λ z h. rw (sym c.before.before.before.before.before.before.before.before.before.before.before.loop.invariant.1) at (args_again (lines_in a.t.now) a.t.now a.u.now a.y a.d p.0 a.at a.count a.top a.out.now p.1.0 c.before.before.before.before.before.before.before.before.before.before.before.loop.i _ c.before.before.before.before.before.before.before.before.before.before.before.loop.out c.before.before.before.before.before.before.before.before.before.before.before.loop.slots c.before.before.before.before.before.before.before.before.before.before.before.loop.invariant.3 (omega (arith, c.before.before.before.before.before.before.before.before.before.before.before.before.kids.ensures, c.before.before.before.before.before.before.before.before.before.before.loop-test.true)) c.before.before.before.before.before.before.before.before.kid.ensures a.k _ _ _ (rw c.before.before.before.before.before.before.before.before.before.before.before.loop.invariant.1 at c.before.before.before.before.before.once.ensures) c.if2.false (omega (arith, c.before.before.before.before.before.before.before.before.before.if1.false, c.before.before.before.before.before.before.before.before.before.before.before.loop.invariant.1)) z),
+      rw (sym c.loop-i.invariant.1) at (args_more (lines_in a.t.now) a.t.now a.u.now a.y a.d p.0 a.at a.count a.top a.out.now p.1.0 c.loop-i.i _ c.loop-i.out c.loop-i.slots c.loop-i.invariant.3 (omega (arith, c.kids-n.ensures, c.loop-i-test.true)) c.kid-kid.ensures a.k _ _ _ (rw c.loop-i.invariant.1 at c.once-r.ensures) c.if-r-lt-VALUE.false (omega (arith, c.if-next-out.false, c.loop-i.invariant.1))),
+      λ z h. rw (sym c.loop-i.invariant.1) at (args_again (lines_in a.t.now) a.t.now a.u.now a.y a.d p.0 a.at a.count a.top a.out.now p.1.0 c.loop-i.i _ c.loop-i.out c.loop-i.slots c.loop-i.invariant.3 (omega (arith, c.kids-n.ensures, c.loop-i-test.true)) c.kid-kid.ensures a.k _ _ _ (rw c.loop-i.invariant.1 at c.once-r.ensures) c.if-r-lt-VALUE.false (omega (arith, c.if-next-out.false, c.loop-i.invariant.1)) z),
     )
 
-args_same_length_5 : (t : ℕ) → args-lts.Need-same-length-5 (
+args_same_length_5 : (t : ℕ) → args-lts.Need-shape_of-out (
   kids-reads.Asked,
   kids-reads.Learnt,
   kid-reads.Asked,
@@ -429,9 +429,9 @@ args_same_length_5 : (t : ℕ) → args-lts.Need-same-length-5 (
   once_below t,
   once.Post,
 ) (args_at t) args.Post args_Inv_loop args_μ_loop
-args_same_length_5 t c = c.before.loop.invariant.3.kept.long
+args_same_length_5 t c = c.loop-i.invariant.3.kept.long
 
-args_same_length_6 : (t : ℕ) → args-lts.Need-same-length-6 (
+args_same_length_6 : (t : ℕ) → args-lts.Need-shape_of-slots (
   kids-reads.Asked,
   kids-reads.Learnt,
   kid-reads.Asked,
@@ -439,9 +439,9 @@ args_same_length_6 : (t : ℕ) → args-lts.Need-same-length-6 (
   once_below t,
   once.Post,
 ) (args_at t) args.Post args_Inv_loop args_μ_loop
-args_same_length_6 t c = c.before.loop.invariant.2
+args_same_length_6 t c = c.loop-i.invariant.2
 
-args_returns_3 : (t : ℕ) → args-lts.Need-returns-3 (
+args_returns_3 : (t : ℕ) → args-lts.Need-returns (
   kids-reads.Asked,
   kids-reads.Learnt,
   kid-reads.Asked,
@@ -450,11 +450,11 @@ args_returns_3 : (t : ℕ) → args-lts.Need-returns-3 (
   once.Post,
 ) (args_at t) args.Post args_Inv_loop args_μ_loop
 args_returns_3 t c =
-    let a = c.before.before.before.before.before.before.before.args in
-    let p = c.before.before.before.before.before.before.before.requires.1 in
-    args_done (lines_in a.t.now) a.t.now a.u.now a.y a.d p.0 a.at a.count a.top a.out.now p.1.0 c.before.loop.i a.k c.before.loop.out c.before.loop.slots c.before.loop.invariant.3 (omega (arith, c.before.before.kids.ensures, c.loop-test.false, c.before.loop.invariant.0))
+    let a = c.args in
+    let p = c.requires.1 in
+    args_done (lines_in a.t.now) a.t.now a.u.now a.y a.d p.0 a.at a.count a.top a.out.now p.1.0 c.loop-i.i a.k c.loop-i.out c.loop-i.slots c.loop-i.invariant.3 (omega (arith, c.kids-n.ensures, c.loop-i-test.false, c.loop-i.invariant.0))
 
-enter_body_requires : (t : ℕ) → enter-lts.Need-body-requires (
+enter_body_requires : (t : ℕ) → enter-lts.Need-body-y-requires (
   body-Reads.Asked,
   body-Reads.Learnt,
   entry-reads.Asked,
@@ -465,11 +465,11 @@ enter_body_requires : (t : ℕ) → enter-lts.Need-body-requires (
   node.Post,
 ) (enter_at t) enter.Post
 enter_body_requires t c κs =
-    let a = c.before.before.before.before.args in
-    let p = c.before.before.before.before.requires.1 in
+    let a = c.args in
+    let p = c.requires.1 in
     (omega (arith, p.0.0.decl, decls_few (lines_in a.t.now) p.0.0.setup.tabled.passed), omega (arith, p.0.0.decl, p.0.0.setup.states.long))
 
-enter_entry_requires : (t : ℕ) → enter-lts.Need-entry-requires (
+enter_entry_requires : (t : ℕ) → enter-lts.Need-entry-r-requires (
   body-Reads.Asked,
   body-Reads.Learnt,
   entry-reads.Asked,
@@ -480,11 +480,11 @@ enter_entry_requires : (t : ℕ) → enter-lts.Need-entry-requires (
   node.Post,
 ) (enter_at t) enter.Post
 enter_entry_requires t c κs =
-    let a = c.before.before.before.before.before.before.args in
-    let p = c.before.before.before.before.before.before.requires.1 in
-    (body_here (lines_in a.t.now) a.t.now a.u.now _ a.d c.before.body.ensures p.0, p.1.0)
+    let a = c.args in
+    let p = c.requires.1 in
+    (body_here (lines_in a.t.now) a.t.now a.u.now _ a.d c.body-y.ensures p.0, p.1.0)
 
-enter_same_length : (t : ℕ) → enter-lts.Need-same-length (
+enter_same_length : (t : ℕ) → enter-lts.Need-shape_of-out-then-r-ne-OPEN (
   body-Reads.Asked,
   body-Reads.Learnt,
   entry-reads.Asked,
@@ -496,7 +496,7 @@ enter_same_length : (t : ℕ) → enter-lts.Need-same-length (
 ) (enter_at t) enter.Post
 enter_same_length t c = search rules
 
-enter_returns : (t : ℕ) → enter-lts.Need-returns (
+enter_returns : (t : ℕ) → enter-lts.Need-returns-then-r-ne-OPEN (
   body-Reads.Asked,
   body-Reads.Learnt,
   entry-reads.Asked,
@@ -507,9 +507,9 @@ enter_returns : (t : ℕ) → enter-lts.Need-returns (
   node.Post,
 ) (enter_at t) enter.Post
 enter_returns t c =
-    let a = c.before.before.before.before.before.before.before.before.args in
-    let p = c.before.before.before.before.before.before.before.before.requires.1 in
-    c.before.entry.ensures.found c.if1.true a.slots.now p.1.1
+    let a = c.args in
+    let p = c.requires.1 in
+    c.entry-r.ensures.found c.if-r-ne-OPEN.true a.slots.now p.1.1
 
 enter_params_requires : (t : ℕ) → enter-lts.Need-params-requires (
   body-Reads.Asked,
@@ -521,9 +521,9 @@ enter_params_requires : (t : ℕ) → enter-lts.Need-params-requires (
   node_below t,
   node.Post,
 ) (enter_at t) enter.Post
-enter_params_requires t c κs = let p = c.before.before.before.before.before.before.before.before.requires.1 in (p.0.0.setup.tabled, p.0.0.decl)
+enter_params_requires t c κs = let p = c.requires.1 in (p.0.0.setup.tabled, p.0.0.decl)
 
-enter_sub_over : (t : ℕ) → enter-lts.Need-overflow-sub-over (
+enter_sub_over : (t : ℕ) → enter-lts.Need-overflow_sub-over (
   body-Reads.Asked,
   body-Reads.Learnt,
   entry-reads.Asked,
@@ -533,9 +533,9 @@ enter_sub_over : (t : ℕ) → enter-lts.Need-overflow-sub-over (
   node_below t,
   node.Post,
 ) (enter_at t) enter.Post
-enter_sub_over t c = omega (arith, c.before.before.entry.ensures.enough c.before.if1.false, c.params.ensures)
+enter_sub_over t c = omega (arith, c.entry-r.ensures.enough c.if-r-ne-OPEN.false, c.params.ensures)
 
-enter_sub_node : (t : ℕ) → enter-lts.Need-overflow-sub-node (
+enter_sub_node : (t : ℕ) → enter-lts.Need-overflow_sub-k (
   body-Reads.Asked,
   body-Reads.Learnt,
   entry-reads.Asked,
@@ -545,9 +545,9 @@ enter_sub_node : (t : ℕ) → enter-lts.Need-overflow-sub-node (
   node_below t,
   node.Post,
 ) (enter_at t) enter.Post
-enter_sub_node t c = omega (arith, c.before.before.before.before.entry.ensures.fuel c.before.before.before.if1.false)
+enter_sub_node t c = omega (arith, c.entry-r.ensures.fuel c.if-r-ne-OPEN.false)
 
-enter_add_node : (t : ℕ) → enter-lts.Need-overflow-add-node (
+enter_add_node : (t : ℕ) → enter-lts.Need-overflow_add-at (
   body-Reads.Asked,
   body-Reads.Learnt,
   entry-reads.Asked,
@@ -557,7 +557,7 @@ enter_add_node : (t : ℕ) → enter-lts.Need-overflow-add-node (
   node_below t,
   node.Post,
 ) (enter_at t) enter.Post
-enter_add_node t c = omega (arith, c.before.before.before.before.before.before.before.before.before.before.before.requires.1.1.0.room, c.before.before.before.before.before.before.before.before.before.before.before.well-formed.1.1.0)
+enter_add_node t c = omega (arith, c.requires.1.1.0.room, c.well_formed.1.1.0)
 
 enter_node_requires : (t : ℕ) → enter-lts.Need-node-requires (
   body-Reads.Asked,
@@ -570,14 +570,14 @@ enter_node_requires : (t : ℕ) → enter-lts.Need-node-requires (
   node.Post,
 ) (enter_at t) enter.Post
 enter_node_requires t c κs =
-    let a = c.before.before.before.before.before.before.before.before.before.before.before.args in
-    let p = c.before.before.before.before.before.before.before.before.before.before.before.requires.1 in
-    let w = c.before.before.before.before.entry.ensures in
-    let z = c.before.before.before.if1.false in
-    let q = (body_here (lines_in a.t.now) a.t.now a.u.now _ a.d c.before.before.before.before.before.before.body.ensures p.0).0 in
-    (omega (arith, c.before.before.before.before.before.before.before.before.before.before.before.requires.0, w.fuel z, q.type, types_few (lines_in a.t.now) q.setup.tabled.passed), (q, ((p.1.0, omega arith, λ e. ap (λ (i : ℕ). a.count - i) c.before.before.params.ensures ∙ w.bare z e), p.1.1)))
+    let a = c.args in
+    let p = c.requires.1 in
+    let w = c.entry-r.ensures in
+    let z = c.if-r-ne-OPEN.false in
+    let q = (body_here (lines_in a.t.now) a.t.now a.u.now _ a.d c.body-y.ensures p.0).0 in
+    (omega (arith, c.requires.0, w.fuel z, q.type, types_few (lines_in a.t.now) q.setup.tabled.passed), (q, ((p.1.0, omega arith, λ e. ap (λ (i : ℕ). a.count - i) c.params.ensures ∙ w.bare z e), p.1.1)))
 
-enter_same_length_2 : (t : ℕ) → enter-lts.Need-same-length-2 (
+enter_same_length_2 : (t : ℕ) → enter-lts.Need-shape_of-out (
   body-Reads.Asked,
   body-Reads.Learnt,
   entry-reads.Asked,
@@ -587,9 +587,9 @@ enter_same_length_2 : (t : ℕ) → enter-lts.Need-same-length-2 (
   node_below t,
   node.Post,
 ) (enter_at t) enter.Post
-enter_same_length_2 t c = c.before.before.before.before.node.ensures.kept.long
+enter_same_length_2 t c = c.node.ensures.kept.long
 
-enter_same_length_3 : (t : ℕ) → enter-lts.Need-same-length-3 (
+enter_same_length_3 : (t : ℕ) → enter-lts.Need-shape_of-slots (
   body-Reads.Asked,
   body-Reads.Learnt,
   entry-reads.Asked,
@@ -601,7 +601,7 @@ enter_same_length_3 : (t : ℕ) → enter-lts.Need-same-length-3 (
 ) (enter_at t) enter.Post
 enter_same_length_3 t c = search rules
 
-enter_returns_2 : (t : ℕ) → enter-lts.Need-returns-2 (
+enter_returns_2 : (t : ℕ) → enter-lts.Need-returns (
   body-Reads.Asked,
   body-Reads.Learnt,
   entry-reads.Asked,
@@ -612,11 +612,11 @@ enter_returns_2 : (t : ℕ) → enter-lts.Need-returns-2 (
   node.Post,
 ) (enter_at t) enter.Post
 enter_returns_2 t c =
-    let a = c.before.before.before.before.before.before.before.before.before.before.before.before.before.before.before.before.args in
-    let p = c.before.before.before.before.before.before.before.before.before.before.before.before.before.before.before.before.requires.1 in
-    c.before.before.before.before.before.before.before.before.before.entry.ensures.goes c.before.before.before.before.before.before.before.before.if1.false a.slots.now p.1.1 _ (ap (λ (i : ℕ). a.count - i) c.before.before.before.before.before.before.before.params.ensures) _ _ _ c.before.before.before.before.node.ensures
+    let a = c.args in
+    let p = c.requires.1 in
+    c.entry-r.ensures.goes c.if-r-ne-OPEN.false a.slots.now p.1.1 _ (ap (λ (i : ℕ). a.count - i) c.params.ensures) _ _ _ c.node.ensures
 
-node_type_number_requires : (t : ℕ) → node-lts.Need-type-number-requires (
+node_type_number_requires : (t : ℕ) → node-lts.Need-type_number-kind-requires (
   type-number-reads.Asked,
   type-number-reads.Learnt,
   argument-reads.Asked,
@@ -632,9 +632,9 @@ node_type_number_requires : (t : ℕ) → node-lts.Need-type-number-requires (
   built-reads.Asked,
   built-reads.Learnt,
 ) (node_at t) node.Post
-node_type_number_requires t c κs = let p = c.before.before.before.before.requires.1.0 in (p.setup.tabled, (p.type, omega arith))
+node_type_number_requires t c κs = let p = c.requires.1.0 in (p.setup.tabled, (p.type, omega arith))
 
-node_type_number_requires_2 : (t : ℕ) → node-lts.Need-type-number-requires-2 (
+node_type_number_requires_2 : (t : ℕ) → node-lts.Need-type_number-a-requires (
   type-number-reads.Asked,
   type-number-reads.Learnt,
   argument-reads.Asked,
@@ -650,9 +650,9 @@ node_type_number_requires_2 : (t : ℕ) → node-lts.Need-type-number-requires-2
   built-reads.Asked,
   built-reads.Learnt,
 ) (node_at t) node.Post
-node_type_number_requires_2 t c κs = let p = c.before.before.before.before.before.requires.1.0 in (p.setup.tabled, (p.type, omega arith))
+node_type_number_requires_2 t c κs = let p = c.requires.1.0 in (p.setup.tabled, (p.type, omega arith))
 
-node_cast_a : (t : ℕ) → node-lts.Need-overflow-cast-a (
+node_cast_a : (t : ℕ) → node-lts.Need-overflow_cast-a (
   type-number-reads.Asked,
   type-number-reads.Learnt,
   argument-reads.Asked,
@@ -686,9 +686,9 @@ node_argument_requires : (t : ℕ) → node-lts.Need-argument-requires (
   built-reads.Asked,
   built-reads.Learnt,
 ) (node_at t) node.Post
-node_argument_requires t c κs = let p = c.before.before.before.before.before.before.before.before.requires.1 in (p.0.setup.tabled, p.0.decl, omega (arith, p.1.0.0.inside, p.1.0.0.room))
+node_argument_requires t c κs = let p = c.requires.1 in (p.0.setup.tabled, p.0.decl, omega (arith, p.1.0.0.inside, p.1.0.0.room))
 
-node_same_length : (t : ℕ) → node-lts.Need-same-length (
+node_same_length : (t : ℕ) → node-lts.Need-shape_of-out-then-kind-eq3 (
   type-number-reads.Asked,
   type-number-reads.Learnt,
   argument-reads.Asked,
@@ -706,7 +706,7 @@ node_same_length : (t : ℕ) → node-lts.Need-same-length (
 ) (node_at t) node.Post
 node_same_length t c = search rules
 
-node_returns : (t : ℕ) → node-lts.Need-returns (
+node_returns : (t : ℕ) → node-lts.Need-returns-then-kind-eq3 (
   type-number-reads.Asked,
   type-number-reads.Learnt,
   argument-reads.Asked,
@@ -723,12 +723,12 @@ node_returns : (t : ℕ) → node-lts.Need-returns (
   built-reads.Learnt,
 ) (node_at t) node.Post
 node_returns t c =
-    let a = c.before.before.before.before.before.before.before.before.before.args in
-    let p = c.before.before.before.before.before.before.before.before.before.requires.1 in
-    let q = sym c.before.before.before.before.type_number.ensures ∙ c.before.before.if1.true in
-    node_var (lines_in a.t.now) a.t.now a.u.now a.y a.d p.0 a.at a.count a.over a.top a.out.now p.1.0.0 a.k _ _ _ a.slots.now (p.1.0.2 q) q c.before.before.before.type-number2.ensures c.argument.ensures.0 c.argument.ensures.1 p.1.1
+    let a = c.args in
+    let p = c.requires.1 in
+    let q = sym c.type_number-kind.ensures ∙ c.if-kind-eq3.true in
+    node_var (lines_in a.t.now) a.t.now a.u.now a.y a.d p.0 a.at a.count a.over a.top a.out.now p.1.0.0 a.k _ _ _ a.slots.now (p.1.0.2 q) q c.type_number-a.ensures c.argument.ensures.0 c.argument.ensures.1 p.1.1
 
-node_args_requires : (t : ℕ) → node-lts.Need-args-requires (
+node_args_requires : (t : ℕ) → node-lts.Need-args-r-requires (
   type-number-reads.Asked,
   type-number-reads.Learnt,
   argument-reads.Asked,
@@ -744,9 +744,9 @@ node_args_requires : (t : ℕ) → node-lts.Need-args-requires (
   built-reads.Asked,
   built-reads.Learnt,
 ) (node_at t) node.Post
-node_args_requires t c κs = let p = c.before.before.before.before.before.before.before.before.before.requires.1 in (omega (arith, c.before.before.before.before.before.before.before.before.before.requires.0), (p.0, (p.1.0.0, p.1.1)))
+node_args_requires t c κs = let p = c.requires.1 in (omega (arith, c.requires.0), (p.0, (p.1.0.0, p.1.1)))
 
-node_same_length_2 : (t : ℕ) → node-lts.Need-same-length-2 (
+node_same_length_2 : (t : ℕ) → node-lts.Need-shape_of-out-then-r-lt-VALUE (
   type-number-reads.Asked,
   type-number-reads.Learnt,
   argument-reads.Asked,
@@ -762,9 +762,9 @@ node_same_length_2 : (t : ℕ) → node-lts.Need-same-length-2 (
   built-reads.Asked,
   built-reads.Learnt,
 ) (node_at t) node.Post
-node_same_length_2 t c = c.before.before.before.before.before.args2.ensures.kept.long
+node_same_length_2 t c = c.args-r.ensures.kept.long
 
-node_same_length_3 : (t : ℕ) → node-lts.Need-same-length-3 (
+node_same_length_3 : (t : ℕ) → node-lts.Need-shape_of-slots-then-r-lt-VALUE (
   type-number-reads.Asked,
   type-number-reads.Learnt,
   argument-reads.Asked,
@@ -782,7 +782,7 @@ node_same_length_3 : (t : ℕ) → node-lts.Need-same-length-3 (
 ) (node_at t) node.Post
 node_same_length_3 t c = search rules
 
-node_returns_2 : (t : ℕ) → node-lts.Need-returns-2 (
+node_returns_2 : (t : ℕ) → node-lts.Need-returns-then-r-lt-VALUE (
   type-number-reads.Asked,
   type-number-reads.Learnt,
   argument-reads.Asked,
@@ -799,11 +799,11 @@ node_returns_2 : (t : ℕ) → node-lts.Need-returns-2 (
   built-reads.Learnt,
 ) (node_at t) node.Post
 node_returns_2 t c =
-    let a = c.before.before.before.before.before.before.before.before.before.before.before.before.before.before.before.args in
-    let p = c.before.before.before.before.before.before.before.before.before.before.before.before.before.before.before.requires.1 in
-    node_stop (lines_in a.t.now) a.t.now a.u.now a.y a.d p.0 a.at a.count a.over a.top a.out.now p.1.0.0 a.k _ _ _ (λ e. c.before.before.before.before.before.before.before.before.if1.false (c.before.before.before.before.before.before.before.before.before.before.type_number.ensures ∙ e)) c.before.before.before.before.before.args2.ensures c.if2.true
+    let a = c.args in
+    let p = c.requires.1 in
+    node_stop (lines_in a.t.now) a.t.now a.u.now a.y a.d p.0 a.at a.count a.over a.top a.out.now p.1.0.0 a.k _ _ _ (λ e. c.if-kind-eq3.false (c.type_number-kind.ensures ∙ e)) c.args-r.ensures c.if-r-lt-VALUE.true
 
-node_kids_requires : (t : ℕ) → node-lts.Need-kids-requires (
+node_kids_requires : (t : ℕ) → node-lts.Need-kids-n-requires (
   type-number-reads.Asked,
   type-number-reads.Learnt,
   argument-reads.Asked,
@@ -819,9 +819,9 @@ node_kids_requires : (t : ℕ) → node-lts.Need-kids-requires (
   built-reads.Asked,
   built-reads.Learnt,
 ) (node_at t) node.Post
-node_kids_requires t c κs = let p = c.before.before.before.before.before.before.before.before.before.before.before.before.before.before.before.requires.1 in (p.0.setup.tabled, p.0.type)
+node_kids_requires t c κs = let p = c.requires.1 in (p.0.setup.tabled, p.0.type)
 
-node_sub_copy : (t : ℕ) → node-lts.Need-overflow-sub-copy (
+node_sub_copy : (t : ℕ) → node-lts.Need-overflow_sub-count (
   type-number-reads.Asked,
   type-number-reads.Learnt,
   argument-reads.Asked,
@@ -837,9 +837,9 @@ node_sub_copy : (t : ℕ) → node-lts.Need-overflow-sub-copy (
   built-reads.Asked,
   built-reads.Learnt,
 ) (node_at t) node.Post
-node_sub_copy t c = c.before.before.before.before.before.before.before.before.before.before.before.before.before.before.before.before.before.before.requires.1.1.0.1
+node_sub_copy t c = c.requires.1.1.0.1
 
-node_add_copy : (t : ℕ) → node-lts.Need-overflow-add-copy (
+node_add_copy : (t : ℕ) → node-lts.Need-overflow_add-at (
   type-number-reads.Asked,
   type-number-reads.Learnt,
   argument-reads.Asked,
@@ -855,9 +855,9 @@ node_add_copy : (t : ℕ) → node-lts.Need-overflow-add-copy (
   built-reads.Asked,
   built-reads.Learnt,
 ) (node_at t) node.Post
-node_add_copy t c = omega (arith, c.before.before.before.before.before.before.before.before.before.before.before.before.before.before.before.before.before.before.requires.1.1.0.0.inside, c.before.before.before.before.before.before.before.before.before.before.before.before.before.before.before.before.before.before.requires.1.1.0.0.room)
+node_add_copy t c = omega (arith, c.requires.1.1.0.0.inside, c.requires.1.1.0.0.room)
 
-node_add_copy_2 : (t : ℕ) → node-lts.Need-overflow-add-copy-2 (
+node_add_copy_2 : (t : ℕ) → node-lts.Need-overflow_add-top (
   type-number-reads.Asked,
   type-number-reads.Learnt,
   argument-reads.Asked,
@@ -873,7 +873,7 @@ node_add_copy_2 : (t : ℕ) → node-lts.Need-overflow-add-copy-2 (
   built-reads.Asked,
   built-reads.Learnt,
 ) (node_at t) node.Post
-node_add_copy_2 t c = omega (arith, c.before.before.before.before.before.before.before.before.before.before.before.before.before.before.before.before.before.before.well-formed.1.1.0, c.before.before.before.before.before.before.before.before.args2.ensures.fit c.before.before.before.if2.false, c.before.before.kids.ensures)
+node_add_copy_2 t c = omega (arith, c.well_formed.1.1.0, c.args-r.ensures.fit c.if-r-lt-VALUE.false, c.kids-n.ensures)
 
 node_copy_requires : (t : ℕ) → node-lts.Need-copy-requires (
   type-number-reads.Asked,
@@ -892,10 +892,10 @@ node_copy_requires : (t : ℕ) → node-lts.Need-copy-requires (
   built-reads.Learnt,
 ) (node_at t) node.Post
 node_copy_requires t c κs =
-    let p = c.before.before.before.before.before.before.before.before.before.before.before.before.before.before.before.before.before.before.requires.1 in
-    (omega (arith, p.1.0.0.inside, p.1.0.1), omega (arith, c.before.before.before.before.before.before.before.before.args2.ensures.fit c.before.before.before.if2.false, c.before.before.kids.ensures, c.before.before.before.before.before.before.before.before.args2.ensures.kept.long))
+    let p = c.requires.1 in
+    (omega (arith, p.1.0.0.inside, p.1.0.1), omega (arith, c.args-r.ensures.fit c.if-r-lt-VALUE.false, c.kids-n.ensures, c.args-r.ensures.kept.long))
 
-node_add_apply : (t : ℕ) → node-lts.Need-overflow-add-apply (
+node_add_apply : (t : ℕ) → node-lts.Need-overflow_add-n (
   type-number-reads.Asked,
   type-number-reads.Learnt,
   argument-reads.Asked,
@@ -911,7 +911,7 @@ node_add_apply : (t : ℕ) → node-lts.Need-overflow-add-apply (
   built-reads.Asked,
   built-reads.Learnt,
 ) (node_at t) node.Post
-node_add_apply t c = omega (arith, c.before.before.before.before.before.before.before.before.before.before.before.before.before.before.before.before.before.before.before.before.before.before.before.before.well-formed.1.1.0, c.before.before.before.before.before.before.before.before.before.before.before.before.before.before.args2.ensures.fit c.before.before.before.before.before.before.before.before.before.if2.false, c.before.before.before.before.before.before.before.before.kids.ensures, c.before.before.before.before.before.before.before.before.before.before.before.before.before.before.before.before.before.before.before.before.before.before.before.before.requires.1.1.0.1, c.before.before.before.before.before.before.before.before.before.before.before.before.before.before.before.before.before.before.before.before.before.before.before.before.requires.1.1.0.0.inside, c.before.before.before.before.before.before.before.before.before.before.before.before.before.before.before.before.before.before.before.before.before.before.before.before.requires.1.1.0.0.room)
+node_add_apply t c = omega (arith, c.well_formed.1.1.0, c.args-r.ensures.fit c.if-r-lt-VALUE.false, c.kids-n.ensures, c.requires.1.1.0.1, c.requires.1.1.0.0.inside, c.requires.1.1.0.0.room)
 
 node_apply_requires : (t : ℕ) → node-lts.Need-apply-requires (
   type-number-reads.Asked,
@@ -930,20 +930,20 @@ node_apply_requires : (t : ℕ) → node-lts.Need-apply-requires (
   built-reads.Learnt,
 ) (node_at t) node.Post
 node_apply_requires t c κs =
-    let a = c.before.before.before.before.before.before.before.before.before.before.before.before.before.before.before.before.before.before.before.before.before.before.before.before.args in
-    let p = c.before.before.before.before.before.before.before.before.before.before.before.before.before.before.before.before.before.before.before.before.before.before.before.before.requires.1 in
-    let w = rw c.before.before.if4.true at c.before.before.before.before.before.copy.ensures in (
-      omega (arith, c.before.before.before.before.before.before.before.before.before.before.before.before.before.before.before.before.before.before.before.before.before.before.before.before.requires.0),
+    let a = c.args in
+    let p = c.requires.1 in
+    let w = rw c.if-copy.true at c.copy.ensures in (
+      omega (arith, c.requires.0),
       (
-        (p.0.setup, omega (arith, c.before.before.before.before.before.before.before.before.before.before.before.before.before.before.before.before.before.before.type-number2.ensures, name_within (lines_in a.t.now) p.0.setup.tabled.passed a.y p.0.type (sym c.before.before.before.before.before.before.before.before.before.before.before.before.before.before.before.before.before.before.before.type_number.ensures ∙ c.before.before.before.before.before.before.before.if3.true))),
+        (p.0.setup, omega (arith, c.type_number-a.ensures, name_within (lines_in a.t.now) p.0.setup.tabled.passed a.y p.0.type (sym c.type_number-kind.ensures ∙ c.if-kind-eq8.true))),
         (
-          joined_args (lines_in a.t.now) a.t.now a.u.now a.y a.d p.0 a.at a.count a.over a.top a.out.now p.1.0.0 a.k _ _ _ (λ e. c.before.before.before.before.before.before.before.before.before.before.before.before.before.before.before.before.before.if1.false (c.before.before.before.before.before.before.before.before.before.before.before.before.before.before.before.before.before.before.before.type_number.ensures ∙ e)) c.before.before.before.before.before.before.before.before.before.before.before.before.before.before.args2.ensures _ c.before.before.before.before.before.before.before.before.kids.ensures c.before.before.before.before.before.before.before.before.before.if2.false p.1.0.1 _ w.0 w.1,
-          c.before.before.before.before.before.before.before.before.before.before.before.before.before.before.args2.ensures.slots,
+          joined_args (lines_in a.t.now) a.t.now a.u.now a.y a.d p.0 a.at a.count a.over a.top a.out.now p.1.0.0 a.k _ _ _ (λ e. c.if-kind-eq3.false (c.type_number-kind.ensures ∙ e)) c.args-r.ensures _ c.kids-n.ensures c.if-r-lt-VALUE.false p.1.0.1 _ w.0 w.1,
+          c.args-r.ensures.slots,
         ),
       ),
     )
 
-node_same_length_4 : (t : ℕ) → node-lts.Need-same-length-4 (
+node_same_length_4 : (t : ℕ) → node-lts.Need-shape_of-out-then-copy (
   type-number-reads.Asked,
   type-number-reads.Learnt,
   argument-reads.Asked,
@@ -960,10 +960,10 @@ node_same_length_4 : (t : ℕ) → node-lts.Need-same-length-4 (
   built-reads.Learnt,
 ) (node_at t) node.Post
 node_same_length_4 t c =
-    let w = rw c.before.before.before.before.before.before.before.if4.true at c.before.before.before.before.before.before.before.before.before.before.copy.ensures in
-    c.before.before.before.before.apply.ensures.kept.long ∙ (w.1.kept.long ∙ c.before.before.before.before.before.before.before.before.before.before.before.before.before.before.before.before.before.before.before.args2.ensures.kept.long)
+    let w = rw c.if-copy.true at c.copy.ensures in
+    c.apply.ensures.kept.long ∙ (w.1.kept.long ∙ c.args-r.ensures.kept.long)
 
-node_same_length_5 : (t : ℕ) → node-lts.Need-same-length-5 (
+node_same_length_5 : (t : ℕ) → node-lts.Need-shape_of-slots-then-copy (
   type-number-reads.Asked,
   type-number-reads.Learnt,
   argument-reads.Asked,
@@ -981,7 +981,7 @@ node_same_length_5 : (t : ℕ) → node-lts.Need-same-length-5 (
 ) (node_at t) node.Post
 node_same_length_5 t c = search rules
 
-node_returns_3 : (t : ℕ) → node-lts.Need-returns-3 (
+node_returns_3 : (t : ℕ) → node-lts.Need-returns-then-copy (
   type-number-reads.Asked,
   type-number-reads.Learnt,
   argument-reads.Asked,
@@ -998,12 +998,12 @@ node_returns_3 : (t : ℕ) → node-lts.Need-returns-3 (
   built-reads.Learnt,
 ) (node_at t) node.Post
 node_returns_3 t c =
-    let a = c.before.before.before.before.before.before.before.before.before.before.before.before.before.before.before.before.before.before.before.before.before.before.before.before.before.before.before.before.before.args in
-    let p = c.before.before.before.before.before.before.before.before.before.before.before.before.before.before.before.before.before.before.before.before.before.before.before.before.before.before.before.before.before.requires.1 in
-    let w = rw c.before.before.before.before.before.before.before.if4.true at c.before.before.before.before.before.before.before.before.before.before.copy.ensures in
-    node_apply (lines_in a.t.now) a.t.now a.u.now a.y a.d p.0 a.at a.count a.over a.top a.out.now p.1.0.0 a.k _ _ _ (λ e. c.before.before.before.before.before.before.before.before.before.before.before.before.before.before.before.before.before.before.before.before.before.before.if1.false (c.before.before.before.before.before.before.before.before.before.before.before.before.before.before.before.before.before.before.before.before.before.before.before.before.type_number.ensures ∙ e)) c.before.before.before.before.before.before.before.before.before.before.before.before.before.before.before.before.before.before.before.args2.ensures _ c.before.before.before.before.before.before.before.before.before.before.before.before.before.kids.ensures c.before.before.before.before.before.before.before.before.before.before.before.before.before.before.if2.false p.1.0.1 _ w.0 w.1 _ _ _ _ (sym c.before.before.before.before.before.before.before.before.before.before.before.before.before.before.before.before.before.before.before.before.before.before.before.before.type_number.ensures ∙ c.before.before.before.before.before.before.before.before.before.before.before.before.if3.true) c.before.before.before.before.before.before.before.before.before.before.before.before.before.before.before.before.before.before.before.before.before.before.before.type-number2.ensures c.before.before.before.before.apply.ensures
+    let a = c.args in
+    let p = c.requires.1 in
+    let w = rw c.if-copy.true at c.copy.ensures in
+    node_apply (lines_in a.t.now) a.t.now a.u.now a.y a.d p.0 a.at a.count a.over a.top a.out.now p.1.0.0 a.k _ _ _ (λ e. c.if-kind-eq3.false (c.type_number-kind.ensures ∙ e)) c.args-r.ensures _ c.kids-n.ensures c.if-r-lt-VALUE.false p.1.0.1 _ w.0 w.1 _ _ _ _ (sym c.type_number-kind.ensures ∙ c.if-kind-eq8.true) c.type_number-a.ensures c.apply.ensures
 
-node_same_length_6 : (t : ℕ) → node-lts.Need-same-length-6 (
+node_same_length_6 : (t : ℕ) → node-lts.Need-shape_of-out-then-kind-eq8 (
   type-number-reads.Asked,
   type-number-reads.Learnt,
   argument-reads.Asked,
@@ -1020,10 +1020,10 @@ node_same_length_6 : (t : ℕ) → node-lts.Need-same-length-6 (
   built-reads.Learnt,
 ) (node_at t) node.Post
 node_same_length_6 t c =
-    let w = rw c.if4.false at c.before.before.before.copy.ensures in
-    ap length w.1 ∙ c.before.before.before.before.before.before.before.before.before.before.before.before.args2.ensures.kept.long
+    let w = rw c.if-copy.false at c.copy.ensures in
+    ap length w.1 ∙ c.args-r.ensures.kept.long
 
-node_same_length_7 : (t : ℕ) → node-lts.Need-same-length-7 (
+node_same_length_7 : (t : ℕ) → node-lts.Need-shape_of-slots-then-kind-eq8 (
   type-number-reads.Asked,
   type-number-reads.Learnt,
   argument-reads.Asked,
@@ -1041,7 +1041,7 @@ node_same_length_7 : (t : ℕ) → node-lts.Need-same-length-7 (
 ) (node_at t) node.Post
 node_same_length_7 t c = search rules
 
-node_returns_4 : (t : ℕ) → node-lts.Need-returns-4 (
+node_returns_4 : (t : ℕ) → node-lts.Need-returns-then-kind-eq8 (
   type-number-reads.Asked,
   type-number-reads.Learnt,
   argument-reads.Asked,
@@ -1058,10 +1058,10 @@ node_returns_4 : (t : ℕ) → node-lts.Need-returns-4 (
   built-reads.Learnt,
 ) (node_at t) node.Post
 node_returns_4 t c =
-    let a = c.before.before.before.before.before.before.before.before.before.before.before.before.before.before.before.before.before.before.before.before.before.before.args in
-    let p = c.before.before.before.before.before.before.before.before.before.before.before.before.before.before.before.before.before.before.before.before.before.before.requires.1 in
-    let w = rw c.if4.false at c.before.before.before.copy.ensures in
-    node_full (lines_in a.t.now) a.t.now a.u.now a.y a.d p.0 a.at a.count a.over a.top a.out.now p.1.0.0 a.k _ _ _ (λ e. c.before.before.before.before.before.before.before.before.before.before.before.before.before.before.before.if1.false (c.before.before.before.before.before.before.before.before.before.before.before.before.before.before.before.before.before.type_number.ensures ∙ e)) c.before.before.before.before.before.before.before.before.before.before.before.before.args2.ensures _ _ c.before.before.before.before.before.before.kids.ensures w.0 w.1
+    let a = c.args in
+    let p = c.requires.1 in
+    let w = rw c.if-copy.false at c.copy.ensures in
+    node_full (lines_in a.t.now) a.t.now a.u.now a.y a.d p.0 a.at a.count a.over a.top a.out.now p.1.0.0 a.k _ _ _ (λ e. c.if-kind-eq3.false (c.type_number-kind.ensures ∙ e)) c.args-r.ensures _ _ c.kids-n.ensures w.0 w.1
 
 node_built_requires : (t : ℕ) → node-lts.Need-built-requires (
   type-number-reads.Asked,
@@ -1079,9 +1079,9 @@ node_built_requires : (t : ℕ) → node-lts.Need-built-requires (
   built-reads.Asked,
   built-reads.Learnt,
 ) (node_at t) node.Post
-node_built_requires t c κs = (omega (arith, c.before.before.before.before.before.before.before.before.args2.ensures.fit c.before.before.before.if2.false, c.before.before.kids.ensures, c.before.before.before.before.before.before.before.before.args2.ensures.kept.long), omega arith)
+node_built_requires t c κs = (omega (arith, c.args-r.ensures.fit c.if-r-lt-VALUE.false, c.kids-n.ensures, c.args-r.ensures.kept.long), omega arith)
 
-node_same_length_8 : (t : ℕ) → node-lts.Need-same-length-8 (
+node_same_length_8 : (t : ℕ) → node-lts.Need-shape_of-out (
   type-number-reads.Asked,
   type-number-reads.Learnt,
   argument-reads.Asked,
@@ -1097,9 +1097,9 @@ node_same_length_8 : (t : ℕ) → node-lts.Need-same-length-8 (
   built-reads.Asked,
   built-reads.Learnt,
 ) (node_at t) node.Post
-node_same_length_8 t c = c.before.before.before.before.before.before.before.before.before.args2.ensures.kept.long
+node_same_length_8 t c = c.args-r.ensures.kept.long
 
-node_same_length_9 : (t : ℕ) → node-lts.Need-same-length-9 (
+node_same_length_9 : (t : ℕ) → node-lts.Need-shape_of-slots (
   type-number-reads.Asked,
   type-number-reads.Learnt,
   argument-reads.Asked,
@@ -1117,7 +1117,7 @@ node_same_length_9 : (t : ℕ) → node-lts.Need-same-length-9 (
 ) (node_at t) node.Post
 node_same_length_9 t c = search rules
 
-node_returns_5 : (t : ℕ) → node-lts.Need-returns-5 (
+node_returns_5 : (t : ℕ) → node-lts.Need-returns (
   type-number-reads.Asked,
   type-number-reads.Learnt,
   argument-reads.Asked,
@@ -1134,68 +1134,68 @@ node_returns_5 : (t : ℕ) → node-lts.Need-returns-5 (
   built-reads.Learnt,
 ) (node_at t) node.Post
 node_returns_5 t c =
-    let a = c.before.before.before.before.before.before.before.before.before.before.before.before.before.before.before.before.before.before.before.args in
-    let p = c.before.before.before.before.before.before.before.before.before.before.before.before.before.before.before.before.before.before.before.requires.1 in
-    node_built (lines_in a.t.now) a.t.now a.u.now a.y a.d p.0 a.at a.count a.over a.top a.out.now p.1.0.0 a.k _ _ _ (λ e. c.before.before.before.before.before.before.before.before.before.before.before.before.if1.false (c.before.before.before.before.before.before.before.before.before.before.before.before.before.before.type_number.ensures ∙ e)) c.before.before.before.before.before.before.before.before.before.args2.ensures _ _ c.before.before.before.before.if2.false c.before.before.before.kids.ensures (λ e. c.before.before.if3.false (c.before.before.before.before.before.before.before.before.before.before.before.before.before.before.type_number.ensures ∙ e)) c.built.ensures
+    let a = c.args in
+    let p = c.requires.1 in
+    node_built (lines_in a.t.now) a.t.now a.u.now a.y a.d p.0 a.at a.count a.over a.top a.out.now p.1.0.0 a.k _ _ _ (λ e. c.if-kind-eq3.false (c.type_number-kind.ensures ∙ e)) c.args-r.ensures _ _ c.if-r-lt-VALUE.false c.kids-n.ensures (λ e. c.if-kind-eq8.false (c.type_number-kind.ensures ∙ e)) c.built.ensures
 
-once_sub_result : (t : ℕ) → once-lts.Need-overflow-sub-result (
+once_sub_result : (t : ℕ) → once-lts.Need-overflow_sub-result (
   node_below t,
   node.Post,
 ) (once_at t) once.Post
-once_sub_result t c = omega (arith, c.before.before.before.before.before.requires.1.1.0.1.behind c.if1.true)
+once_sub_result t c = omega (arith, c.requires.1.1.0.1.behind c.if-y-last.true)
 
-once_mul_result : (t : ℕ) → once-lts.Need-overflow-mul-result (
+once_mul_result : (t : ℕ) → once-lts.Need-offset_bounds-out-top (
   node_below t,
   node.Post,
 ) (once_at t) once.Post
-once_mul_result t c = omega (arith, c.before.before.before.before.before.requires.1.1.0.0.room, c.before.before.before.before.before.well-formed.1.1.0)
+once_mul_result t c = omega (arith, c.requires.1.1.0.0.room, c.well_formed.1.1.0)
 
-once_slice_read_result : (t : ℕ) → once-lts.Need-slice-read-result (
+once_slice_read_result : (t : ℕ) → once-lts.Need-bounds-out-top (
   node_below t,
   node.Post,
 ) (once_at t) once.Post
-once_slice_read_result t c = omega (arith, c.before.before.before.before.before.before.requires.1.1.0.1.behind c.before.if1.true, c.before.before.before.before.before.before.requires.1.1.0.0.room)
+once_slice_read_result t c = omega (arith, c.requires.1.1.0.1.behind c.if-y-last.true, c.requires.1.1.0.0.room)
 
-once_cast_result : (t : ℕ) → once-lts.Need-overflow-cast-result (
+once_cast_result : (t : ℕ) → once-lts.Need-overflow_cast-result (
   node_below t,
   node.Post,
 ) (once_at t) once.Post
-once_cast_result t c = omega (arith, c.slice-known3.given (c.before.before.before.before.before.before.args.top - 1))
+once_cast_result t c = omega (arith, c.slice_known-then-y-last-1.given (c.args.top - 1))
 
-once_returns : (t : ℕ) → once-lts.Need-returns (
+once_returns : (t : ℕ) → once-lts.Need-returns-then-y-last (
   node_below t,
   node.Post,
 ) (once_at t) once.Post
 once_returns t c =
-    let a = c.before.before.before.before.before.before.args in
-    let p = c.before.before.before.before.before.before.requires.1 in
-    node_again (lines_in a.t.now) a.t.now a.u.now a.y a.d p.0 a.at a.count 0 a.top a.out.now p.1.0.0 a.k _ a.last _ a.slots.now refl p.1.0.1 c.before.if1.true refl (omega (arith, c.slice-known3.given (a.top - 1))) p.1.1
+    let a = c.args in
+    let p = c.requires.1 in
+    node_again (lines_in a.t.now) a.t.now a.u.now a.y a.d p.0 a.at a.count 0 a.top a.out.now p.1.0.0 a.k _ a.last _ a.slots.now refl p.1.0.1 c.if-y-last.true refl (omega (arith, c.slice_known-then-y-last-1.given (a.top - 1))) p.1.1
 
 once_node_requires : (t : ℕ) → once-lts.Need-node-requires (
   node_below t,
   node.Post,
 ) (once_at t) once.Post
 once_node_requires t c κs =
-    let p = c.before.before.before.before.before.before.before.requires.1 in
-    (omega (arith, c.before.before.before.before.before.before.before.requires.0), (p.0, ((p.1.0.0, omega arith, λ e. refl), p.1.1)))
+    let p = c.requires.1 in
+    (omega (arith, c.requires.0), (p.0, ((p.1.0.0, omega arith, λ e. refl), p.1.1)))
 
-once_same_length : (t : ℕ) → once-lts.Need-same-length (
+once_same_length : (t : ℕ) → once-lts.Need-shape_of-out (
   node_below t,
   node.Post,
 ) (once_at t) once.Post
-once_same_length t c = c.before.before.before.before.node.ensures.kept.long
+once_same_length t c = c.node.ensures.kept.long
 
-once_same_length_2 : (t : ℕ) → once-lts.Need-same-length-2 (
+once_same_length_2 : (t : ℕ) → once-lts.Need-shape_of-slots (
   node_below t,
   node.Post,
 ) (once_at t) once.Post
 once_same_length_2 t c = search rules
 
-once_returns_2 : (t : ℕ) → once-lts.Need-returns-2 (
+once_returns_2 : (t : ℕ) → once-lts.Need-returns (
   node_below t,
   node.Post,
 ) (once_at t) once.Post
-once_returns_2 t c = c.before.before.before.before.node.ensures
+once_returns_2 t c = c.node.ensures
 
 pub +apply_args_enter_node_once_spec : {M : Type 1} → statement M
 +apply_args_enter_node_once_spec = close μ_apply μ_args μ_enter μ_node μ_once (λ t. apply-lts.spec (

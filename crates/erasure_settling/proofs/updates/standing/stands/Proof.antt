@@ -7,17 +7,17 @@ use Rattle.erasure_settling.proofs.updates.standing.stands.Statement.{statement}
 use Rattle.table_access.specs.Tables.{lines_in}
 use Rattle.erasure_settling.proofs.updates.standing.stands.Tie as tie
 
-returns : tie.Need-returns
-returns c = let a = c.before.before.before.before.before.before.args in stands_still (lines_in a.t.now) a.decl.now a.node.now a.wait.now a.d a.right (inl c.if1.true)
+returns : tie.Need-returns-then-decl-d-eq1
+returns c = let a = c.args in stands_still (lines_in a.t.now) a.decl.now a.node.now a.wait.now a.d a.right (inl c.if-decl-d-eq1.true)
 
-cast-y : tie.Need-overflow-cast-y
-cast-y c = omega (arith, c.shared-slice-known6.given c.before.before.before.before.before.before.before.args.d)
+cast-y : tie.Need-overflow_cast-y
+cast-y c = omega (arith, c.shared_slice_known-6-1.given c.args.d)
 
-returns-2 : tie.Need-returns-2
-returns-2 c = let a = c.before.before.before.before.before.before.before.before.before.before.args in stands_still (lines_in a.t.now) a.decl.now a.node.now a.wait.now a.d a.right (inr (inl (c.before.before.before.before.if1.false, c.before.before.if2.true, c.if3.true)))
+returns-2 : tie.Need-returns-then-node-y-eq0
+returns-2 c = let a = c.args in stands_still (lines_in a.t.now) a.decl.now a.node.now a.wait.now a.d a.right (inr (inl (c.if-decl-d-eq1.false, c.if-y-right.true, c.if-node-y-eq0.true)))
 
-returns-3 : tie.Need-returns-3
-returns-3 c = let a = c.before.before.before.before.before.before.before.before.before.args in stands_import (lines_in a.t.now) a.decl.now a.node.now a.wait.now a.d a.right _ c.before.before.before.if1.false c.is-import.ensures
+returns-3 : tie.Need-returns
+returns-3 c = let a = c.args in stands_import (lines_in a.t.now) a.decl.now a.node.now a.wait.now a.d a.right _ c.if-decl-d-eq1.false c.is_import.ensures
 
 pub stands_spec : {M : Type 1} → statement M
 stands_spec =
