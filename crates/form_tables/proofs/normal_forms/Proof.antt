@@ -9,7 +9,7 @@ use Rattle.form_tables.proofs.normal_forms.Tie as tie
 
 bounded-requires : tie.Need-bounded-requires
 bounded-requires c κs =
-    let p = c.before.before.before.before.before.before.before.before.before.requires in
+    let p = c.requires in
     let n = decls_within base _ p.2 in
     ((p.0, p.1), ((omega (arith, n), omega (arith, n)), zeros 96))
 

@@ -13,70 +13,70 @@ use Rattle.table_declared.specs.PassedLaws.{decls_few}
 use Rattle.form_tables.proofs.ranked.Statement.{statement}
 use Rattle.form_tables.proofs.ranked.Tie as tie
 
-abbrev invariant-loop : tie.invariant-loop
+abbrev invariant-loop : tie.invariant-loop-r
 invariant-loop t u rank start end f₀ scratch₀ n p₀ r₀ f scratch p r =
     (r ≤ n) × (length f ≡ length f₀) × (length scratch ≡ length scratch₀) × Table (lines_in t) u f p (Done (lines_in t) u rank r 0)
 
-abbrev decreases-loop : tie.decreases-loop
+abbrev decreases-loop : tie.decreases-loop-r
 decreases-loop t u rank start end f₀ scratch₀ n p₀ r₀ f scratch p r = n - r
 
-decls-requires : tie.Need-decls-requires invariant-loop decreases-loop
-decls-requires c κs = c.before.before.before.before.before.before.before.requires.0.0.tabled
+decls-requires : tie.Need-decls-n-requires invariant-loop decreases-loop
+decls-requires c κs = c.requires.0.0.tabled
 
-mul-clear : tie.Need-overflow-mul-clear invariant-loop decreases-loop
-mul-clear c = omega (arith, c.before.decls.ensures, decls_few (lines_in c.before.before.before.before.before.before.before.before.before.args.t.now) c.before.before.before.before.before.before.before.before.before.requires.0.0.tabled.passed)
+mul-clear : tie.Need-overflow_mul-n invariant-loop decreases-loop
+mul-clear c = omega (arith, c.decls-n.ensures, decls_few (lines_in c.args.t.now) c.requires.0.0.tabled.passed)
 
 clear-requires : tie.Need-clear-requires invariant-loop decreases-loop
-clear-requires c κs = omega (arith, c.before.decls.ensures, c.before.before.before.before.before.before.before.before.before.requires.0.1)
+clear-requires c κs = omega (arith, c.decls-n.ensures, c.requires.0.1)
 
-mul-p : tie.Need-overflow-mul-p invariant-loop decreases-loop
-mul-p c = omega (arith, c.before.before.before.before.decls.ensures, decls_few (lines_in c.before.before.before.before.before.before.before.before.before.before.before.before.args.t.now) c.before.before.before.before.before.before.before.before.before.before.before.before.requires.0.0.tabled.passed)
+mul-p : tie.Need-overflow_mul-p invariant-loop decreases-loop
+mul-p c = omega (arith, c.decls-n.ensures, decls_few (lines_in c.args.t.now) c.requires.0.0.tabled.passed)
 
-loop-holds : tie.Need-loop-init invariant-loop decreases-loop
+loop-holds : tie.Need-loop-r-init invariant-loop decreases-loop
 loop-holds c =
-    let a = c.before.before.before.before.before.before.before.before.before.before.before.before.args in
-    let p = c.before.before.before.before.before.before.before.before.before.before.before.before.requires in
-    let e = c.before.before.before.before.decls.ensures in
-    let l : length c.before.before.clear.new.0 ≡ length a.f.now = search rules in (
+    let a = c.args in
+    let p = c.requires in
+    let e = c.decls-n.ensures in
+    let l : length c.clear.new.f ≡ length a.f.now = search rules in (
       omega arith,
       refl,
       refl,
-      subst (λ (i : ℕ). Table (lines_in a.t.now) a.u.now c.before.before.clear.new.0 (2 * i) (Done (lines_in a.t.now) a.u.now a.rank.now 0 0)) (sym e)
-          (first_table (lines_in a.t.now) a.t.now a.u.now a.rank.now p.0.0 c.before.before.clear.new.0 (omega (arith, l, p.0.1)) (λ i h. c.before.before.clear.ensures i (omega (arith, e)))),
+      subst (λ (i : ℕ). Table (lines_in a.t.now) a.u.now c.clear.new.f (2 * i) (Done (lines_in a.t.now) a.u.now a.rank.now 0 0)) (sym e)
+          (first_table (lines_in a.t.now) a.t.now a.u.now a.rank.now p.0.0 c.clear.new.f (omega (arith, l, p.0.1)) (λ i h. c.clear.ensures i (omega (arith, e)))),
     )
 
-forms-of-rank-requires : tie.Need-forms-of-rank-requires invariant-loop decreases-loop
+forms-of-rank-requires : tie.Need-forms_of_rank-p-requires invariant-loop decreases-loop
 forms-of-rank-requires c κs =
-    let a = c.before.before.before.before.before.before.before.before.before.before.before.before.before.before.before.before.before.before.args in
-    let p = c.before.before.before.before.before.before.before.before.before.before.before.before.before.before.before.before.before.before.requires in
-    let q = c.before.before.before.before.loop-test.true in
-    let e = c.before.before.before.before.before.before.before.before.before.before.decls.ensures in
-    ((p.0.0, c.before.before.before.before.before.loop.invariant.3), within a.rank.now _ _ a.start.now a.end.now p.1.0.0 p.1.0.1 p.0.0.ranks (omega (arith, q, e, p.1.1.0)) (omega (arith, q, e, p.1.1.1)))
+    let a = c.args in
+    let p = c.requires in
+    let q = c.loop-r-test.true in
+    let e = c.decls-n.ensures in
+    ((p.0.0, c.loop-r.invariant.3), within a.rank.now _ _ a.start.now a.end.now p.1.0.0 p.1.0.1 p.0.0.ranks (omega (arith, q, e, p.1.1.0)) (omega (arith, q, e, p.1.1.1)))
 
-returns : tie.Need-returns invariant-loop decreases-loop
+returns : tie.Need-returns-then-p-f invariant-loop decreases-loop
 returns c =
-    let a = c.before.before.before.before.before.before.before.before.before.before.before.before.before.before.before.before.before.before.before.before.before.before.before.before.args in
-    let p = c.before.before.before.before.before.before.before.before.before.before.before.before.before.before.before.before.before.before.before.before.before.before.before.before.requires in
-    let s = c.before.before.before.before.before.before.before.before.before.before.before.loop in
-    let x = c.before.before.before.before.before.forms-of-rank.ensures in
+    let a = c.args in
+    let p = c.requires in
+    let s = c.loop-r in
+    let x = c.forms_of_rank-p.ensures in
     let l : length s.f ≡ length a.f.now = search rules in
-    formed_stop (lines_in a.t.now) a.t.now a.u.now a.rank.now p.0.0 s.r _ _ _ a.f.now _ _ _ l s.invariant.2 (omega (arith, c.if1.true, x.same, l)) x
+    formed_stop (lines_in a.t.now) a.t.now a.u.now a.rank.now p.0.0 s.r _ _ _ a.f.now _ _ _ l s.invariant.2 (omega (arith, c.if-p-f.true, x.same, l)) x
 
-loop-again : tie.Need-loop-preserved invariant-loop decreases-loop
+loop-again : tie.Need-loop-r-preserved invariant-loop decreases-loop
 loop-again c =
-    let a = c.before.before.before.before.before.before.before.before.before.before.before.before.before.before.before.before.before.before.before.before.before.before.before.before.args in
-    let p = c.before.before.before.before.before.before.before.before.before.before.before.before.before.before.before.before.before.before.before.before.before.before.before.before.requires in
-    let s = c.before.before.before.before.before.before.before.before.before.before.before.loop in
-    let x = c.before.before.before.before.before.forms-of-rank.ensures in
-    (omega (arith, c.before.before.before.before.before.before.before.before.before.before.loop-test.true), x.same ∙ s.invariant.1, search rules, next_rank (lines_in a.t.now) a.t.now a.u.now a.rank.now p.0.0 s.r _ _ (x.table (omega (arith, c.if1.false, x.same))))
+    let a = c.args in
+    let p = c.requires in
+    let s = c.loop-r in
+    let x = c.forms_of_rank-p.ensures in
+    (omega (arith, c.loop-r-test.true), x.same ∙ s.invariant.1, search rules, next_rank (lines_in a.t.now) a.t.now a.u.now a.rank.now p.0.0 s.r _ _ (x.table (omega (arith, c.if-p-f.false, x.same))))
 
-returns-2 : tie.Need-returns-2 invariant-loop decreases-loop
+returns-2 : tie.Need-returns invariant-loop decreases-loop
 returns-2 c =
-    let a = c.before.before.before.before.before.before.before.before.before.before.before.before.before.before.args in
-    let p = c.before.before.before.before.before.before.before.before.before.before.before.before.before.before.requires in
-    let s = c.before.loop in
+    let a = c.args in
+    let p = c.requires in
+    let s = c.loop-r in
     let l : length s.f ≡ length a.f.now = search rules in
-    formed_done (lines_in a.t.now) a.t.now a.u.now a.rank.now p.0.0 _ a.f.now s.f s.r s.p (omega (arith, c.loop-test.false, s.invariant.0, c.before.before.before.before.before.before.decls.ensures)) l s.invariant.3
+    formed_done (lines_in a.t.now) a.t.now a.u.now a.rank.now p.0.0 _ a.f.now s.f s.r s.p (omega (arith, c.loop-r-test.false, s.invariant.0, c.decls-n.ensures)) l s.invariant.3
 
 pub ranked_spec : {M : Type 1} → statement M
 ranked_spec =
@@ -89,18 +89,18 @@ ranked_spec =
     clear-requires
     mul-p
     loop-holds
-    (λ c. omega (arith, c.loop-test.true, c.before.before.before.before.before.before.decls.ensures, decls_few (lines_in c.before.before.before.before.before.before.before.before.before.before.before.before.before.before.args.t.now) c.before.before.before.before.before.before.before.before.before.before.before.before.before.before.requires.0.0.tabled.passed))
-    (λ c. omega (arith, c.before.loop-test.true, c.before.before.before.before.before.before.before.decls.ensures, c.before.before.before.before.before.before.before.before.before.before.before.before.before.before.before.requires.1.1.0))
-    (λ c. omega (arith, c.shared-slice-known6.given c.before.before.loop.r))
-    (λ c. omega (arith, c.before.loop-test.true, c.before.before.before.before.before.before.before.decls.ensures, decls_few (lines_in c.before.before.before.before.before.before.before.before.before.before.before.before.before.before.before.args.t.now) c.before.before.before.before.before.before.before.before.before.before.before.before.before.before.before.requires.0.0.tabled.passed))
-    (λ c. omega (arith, c.before.before.loop-test.true, c.before.before.before.before.before.before.before.before.decls.ensures, c.before.before.before.before.before.before.before.before.before.before.before.before.before.before.before.before.requires.1.1.1))
-    (λ c. omega (arith, c.shared-slice-known7.given c.before.before.before.loop.r))
+    (λ c. omega (arith, c.loop-r-test.true, c.decls-n.ensures, decls_few (lines_in c.args.t.now) c.requires.0.0.tabled.passed))
+    (λ c. omega (arith, c.loop-r-test.true, c.decls-n.ensures, c.requires.1.1.0))
+    (λ c. omega (arith, c.shared_slice_known-in-loop-r-1.given c.loop-r.r))
+    (λ c. omega (arith, c.loop-r-test.true, c.decls-n.ensures, decls_few (lines_in c.args.t.now) c.requires.0.0.tabled.passed))
+    (λ c. omega (arith, c.loop-r-test.true, c.decls-n.ensures, c.requires.1.1.1))
+    (λ c. omega (arith, c.shared_slice_known-in-loop-r-2-1.given c.loop-r.r))
     forms-of-rank-requires
     (λ c. search rules)
     (λ c. search rules)
     returns
     (λ c. search rules)
-    (λ c. omega (arith, c.before.before.before.before.before.before.before.before.before.before.loop-test.true))
+    (λ c. omega (arith, c.loop-r-test.true))
     loop-again
     (λ c. search rules)
     (λ c. search rules)

@@ -9,24 +9,24 @@ use Rattle.input_table.specs.TableLaws.{checked_lines, refuses_of, refusal_is, f
 use Rattle.input_table.proofs.tabled.Statement.{statement}
 use Rattle.input_table.proofs.tabled.Tie as tie
 
-filled-requires : tie.Need-filled-requires
+filled-requires : tie.Need-filled-cells-requires
 filled-requires c κs =
-    let s = c.before.before.before.before.before.before.before.before.before.before in
-    let r = c.before.before.before.before.before.before.check-rows in
-    checked_lines s.args.s.now s.args.t.now r.result s.requires.0 (11 + length s.args.s.now / 32 * 6) r.new.1.0 r.ensures c.before.enum_told.given.1 (search rules) (omega (arith, s.requires.1))
+    let s = c in
+    let r = c.check_rows-checked in
+    checked_lines s.args.s.now s.args.t.now c.check_rows-checked.result s.requires.0 (11 + length s.args.s.now / 32 * 6) c.check_rows-checked.new.t c.check_rows-checked.ensures c.in-Accepted.is (search rules) (omega (arith, s.requires.1))
 
 refused-requires : tie.Need-refused-requires
 refused-requires c κs =
-    let s = c.before.before.before.before.before.before.before.before.before.before.before in
-    let r = c.before.before.before.before.before.before.before.check-rows in
-    refuses_of s.args.s.now _ _ _ s.requires.0 (ap (λ (k : Checked). k.refusal) (sym r.ensures.answer) ∙ c.before.before.refusal.given.1) (search rules)
+    let s = c in
+    let r = c.check_rows-checked in
+    refuses_of s.args.s.now _ _ _ s.requires.0 (ap (λ (k : Checked). k.refusal) (sym c.check_rows-checked.ensures.answer) ∙ c.in-Refused.is) (search rules)
 
-returns : tie.Need-returns
+returns : tie.Need-returns-in-Accepted
 returns c =
-    let s = c.before.before.before.before.before.before.before.before.before.before.before.before.before in
-    let r = c.before.before.before.before.before.before.before.before.before.check-rows in
-    let sheet = sym (refusal_is s.args.s.now r.result r.ensures.answer) ∙ c.before.before.before.before.enum_told.given.1 in
-    fronted_all s.args.s.now _ _ s.requires.0 sheet (omega (arith, s.requires.1, c.before.before.before.before.before.before.before.before.t.given.1)) _ c.before.before.filled.ensures _ refl
+    let s = c in
+    let r = c.check_rows-checked in
+    let sheet = sym (refusal_is s.args.s.now c.check_rows-checked.result c.check_rows-checked.ensures.answer) ∙ c.in-Accepted.is in
+    fronted_all s.args.s.now _ _ s.requires.0 sheet (omega (arith, s.requires.1, c.t-1.given.1)) _ c.filled-cells.ensures _ refl
 
 pub tabled_spec : {M : Type 1} → statement M
 tabled_spec =

@@ -8,35 +8,35 @@ use Rattle.left_ctors.proofs.put_ctor.Statement.{statement}
 use Rattle.table_access.specs.Tables.{lines_in}
 use Rattle.left_ctors.proofs.put_ctor.Tie as tie
 
-count-kept-requires : tie.Need-count-kept-requires
+count-kept-requires : tie.Need-count_kept-m-requires
 count-kept-requires c κs =
-    let z = c.before.before.before.before.before.before.before.before.before in
-    omega (arith, c.before.ctor-number.ensures, z.requires.0.0.inside, z.requires.0.0.long)
+    let z = c in
+    omega (arith, c.ctor_number-n.ensures, z.requires.0.0.inside, z.requires.0.0.long)
 
-cast-t16 : tie.Need-overflow-cast-t16
+cast-t16 : tie.Need-overflow_cast-m
 cast-t16 c =
-    let z = c.before.before.before.before.before.before.before.before.before.before.before in
+    let z = c in
     let a = z.args in
-    omega (arith, c.before.count_kept.ensures, kept_few a.keep.now a.i c.before.before.before.ctor-number.result, c.before.before.before.ctor-number.ensures, z.requires.0.0.inside, fields_few (lines_in a.t.now) z.requires.0.0.tabled.passed)
+    omega (arith, c.count_kept-m.ensures, kept_few a.keep.now a.i c.ctor_number-n.result, c.ctor_number-n.ensures, z.requires.0.0.inside, fields_few (lines_in a.t.now) z.requires.0.0.tabled.passed)
 
-put-line-requires : tie.Need-put-line-requires
+put-line-requires : tie.Need-put_line-q-requires
 put-line-requires c κs =
-    let z = c.before.before.before.before.before.before.before.before.before.before.before in
+    let z = c in
     let a = z.args in
-    ctor_line_room (lines_in a.t.now) a.keep.now a.d a.c a.i _ c.before.before.before.ctor-number.result _ a.p a.p a.out.now a.out.now z.requires.1.1 c.before.before.ctor-number2.ensures c.before.before.before.ctor-number.ensures c.before.count_kept.ensures
+    ctor_line_room (lines_in a.t.now) a.keep.now a.d a.c a.i _ c.ctor_number-n.result _ a.p a.p a.out.now a.out.now z.requires.1.1 c.ctor_number-name.ensures c.ctor_number-n.ensures c.count_kept-m.ensures
 
-put-fields-requires : tie.Need-put-fields-requires
+put-fields-requires : tie.Need-put_fields-requires
 put-fields-requires c κs =
-    let z = c.before.before.before.before.before.before.before.before.before.before.before.before.before.before.before.before.before in
+    let z = c in
     let a = z.args in
-    let e = c.before.before.before.before.before.before.before.before.before.ctor-number.ensures in
-    (rw e z.requires.0.0, (z.requires.1.0, ctor_fields_room (lines_in a.t.now) a.keep.now a.d a.c a.i _ c.before.before.before.before.before.before.before.before.before.ctor-number.result _ a.p c.before.before.before.before.before.put_line.result a.out.now _ z.requires.1.1 c.before.before.before.before.before.before.before.before.ctor-number2.ensures e c.before.before.before.before.before.before.before.count_kept.ensures c.before.before.before.before.before.put_line.ensures))
+    let e = c.ctor_number-n.ensures in
+    (rw e z.requires.0.0, (z.requires.1.0, ctor_fields_room (lines_in a.t.now) a.keep.now a.d a.c a.i _ c.ctor_number-n.result _ a.p c.put_line-q.result a.out.now _ z.requires.1.1 c.ctor_number-name.ensures e c.count_kept-m.ensures c.put_line-q.ensures))
 
 returns : tie.Need-returns
 returns c =
-    let z = c.before.before.before.before.before.before.before.before.before.before.before.before.before.before.before.before.before.before.before.before.before.before.before.before in
+    let z = c in
     let a = z.args in
-    ctor_writes (lines_in a.t.now) a.keep.now a.d a.c a.i _ c.before.before.before.before.before.before.before.before.before.before.before.before.before.before.before.before.ctor-number.result _ a.p c.before.before.before.before.before.before.before.before.before.before.before.before.put_line.result a.out.now _ z.requires.1.1 c.before.before.before.before.before.before.before.before.before.before.before.before.before.before.before.ctor-number2.ensures c.before.before.before.before.before.before.before.before.before.before.before.before.before.before.before.before.ctor-number.ensures c.before.before.before.before.before.before.before.before.before.before.before.before.before.before.count_kept.ensures c.before.before.before.before.before.before.before.before.before.before.before.before.put_line.ensures _ _ c.before.before.before.before.before.before.put-fields.ensures
+    ctor_writes (lines_in a.t.now) a.keep.now a.d a.c a.i _ c.ctor_number-n.result _ a.p c.put_line-q.result a.out.now _ z.requires.1.1 c.ctor_number-name.ensures c.ctor_number-n.ensures c.count_kept-m.ensures c.put_line-q.ensures _ _ c.put_fields.ensures
 
 pub put_ctor_spec : {M : Type 1} → statement M
 put_ctor_spec =

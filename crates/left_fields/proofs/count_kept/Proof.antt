@@ -1,6 +1,6 @@
 -- `left_fields::count_kept` meets its contract: after j turns the kept ones of the first j F lines are counted. Assumes nothing.
 use mathlib.Core.Path.{◌≡◌, refl, ◌∙◌, ap}
-use mathlib.Core.Logic.{⊎_elim}
+use Rattle.left_fields.proofs.count_kept.Lts.{then-keep-i-eq1, else-keep-i-eq1}
 use Prim.Native.Nat.{ℕ, ◌+◌, ◌-◌, ◌≤◌}
 use Rattle.left_fields.specs.Fields.{kept_count}
 use Rattle.left_fields.specs.FieldsLaws.{kept_few, count_yes, count_no}
@@ -30,8 +30,10 @@ loop-again c =
     let a = c.args in
     let l = c.loop-j in (
       omega arith,
-      ⊎_elim (λ w. w.1 ∙ (ap (λ (x : ℕ). x + 1) l.invariant.1 ∙ count_yes a.keep.now a.i l.j w.0.taken))
-          (λ w. w.1 ∙ (l.invariant.1 ∙ count_no a.keep.now a.i l.j w.0.left)) c.if-keep-i-eq1.branch,
+      elim c.if-keep-i-eq1.branch [
+    then-keep-i-eq1 w ↦ w.m-is ∙ (ap (λ (x : ℕ). x + 1) l.invariant.1 ∙ count_yes a.keep.now a.i l.j w.if-keep-i-eq1.true)
+    | else-keep-i-eq1 w ↦ w.m-is ∙ (l.invariant.1 ∙ count_no a.keep.now a.i l.j w.if-keep-i-eq1.false)
+    ],
     )
 
 returns : tie.Need-returns invariant-loop decreases-loop

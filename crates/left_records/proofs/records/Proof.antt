@@ -13,53 +13,53 @@ use borrow.Author.Rules.{rules}
 use Rattle.left_records.proofs.records.Statement.{statement}
 use Rattle.left_records.proofs.records.Tie as tie
 
-abbrev invariant-loop : tie.invariant-loop
+abbrev invariant-loop : tie.invariant-loop-d
 invariant-loop t u f keep left records₀ n d₀ records d =
     (d ≤ n) × (n ≡ decls_of (lines_in t)) × (length records ≡ length records₀) × ((e : ℕ) → e < d → get_or records e 0 ≡ bit (record_of (left_at 100 (program (lines_in t)) e)))
 
-abbrev decreases-loop : tie.decreases-loop
+abbrev decreases-loop : tie.decreases-loop-d
 decreases-loop t u f keep left records₀ n d₀ records d = n - d
 
-decls-requires : tie.Need-decls-requires invariant-loop decreases-loop
-decls-requires c κs = c.before.before.before.before.before.before.requires.0.0.tabled
+decls-requires : tie.Need-decls-n-requires invariant-loop decreases-loop
+decls-requires c κs = c.requires.0.0.tabled
 
-loop-holds : tie.Need-loop-init invariant-loop decreases-loop
-loop-holds c = (omega arith, c.decls.ensures, refl, λ e h. absurd (omega arith))
+loop-holds : tie.Need-loop-d-init invariant-loop decreases-loop
+loop-holds c = (omega arith, c.decls-n.ensures, refl, λ e h. absurd (omega arith))
 
-record-of-requires : tie.Need-record-of-requires invariant-loop decreases-loop
+record-of-requires : tie.Need-record_of-requires invariant-loop decreases-loop
 record-of-requires c κs =
-    let p = c.before.before.before.before.before.before.before.before.before.requires in
-    ((p.0.0.tabled, omega (arith, c.loop-test.true, c.before.loop.invariant.1)), (p.1.0, omega (arith, c.loop-test.true, c.before.loop.invariant.1, p.0.1.long)))
+    let p = c.requires in
+    ((p.0.0.tabled, omega (arith, c.loop-d-test.true, c.loop-d.invariant.1)), (p.1.0, omega (arith, c.loop-d-test.true, c.loop-d.invariant.1, p.0.1.long)))
 
-slice-write-records : tie.Need-slice-write-records invariant-loop decreases-loop
-slice-write-records c = omega (arith, c.before.before.loop-test.true, c.before.before.before.loop.invariant.1, c.before.before.before.loop.invariant.2, c.before.before.before.before.before.before.before.before.before.before.before.requires.1.1)
+slice-write-records : tie.Need-bounds-records-d invariant-loop decreases-loop
+slice-write-records c = omega (arith, c.loop-d-test.true, c.loop-d.invariant.1, c.loop-d.invariant.2, c.requires.1.1)
 
-add-d : tie.Need-overflow-add-d invariant-loop decreases-loop
-add-d c = omega (arith, c.before.before.loop-test.true, c.before.before.before.loop.invariant.1, decls_few (lines_in c.before.before.before.before.before.before.before.before.before.before.before.args.t.now) c.before.before.before.before.before.before.before.before.before.before.before.requires.0.0.tabled.passed)
+add-d : tie.Need-overflow_step-d invariant-loop decreases-loop
+add-d c = omega (arith, c.loop-d-test.true, c.loop-d.invariant.1, decls_few (lines_in c.args.t.now) c.requires.0.0.tabled.passed)
 
-loop-less : tie.Need-loop-smaller invariant-loop decreases-loop
-loop-less c = omega (arith, c.before.before.loop-test.true)
+loop-less : tie.Need-loop-d-smaller invariant-loop decreases-loop
+loop-less c = omega (arith, c.loop-d-test.true)
 
-loop-again : tie.Need-loop-preserved invariant-loop decreases-loop
+loop-again : tie.Need-loop-d-preserved invariant-loop decreases-loop
 loop-again c =
-    let a = c.before.before.before.before.before.before.before.before.before.before.before.args in
-    let p = c.before.before.before.before.before.before.before.before.before.before.before.requires in
-    let l = c.before.before.before.loop in
-    let h : l.d < decls_of (lines_in a.t.now) = omega (arith, c.before.before.loop-test.true, l.invariant.1) in (
-      omega (arith, c.before.before.loop-test.true),
+    let a = c.args in
+    let p = c.requires in
+    let l = c.loop-d in
+    let h : l.d < decls_of (lines_in a.t.now) = omega (arith, c.loop-d-test.true, l.invariant.1) in (
+      omega (arith, c.loop-d-test.true),
       l.invariant.1,
       length-set l.records l.d c.bit.result ∙ l.invariant.2,
       number_more (λ e. bit (record_of (left_at 100 (program (lines_in a.t.now)) e))) l.records l.d (omega (arith, l.invariant.2, p.1.1)) l.invariant.3 c.bit.result
-          (c.bit.ensures ∙ ap bit (c.before.record_of.ensures ∙ record_is (lines_in a.t.now) a.t.now a.u.now a.f.now a.keep.now a.left.now p.0.0 p.0.1 l.d h)),
+          (c.bit.ensures ∙ ap bit (c.record_of.ensures ∙ record_is (lines_in a.t.now) a.t.now a.u.now a.f.now a.keep.now a.left.now p.0.0 p.0.1 l.d h)),
     )
 
-same_length : tie.Need-same-length invariant-loop decreases-loop
-same_length c = c.before.loop.invariant.2
+same_length : tie.Need-shape_of-records invariant-loop decreases-loop
+same_length c = c.loop-d.invariant.2
 
 returns : tie.Need-returns invariant-loop decreases-loop
 returns c =
-    let l = c.before.loop in
-    record { long = omega (arith, l.invariant.2, c.before.before.before.before.before.before.before.before.before.requires.1.1); numbers = λ d h. l.invariant.3 d (omega (arith, c.loop-test.false, l.invariant.1)) }
+    let l = c.loop-d in
+    record { long = omega (arith, l.invariant.2, c.requires.1.1); numbers = λ d h. l.invariant.3 d (omega (arith, c.loop-d-test.false, l.invariant.1)) }
 
 pub records_spec : {M : Type 1} → statement M
 records_spec =

@@ -90,7 +90,7 @@ returns-7 : tie.Need-returns-else-kind-lt7
 returns-7 c =
     let p = c.requires in
     let r = c.in_default-1.rest in
-    absurd (kind_some _ p.0.passed _ p.1.1 _ c.type_number-kind.ensures c.if-kind-lt7.false r.0.0.0.0.1 r.0.0.0.1 r.0.0.1 r.0.1 r.1)
+    absurd (kind_some _ p.0.passed _ p.1.1 _ c.type_number-kind.ensures c.if-kind-lt7-1.false r.0.0.0.0.1 r.0.0.0.1 r.0.0.1 r.0.1 r.1)
 
 pub add_line_spec : {M : Type 1} → statement M
 add_line_spec =

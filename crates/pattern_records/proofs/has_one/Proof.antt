@@ -8,21 +8,21 @@ use Rattle.collapse_newtypes.specs.Newtypes.{one_ctor}
 use Rattle.pattern_records.proofs.has_one.Statement.{statement}
 use Rattle.pattern_records.proofs.has_one.Tie as tie
 
-returns : tie.Need-returns
+returns : tie.Need-returns-then-kind-eq2
 unfolding one_ctor
-returns c = rw (sym c.before.decl-number.ensures ∙ c.if1.true)
+returns c = rw (sym c.decl_number-kind.ensures ∙ c.if-kind-eq2.true)
 
-returns-2 : tie.Need-returns-2
+returns-2 : tie.Need-returns-then-kind-eq3
 unfolding one_ctor
-returns-2 c = rw (sym c.before.before.before.decl-number.ensures ∙ c.before.if2.true, c.decl-number2.ensures)
+returns-2 c = rw (sym c.decl_number-kind.ensures ∙ c.if-kind-eq3.true, c.decl_number.ensures)
 
-returns-3 : tie.Need-returns-3
+returns-3 : tie.Need-returns
 unfolding one_ctor
 returns-3 c =
-    let a = c.before.before.before.before.args in
-    let e = c.before.before.decl-number.ensures in
+    let a = c.args in
+    let e = c.decl_number-kind.ensures in
     let k = body_kind (lines_in a.t.now) a.d in
-    rw (ne_eqb k 2 (λ z. c.before.if1.false (e ∙ z)), ne_eqb k 3 (λ z. c.if2.false (e ∙ z)))
+    rw (ne_eqb k 2 (λ z. c.if-kind-eq2.false (e ∙ z)), ne_eqb k 3 (λ z. c.if-kind-eq3.false (e ∙ z)))
 
 pub has_one_spec : {M : Type 1} → statement M
 has_one_spec = tie.close (tie.spec (λ c κs. search rules) returns (λ c κs. search rules) returns-2 returns-3)

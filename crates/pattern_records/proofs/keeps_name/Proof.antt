@@ -7,19 +7,19 @@ use Rattle.pattern_records.specs.RecordsLaws.{keeps_none, keeps_zero, keeps_othe
 use Rattle.pattern_records.proofs.keeps_name.Statement.{statement}
 use Rattle.pattern_records.proofs.keeps_name.Tie as tie
 
-returns : tie.Need-returns
-returns c = let a = c.before.before.before.before.args in keeps_none (lines_in a.t.now) a.keep.now a.f a.x c.if1.true
+returns : tie.Need-returns-then-keep-f-ne1
+returns c = let a = c.args in keeps_none (lines_in a.t.now) a.keep.now a.f a.x c.if-keep-f-ne1.true
 
-returns-2 : tie.Need-returns-2
-returns-2 c = let a = c.before.before.before.before.before.args in keeps_zero (lines_in a.t.now) a.keep.now a.f a.x c.if2.true
+returns-2 : tie.Need-returns-then-x-eq0
+returns-2 c = let a = c.args in keeps_zero (lines_in a.t.now) a.keep.now a.f a.x c.if-x-eq0.true
 
-sub-result : tie.Need-overflow-sub-result
-sub-result c = omega (arith, c.before.if2.false)
+sub-result : tie.Need-overflow_sub-result
+sub-result c = omega (arith, c.if-x-eq0.false)
 
-returns-3 : tie.Need-returns-3
+returns-3 : tie.Need-returns
 returns-3 c =
-    let a = c.before.before.before.before.before.before.args in
-    rw c.field-number.ensures (keeps_other (lines_in a.t.now) a.keep.now a.f a.x c.before.before.if1.false c.before.if2.false)
+    let a = c.args in
+    rw c.field_number.ensures (keeps_other (lines_in a.t.now) a.keep.now a.f a.x c.if-keep-f-ne1.false c.if-x-eq0.false)
 
 pub keeps_name_spec : {M : Type 1} → statement M
 keeps_name_spec = tie.close (tie.spec (λ c. search rules) returns returns-2 (λ c κs. search rules) sub-result returns-3)

@@ -9,34 +9,34 @@ use Rattle.pattern_records.specs.RecordsLaws.{names_past, names_more}
 use Rattle.pattern_records.proofs.names_kept.Statement.{statement}
 use Rattle.pattern_records.proofs.names_kept.Tie as tie
 
-abbrev invariant-loop : tie.invariant-loop
+abbrev invariant-loop : tie.invariant-loop-f
 invariant-loop t keep from end x f₀ f = names_kept (lines_in t) keep from (end - from) x ≡ names_kept (lines_in t) keep f (end - f) x
 
-abbrev decreases-loop : tie.decreases-loop
+abbrev decreases-loop : tie.decreases-loop-f
 decreases-loop t keep from end x f₀ f = end - f
 
-loop-holds : tie.Need-loop-init invariant-loop decreases-loop
+loop-holds : tie.Need-loop-f-init invariant-loop decreases-loop
 loop-holds c = refl
 
-returns : tie.Need-returns invariant-loop decreases-loop
+returns : tie.Need-returns-then-keeps_name invariant-loop decreases-loop
 returns c =
-    let a = c.before.before.before.before.before.before.args in
-    let l = c.before.before.before.loop in
-    let k = c.before.keeps_name.ensures in
-    sym (l.invariant ∙ names_more (lines_in a.t.now) a.keep.now l.f a.end a.x c.before.before.loop-test.true ∙ rw (sym k, c.if1.true))
+    let a = c.args in
+    let l = c.loop-f in
+    let k = c.keeps_name.ensures in
+    sym (l.invariant ∙ names_more (lines_in a.t.now) a.keep.now l.f a.end a.x c.loop-f-test.true ∙ rw (sym k, c.if-keeps_name.true))
 
-loop-again : tie.Need-loop-preserved invariant-loop decreases-loop
+loop-again : tie.Need-loop-f-preserved invariant-loop decreases-loop
 loop-again c =
-    let a = c.before.before.before.before.before.before.args in
-    let l = c.before.before.before.loop in
-    let k = c.before.keeps_name.ensures in
-    l.invariant ∙ names_more (lines_in a.t.now) a.keep.now l.f a.end a.x c.before.before.loop-test.true ∙ rw (sym k, c.if1.false)
+    let a = c.args in
+    let l = c.loop-f in
+    let k = c.keeps_name.ensures in
+    l.invariant ∙ names_more (lines_in a.t.now) a.keep.now l.f a.end a.x c.loop-f-test.true ∙ rw (sym k, c.if-keeps_name.false)
 
-returns-2 : tie.Need-returns-2 invariant-loop decreases-loop
+returns-2 : tie.Need-returns invariant-loop decreases-loop
 returns-2 c =
-    let a = c.before.before.before.before.args in
-    let l = c.before.loop in
-    sym (l.invariant ∙ names_past (lines_in a.t.now) a.keep.now l.f a.end a.x (omega (arith, c.loop-test.false)))
+    let a = c.args in
+    let l = c.loop-f in
+    sym (l.invariant ∙ names_past (lines_in a.t.now) a.keep.now l.f a.end a.x (omega (arith, c.loop-f-test.false)))
 
 pub names_kept_spec : {M : Type 1} → statement M
 names_kept_spec =

@@ -18,7 +18,7 @@ use Rattle.verdict_sheet.proofs.put_decl.Statement.{statement}
 use Rattle.table_access.specs.OfSheet.{head_same, decls_same, start_same, first_same}
 use Rattle.verdict_sheet.proofs.put_decl.Tie as tie
 
-abbrev invariant-loop : tie.invariant-loop
+abbrev invariant-loop : tie.invariant-loop-i
 invariant-loop s t u keep records out₀ d end i₀ c₀ out i c =
     (start (lines 6 s) d ≤ i)
     × (i ≤ end)
@@ -28,53 +28,53 @@ invariant-loop s t u keep records out₀ d end i₀ c₀ out i c =
     × (out ≡ upto s i out₀)
     × (length out ≡ length out₀)
 
-abbrev decreases-loop : tie.decreases-loop
+abbrev decreases-loop : tie.decreases-loop-i
 decreases-loop s t u keep records out₀ d end i₀ c₀ out i c = end - i
 
-is-import-requires : tie.Need-is-import-requires invariant-loop decreases-loop
-is-import-requires c κs = let a = c.before.before.before.before.before.before in (a.requires.0.0.of.tabled, rw (decls_same a.args.s.now a.args.t.now a.requires.0.0.of) a.requires.0.1)
+is-import-requires : tie.Need-is_import-requires invariant-loop decreases-loop
+is-import-requires c κs = let a = c in (a.requires.0.0.of.tabled, rw (decls_same a.args.s.now a.args.t.now a.requires.0.0.of) a.requires.0.1)
 
-returns : tie.Need-returns invariant-loop decreases-loop
+returns : tie.Need-returns-then-is_import invariant-loop decreases-loop
 returns c =
-    let a = c.before.before.before.before.before.before.before.before in
-    import_whole a.args.s.now (sheet_of a.args.s.now a.args.t.now a.requires.0.0.of) a.args.d a.requires.0.1 a.args.out.now (sym (head_same a.args.s.now a.args.t.now a.requires.0.0.of import_line a.args.d) ∙ sym c.before.is-import.ensures ∙ c.if1.true) a.requires.1.1
+    let a = c in
+    import_whole a.args.s.now (sheet_of a.args.s.now a.args.t.now a.requires.0.0.of) a.args.d a.requires.0.1 a.args.out.now (sym (head_same a.args.s.now a.args.t.now a.requires.0.0.of import_line a.args.d) ∙ sym c.is_import.ensures ∙ c.if-is_import.true) a.requires.1.1
 
-add-line-of : tie.Need-overflow-add-line-of invariant-loop decreases-loop
-add-line-of c = let a = c.before.before.before.before.before.before.before.before in omega (arith, a.requires.0.1, decls_same a.args.s.now a.args.t.now a.requires.0.0.of, decls_few (lines_in a.args.t.now) a.requires.0.0.of.tabled.passed)
+add-line-of : tie.Need-overflow_add-d invariant-loop decreases-loop
+add-line-of c = let a = c in omega (arith, a.requires.0.1, decls_same a.args.s.now a.args.t.now a.requires.0.0.of, decls_few (lines_in a.args.t.now) a.requires.0.0.of.tabled.passed)
 
-line-of-requires : tie.Need-line-of-requires invariant-loop decreases-loop
-line-of-requires c κs = let a = c.before.before.before.before.before.before.before.before in (a.requires.0.0.of.tabled, omega (arith, a.requires.0.1, decls_same a.args.s.now a.args.t.now a.requires.0.0.of))
+line-of-requires : tie.Need-line_of-end-requires invariant-loop decreases-loop
+line-of-requires c κs = let a = c in (a.requires.0.0.of.tabled, omega (arith, a.requires.0.1, decls_same a.args.s.now a.args.t.now a.requires.0.0.of))
 
-line-of-requires-2 : tie.Need-line-of-requires-2 invariant-loop decreases-loop
-line-of-requires-2 c κs = let a = c.before.before.before.before.before.before.before.before.before in (a.requires.0.0.of.tabled, omega (arith, a.requires.0.1, decls_same a.args.s.now a.args.t.now a.requires.0.0.of))
+line-of-requires-2 : tie.Need-line_of-i-requires invariant-loop decreases-loop
+line-of-requires-2 c κs = let a = c in (a.requires.0.0.of.tabled, omega (arith, a.requires.0.1, decls_same a.args.s.now a.args.t.now a.requires.0.0.of))
 
-first-field-requires : tie.Need-first-field-requires invariant-loop decreases-loop
-first-field-requires c κs = let a = c.before.before.before.before.before.before.before.before.before.before in (a.requires.0.0.of.tabled, omega (arith, a.requires.0.1, decls_same a.args.s.now a.args.t.now a.requires.0.0.of))
+first-field-requires : tie.Need-first_field-requires invariant-loop decreases-loop
+first-field-requires c κs = let a = c in (a.requires.0.0.of.tabled, omega (arith, a.requires.0.1, decls_same a.args.s.now a.args.t.now a.requires.0.0.of))
 
-first-ctor-requires : tie.Need-first-ctor-requires invariant-loop decreases-loop
-first-ctor-requires c κs = let a = c.before.before.before.before.before.before.before.before.before.before.before in (a.requires.0.0.of.tabled, omega (arith, a.requires.0.1, decls_same a.args.s.now a.args.t.now a.requires.0.0.of))
+first-ctor-requires : tie.Need-first_ctor-requires invariant-loop decreases-loop
+first-ctor-requires c κs = let a = c in (a.requires.0.0.of.tabled, omega (arith, a.requires.0.1, decls_same a.args.s.now a.args.t.now a.requires.0.0.of))
 
-loop-holds : tie.Need-loop-init invariant-loop decreases-loop
+loop-holds : tie.Need-loop-i-init invariant-loop decreases-loop
 loop-holds c =
-    let a = c.before.before.before.before.before.before.before.before.before.before.before.before in
-    let e : c.before.before.before.line_of.result ≡ start (lines 6 a.args.s.now) (suc a.args.d) = c.before.before.before.line_of.ensures ∙ rw add-one (start_same a.args.s.now a.args.t.now a.requires.0.0.of (suc a.args.d)) in
-    let g = c.before.before.line-of2.ensures ∙ start_same a.args.s.now a.args.t.now a.requires.0.0.of a.args.d in
-    let f = c.before.first_field.ensures ∙ first_same a.args.s.now a.args.t.now a.requires.0.0.of field_line a.args.d in
-    let k = c.first-ctor.ensures ∙ first_same a.args.s.now a.args.t.now a.requires.0.0.of ctor_line a.args.d in (
+    let a = c in
+    let e : c.line_of-end.result ≡ start (lines 6 a.args.s.now) (suc a.args.d) = c.line_of-end.ensures ∙ rw add-one (start_same a.args.s.now a.args.t.now a.requires.0.0.of (suc a.args.d)) in
+    let g = c.line_of-i.ensures ∙ start_same a.args.s.now a.args.t.now a.requires.0.0.of a.args.d in
+    let f = c.first_field.ensures ∙ first_same a.args.s.now a.args.t.now a.requires.0.0.of field_line a.args.d in
+    let k = c.first_ctor.ensures ∙ first_same a.args.s.now a.args.t.now a.requires.0.0.of ctor_line a.args.d in (
       omega (arith, g),
       omega (arith, g, e, starts_rise a.args.s.now (sheet_of a.args.s.now a.args.t.now a.requires.0.0.of) a.args.d a.requires.0.1),
       e,
-      sym (head_same a.args.s.now a.args.t.now a.requires.0.0.of import_line a.args.d) ∙ sym c.before.before.before.before.before.is-import.ensures ∙ c.before.before.before.before.if1.false,
+      sym (head_same a.args.s.now a.args.t.now a.requires.0.0.of import_line a.args.d) ∙ sym c.is_import.ensures ∙ c.if-is_import.false,
       rw g (ap₂ (λ (x y : ℕ). record { fields = x; ctors = y }) f k),
       rw g a.requires.1.1,
       refl,
     )
 
-put-line-requires : tie.Need-put-line-requires invariant-loop decreases-loop
+put-line-requires : tie.Need-put_line-c-requires invariant-loop decreases-loop
 put-line-requires c κs =
-    let a = c.before.before.before.before.before.before.before.before.before.before.before.before.before.before.before in
-    let l = c.before.before.loop in
-    let z = c.before.loop-test.true in
+    let a = c in
+    let l = c.loop-i in
+    let z = c.loop-i-test.true in
     let p = sheet_of a.args.s.now a.args.t.now a.requires.0.0.of in (
       a.requires.0.0,
       (
@@ -90,12 +90,12 @@ put-line-requires c κs =
       ),
     )
 
-loop-again : tie.Need-loop-preserved invariant-loop decreases-loop
+loop-again : tie.Need-loop-i-preserved invariant-loop decreases-loop
 loop-again c =
-    let a = c.before.before.before.before.before.before.before.before.before.before.before.before.before.before.before.before.before.before in
-    let l = c.before.before.before.before.before.loop in
-    let z = c.before.before.before.before.loop-test.true in
-    let k = c.before.before.put_line in
+    let a = c in
+    let l = c.loop-i in
+    let z = c.loop-i-test.true in
+    let k = c.put_line-c in
     let p = sheet_of a.args.s.now a.args.t.now a.requires.0.0.of in (
       omega (arith, l.invariant.0),
       omega arith,
@@ -103,17 +103,17 @@ loop-again c =
       l.invariant.3,
       rw add-one k.ensures.counts,
       rw add-one (local_next a.args.s.now p a.args.d a.requires.0.1 a.args.out.now l.out _ l.i (omega (arith, l.invariant.2)) l.invariant.5 k.ensures.written),
-      k.auto.1.1.1.1.1.0 ∙ l.invariant.6,
+      k.auto.out ∙ l.invariant.6,
     )
 
-same_length : tie.Need-same-length invariant-loop decreases-loop
-same_length c = c.before.loop.invariant.6
+same_length : tie.Need-shape_of-out invariant-loop decreases-loop
+same_length c = c.loop-i.invariant.6
 
-returns-2 : tie.Need-returns-2 invariant-loop decreases-loop
+returns-2 : tie.Need-returns invariant-loop decreases-loop
 returns-2 c =
-    let a = c.before.before.before.before.before.before.before.before.before.before.before.before.before.before in
-    let l = c.before.loop in
-    let e : l.i ≡ start (lines 6 a.args.s.now) (suc a.args.d) = omega (arith, l.invariant.1, l.invariant.2, c.loop-test.false) in
+    let a = c in
+    let l = c.loop-i in
+    let e : l.i ≡ start (lines 6 a.args.s.now) (suc a.args.d) = omega (arith, l.invariant.1, l.invariant.2, c.loop-i-test.false) in
     rw e at l.invariant.5
 
 pub put_decl_spec : {M : Type 1} → statement M

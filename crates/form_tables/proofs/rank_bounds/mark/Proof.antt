@@ -12,5 +12,5 @@ mark_spec =
     (λ c. search rules)
     (λ c. search rules)
     (λ c. search rules)
-    (λ c. marked_set _ _ _ (omega (arith, c.if1.true)))
-    (λ c. marked_past _ _ _ (omega (arith, c.if1.false))))
+    (λ c. marked_set _ _ _ (omega (arith, c.if-r-a.true)))
+    (λ c. marked_past _ _ _ (omega (arith, c.if-r-a.false))))

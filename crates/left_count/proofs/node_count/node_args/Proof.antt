@@ -8,20 +8,20 @@ use Rattle.left_count.specs.CountLaws.{count_few}
 use Rattle.left_count.proofs.node_count.node_args.Statement.{statement}
 use Rattle.left_count.proofs.node_count.node_args.Tie as tie
 
-returns : tie.Need-returns
+returns : tie.Need-returns-then-k-eq8
 unfolding args_of
 returns c =
-    (c.before.count.ensures ∙ rw (← c.before.before.kind.ensures, c.if1.true), omega (arith, c.before.count.ensures, count_few c.before.before.before.args.w))
+    (c.count-n.ensures ∙ rw (← c.kind-k.ensures, c.if-k-eq8.true), omega (arith, c.count-n.ensures, count_few c.args.w))
 
-returns-2 : tie.Need-returns-2
+returns-2 : tie.Need-returns-then-k-eq9
 unfolding args_of
 returns-2 c =
-    (c.before.before.count.ensures ∙ rw (← c.before.before.before.kind.ensures, c.if2.true), omega (arith, c.before.before.count.ensures, count_few c.before.before.before.before.args.w))
+    (c.count-n.ensures ∙ rw (← c.kind-k.ensures, c.if-k-eq9.true), omega (arith, c.count-n.ensures, count_few c.args.w))
 
-returns-3 : tie.Need-returns-3
+returns-3 : tie.Need-returns
 unfolding args_of
 returns-3 c =
-    (rw (← c.before.before.before.kind.ensures, ne_eqb _ 8 c.before.if1.false, ne_eqb _ 9 c.if2.false), omega arith)
+    (rw (← c.kind-k.ensures, ne_eqb _ 8 c.if-k-eq8.false, ne_eqb _ 9 c.if-k-eq9.false), omega arith)
 
 pub node_args_spec : {M : Type 1} → statement M
 node_args_spec =

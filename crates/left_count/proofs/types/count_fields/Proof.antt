@@ -15,90 +15,90 @@ use borrow.Author.Tests.{not-true, not-false}
 use Rattle.left_count.proofs.types.count_fields.Statement.{statement}
 use Rattle.left_count.proofs.types.count_fields.Tie as tie
 
-abbrev invariant-loop : tie.invariant-loop
+abbrev invariant-loop : tie.invariant-loop-i
 invariant-loop t u f keep scratch₀ d end i₀ r₀ scratch i r =
     (i₀ ≤ i) × (i ≤ 2048) × (length scratch ≡ length scratch₀) × (r.room ≡ true)
     × (r.args ≤ 1200000000 + 1024 * i) × (r.types ≤ 1200000000 + 1024 * i) × (r.lines ≤ 800000000 + i)
     × ((x : Count) → Rest (lines_in t) keep d i end (length scratch₀) r x → Rest (lines_in t) keep d i₀ end (length scratch₀) r₀ x)
 
-abbrev decreases-loop : tie.decreases-loop
+abbrev decreases-loop : tie.decreases-loop-i
 decreases-loop t u f keep scratch₀ d end i₀ r₀ scratch i r = end - i
 
-add-first-field : tie.Need-overflow-add-first-field invariant-loop decreases-loop
-add-first-field c = omega (arith, c.before.before.before.before.before.requires.0.1, decls_few (lines_in c.before.before.before.before.before.args.t.now) c.before.before.before.before.before.requires.0.0.tabled.passed)
+add-first-field : tie.Need-overflow_add-d invariant-loop decreases-loop
+add-first-field c = omega (arith, c.requires.0.1, decls_few (lines_in c.args.t.now) c.requires.0.0.tabled.passed)
 
-first-field-requires : tie.Need-first-field-requires invariant-loop decreases-loop
-first-field-requires c κs = (c.before.before.before.before.before.requires.0.0.tabled, omega (arith, c.before.before.before.before.before.requires.0.1))
+first-field-requires : tie.Need-first_field-end-requires invariant-loop decreases-loop
+first-field-requires c κs = (c.requires.0.0.tabled, omega (arith, c.requires.0.1))
 
-first-field-requires-2 : tie.Need-first-field-requires-2 invariant-loop decreases-loop
-first-field-requires-2 c κs = (c.before.before.before.before.before.before.requires.0.0.tabled, omega (arith, c.before.before.before.before.before.before.requires.0.1))
+first-field-requires-2 : tie.Need-first_field-i-requires invariant-loop decreases-loop
+first-field-requires-2 c κs = (c.requires.0.0.tabled, omega (arith, c.requires.0.1))
 
-loop-holds : tie.Need-loop-init invariant-loop decreases-loop
+loop-holds : tie.Need-loop-i-init invariant-loop decreases-loop
 loop-holds c =
-    let a = c.before.before.before.before.before.before.before.args in
-    let p = c.before.before.before.before.before.before.before.requires in
-    (omega arith, omega (arith, c.first-field2.ensures, count_before_le field_line (lines_in a.t.now) (start (lines_in a.t.now) a.d), fields_few (lines_in a.t.now) p.0.0.tabled.passed), refl, p.1.1.0, omega (arith, p.1.1.1), omega (arith, p.1.1.2), omega (arith, p.1.1.3), λ x y. y)
+    let a = c.args in
+    let p = c.requires in
+    (omega arith, omega (arith, c.first_field-i.ensures, count_before_le field_line (lines_in a.t.now) (start (lines_in a.t.now) a.d), fields_few (lines_in a.t.now) p.0.0.tabled.passed), refl, p.1.1.0, omega (arith, p.1.1.1), omega (arith, p.1.1.2), omega (arith, p.1.1.3), λ x y. y)
 
-count-field-requires : tie.Need-count-field-requires invariant-loop decreases-loop
+count-field-requires : tie.Need-count_field-r-requires invariant-loop decreases-loop
 count-field-requires c κs =
-    let a = c.before.before.before.before.before.before.before.before.before.before.args in
-    let p = c.before.before.before.before.before.before.before.before.before.before.requires in
-    let l = c.before.before.loop in
-    let e = c.before.before.before.before.first_field in (
-      omega (arith, c.before.loop-test.true, e.ensures, count_before_le field_line (lines_in a.t.now) (start (lines_in a.t.now) (a.d + 1)), p.0.2),
-      λ k. tells (lines_in a.t.now) a.t.now a.u.now a.f.now a.keep.now p.0.0 a.d l.i c.before.before.before.first-field2.result e.result p.0.1 p.1.0.0 p.1.0.1 p.1.0.2 c.before.before.before.first-field2.ensures e.ensures l.invariant.0 c.before.loop-test.true k,
+    let a = c.args in
+    let p = c.requires in
+    let l = c.loop-i in
+    let e = c.first_field-end in (
+      omega (arith, c.loop-i-test.true, e.ensures, count_before_le field_line (lines_in a.t.now) (start (lines_in a.t.now) (a.d + 1)), p.0.2),
+      λ k. tells (lines_in a.t.now) a.t.now a.u.now a.f.now a.keep.now p.0.0 a.d l.i c.first_field-i.result e.result p.0.1 p.1.0.0 p.1.0.1 p.1.0.2 c.first_field-i.ensures e.ensures l.invariant.0 c.loop-i-test.true k,
       l.invariant.3,
       omega (arith, l.invariant.1, l.invariant.4),
       omega (arith, l.invariant.1, l.invariant.5),
       omega (arith, l.invariant.1, l.invariant.6),
     )
 
-same_length : tie.Need-same-length invariant-loop decreases-loop
-same_length c = c.before.before.before.before.count-field.auto.1.1.1.1.0 ∙ c.before.before.before.before.before.before.before.loop.invariant.2
+same_length : tie.Need-shape_of-scratch-then-not-r invariant-loop decreases-loop
+same_length c = c.count_field-r.auto.scratch ∙ c.loop-i.invariant.2
 
-returns : tie.Need-returns invariant-loop decreases-loop
+returns : tie.Need-returns-then-not-r invariant-loop decreases-loop
 returns c =
-    let a = c.before.before.before.before.before.before.before.before.before.before.before.before.before.before.before.args in
-    let l = c.before.before.before.before.before.before.before.loop in
-    let m = c.before.before.before.before.count-field in
-    let z = not-true _ c.if1.true in
-    subst (λ (e : ℕ). Rest (lines_in a.t.now) a.keep.now a.d (first_of field_line (lines_in a.t.now) a.d) e (length a.scratch.now) a.c m.result) c.before.before.before.before.before.before.before.before.before.first_field.ensures
-    (subst (λ (i : ℕ). Rest (lines_in a.t.now) a.keep.now a.d i c.before.before.before.before.before.before.before.before.before.first_field.result (length a.scratch.now) a.c m.result) c.before.before.before.before.before.before.before.before.first-field2.ensures (l.invariant.7 m.result (rest_stop (lines_in a.t.now) a.keep.now a.d l.i c.before.before.before.before.before.before.before.before.before.first_field.result (length a.scratch.now) l.r m.result z (omega (arith, m.ensures.short z, l.invariant.2)))))
+    let a = c.args in
+    let l = c.loop-i in
+    let m = c.count_field-r in
+    let z = not-true _ c.if-not-r.true in
+    subst (λ (e : ℕ). Rest (lines_in a.t.now) a.keep.now a.d (first_of field_line (lines_in a.t.now) a.d) e (length a.scratch.now) a.c m.result) c.first_field-end.ensures
+    (subst (λ (i : ℕ). Rest (lines_in a.t.now) a.keep.now a.d i c.first_field-end.result (length a.scratch.now) a.c m.result) c.first_field-i.ensures (l.invariant.7 m.result (rest_stop (lines_in a.t.now) a.keep.now a.d l.i c.first_field-end.result (length a.scratch.now) l.r m.result z (omega (arith, m.ensures.short z, l.invariant.2)))))
 
-add-i : tie.Need-overflow-add-i invariant-loop decreases-loop
-add-i c = omega (arith, c.before.before.before.before.before.before.before.loop.invariant.1)
+add-i : tie.Need-overflow_add-i invariant-loop decreases-loop
+add-i c = omega (arith, c.loop-i.invariant.1)
 
-loop-less : tie.Need-loop-smaller invariant-loop decreases-loop
-loop-less c = omega (arith, c.before.before.before.before.before.before.loop-test.true)
+loop-less : tie.Need-loop-i-smaller invariant-loop decreases-loop
+loop-less c = omega (arith, c.loop-i-test.true)
 
-loop-again : tie.Need-loop-preserved invariant-loop decreases-loop
+loop-again : tie.Need-loop-i-preserved invariant-loop decreases-loop
 loop-again c =
-    let a = c.before.before.before.before.before.before.before.before.before.before.before.before.before.before.before.args in
-    let l = c.before.before.before.before.before.before.before.loop in
-    let m = c.before.before.before.before.count-field in
-    let e = c.before.before.before.before.before.before.before.before.before.first_field in
-    let t = not-false _ c.if1.false in
+    let a = c.args in
+    let l = c.loop-i in
+    let m = c.count_field-r in
+    let e = c.first_field-end in
+    let t = not-false _ c.if-not-r.false in
     let q = m.ensures.sums t in
     let w = one_few (lines_in a.t.now) a.keep.now a.d l.i in (
       omega (arith, l.invariant.0),
-      omega (arith, c.before.before.before.before.before.before.loop-test.true, e.ensures, count_before_le field_line (lines_in a.t.now) (start (lines_in a.t.now) (a.d + 1)), fields_few (lines_in a.t.now) c.before.before.before.before.before.before.before.before.before.before.before.before.before.before.before.requires.0.0.tabled.passed),
-      m.auto.1.1.1.1.0 ∙ l.invariant.2,
+      omega (arith, c.loop-i-test.true, e.ensures, count_before_le field_line (lines_in a.t.now) (start (lines_in a.t.now) (a.d + 1)), fields_few (lines_in a.t.now) c.requires.0.0.tabled.passed),
+      m.auto.scratch ∙ l.invariant.2,
       t,
       omega (arith, l.invariant.4, q.few_args, w),
       omega (arith, l.invariant.5, q.few_types, w),
       omega (arith, l.invariant.6, q.lines_are, w),
-      λ x y. l.invariant.7 x (rest_step (lines_in a.t.now) a.keep.now a.d l.i e.result (length a.scratch.now) l.r m.result x c.before.before.before.before.before.before.loop-test.true (subst (λ (n : ℕ). One (lines_in a.t.now) a.keep.now a.d l.i n l.r m.result) l.invariant.2 m.ensures) t y),
+      λ x y. l.invariant.7 x (rest_step (lines_in a.t.now) a.keep.now a.d l.i e.result (length a.scratch.now) l.r m.result x c.loop-i-test.true (subst (λ (n : ℕ). One (lines_in a.t.now) a.keep.now a.d l.i n l.r m.result) l.invariant.2 m.ensures) t y),
     )
 
-same-length-2 : tie.Need-same-length-2 invariant-loop decreases-loop
-same-length-2 c = c.before.loop.invariant.2
+same-length-2 : tie.Need-shape_of-scratch invariant-loop decreases-loop
+same-length-2 c = c.loop-i.invariant.2
 
-returns-2 : tie.Need-returns-2 invariant-loop decreases-loop
+returns-2 : tie.Need-returns invariant-loop decreases-loop
 returns-2 c =
-    let a = c.before.before.before.before.before.before.before.before.before.args in
-    let l = c.before.loop in
-    subst (λ (e : ℕ). Rest (lines_in a.t.now) a.keep.now a.d (first_of field_line (lines_in a.t.now) a.d) e (length a.scratch.now) a.c l.r) c.before.before.before.first_field.ensures
-    (subst (λ (i : ℕ). Rest (lines_in a.t.now) a.keep.now a.d i c.before.before.before.first_field.result (length a.scratch.now) a.c l.r) c.before.before.first-field2.ensures (l.invariant.7 l.r (rest_end (lines_in a.t.now) a.keep.now a.d l.i c.before.before.before.first_field.result (length a.scratch.now) l.r c.loop-test.false l.invariant.3)))
+    let a = c.args in
+    let l = c.loop-i in
+    subst (λ (e : ℕ). Rest (lines_in a.t.now) a.keep.now a.d (first_of field_line (lines_in a.t.now) a.d) e (length a.scratch.now) a.c l.r) c.first_field-end.ensures
+    (subst (λ (i : ℕ). Rest (lines_in a.t.now) a.keep.now a.d i c.first_field-end.result (length a.scratch.now) a.c l.r) c.first_field-i.ensures (l.invariant.7 l.r (rest_end (lines_in a.t.now) a.keep.now a.d l.i c.first_field-end.result (length a.scratch.now) l.r c.loop-i-test.false l.invariant.3)))
 
 pub count_fields_spec : {M : Type 1} → statement M
 count_fields_spec =

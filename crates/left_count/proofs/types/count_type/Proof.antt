@@ -7,32 +7,32 @@ use Rattle.left_count.proofs.types.count_type.Statement.{statement}
 use Rattle.table_access.specs.Tables.{lines_in}
 use Rattle.left_count.proofs.types.count_type.Tie as tie
 
-emit-requires : tie.Need-emit-requires
-emit-requires c κs = (c.before.before.before.before.before.requires.0.asked, omega arith)
+emit-requires : tie.Need-emit-n-requires
+emit-requires c κs = (c.requires.0.asked, omega arith)
 
-returns : tie.Need-returns
+returns : tie.Need-returns-then-n-scratch
 returns c =
-    let a = c.before.before.before.before.before.before.before.before.before.args in
-    let e = c.before.before.before.emit in
-    added_short (lines_in a.t.now) a.d _ 0 _ a.c _ refl (type_short (lines_in a.t.now) a.t.now a.u.now a.f.now a.d a.y c.before.before.before.before.before.before.before.before.before.requires.0 a.scratch.now _ e.result e.ensures (omega (arith, c.if1.true, e.ensures.long)))
+    let a = c.args in
+    let e = c.emit-n in
+    added_short (lines_in a.t.now) a.d _ 0 _ a.c _ refl (type_short (lines_in a.t.now) a.t.now a.u.now a.f.now a.d a.y c.requires.0 a.scratch.now _ e.result e.ensures (omega (arith, c.if-n-scratch.true, e.ensures.long)))
 
-count-args-requires : tie.Need-count-args-requires
+count-args-requires : tie.Need-count_args-a-requires
 count-args-requires c κs =
-    let a = c.before.before.before.before.before.before.before.before.before.before.before.args in
-    let e = c.before.before.before.before.before.emit in
-    omega (arith, part_few e.result e.new.1.1.1.1.1.1.0 (type_few (lines_in a.t.now) a.t.now a.u.now a.f.now a.d a.y c.before.before.before.before.before.before.before.before.before.before.before.requires.0 a.scratch.now _ e.result e.ensures (omega (arith, c.before.before.if1.false, e.ensures.long))))
+    let a = c.args in
+    let e = c.emit-n in
+    omega (arith, part_few e.result e.new.out (type_few (lines_in a.t.now) a.t.now a.u.now a.f.now a.d a.y c.requires.0 a.scratch.now _ e.result e.ensures (omega (arith, c.if-n-scratch.false, e.ensures.long))))
 
-add-t12 : tie.Need-overflow-add-t12
+add-t12 : tie.Need-overflow_add-result
 add-t12 c =
-    let a = c.before.before.before.before.before.before.before.before.before.before.before.before.before.args in
-    let e = c.before.before.before.before.before.before.before.emit in
-    omega (arith, c.before.before.before.before.before.before.before.before.before.before.before.before.before.requires.1, args_small (lines_in a.t.now) a.t.now a.u.now a.f.now a.d a.y c.before.before.before.before.before.before.before.before.before.before.before.before.before.requires.0 a.scratch.now _ e.result c.before.count_args.result e.ensures (omega (arith, c.before.before.before.before.if1.false, e.ensures.long)) c.before.count_args.ensures)
+    let a = c.args in
+    let e = c.emit-n in
+    omega (arith, c.requires.1, args_small (lines_in a.t.now) a.t.now a.u.now a.f.now a.d a.y c.requires.0 a.scratch.now _ e.result c.count_args-a.result e.ensures (omega (arith, c.if-n-scratch.false, e.ensures.long)) c.count_args-a.ensures)
 
-returns-2 : tie.Need-returns-2
+returns-2 : tie.Need-returns
 returns-2 c =
-    let a = c.before.before.before.before.before.before.before.before.before.before.before.before.before.before.args in
-    let e = c.before.before.before.before.before.before.before.before.emit in
-    added_type (lines_in a.t.now) a.t.now a.u.now a.f.now a.d a.y c.before.before.before.before.before.before.before.before.before.before.before.before.before.before.requires.0 a.scratch.now _ e.result c.before.before.count_args.result a.c _ e.ensures (omega (arith, c.before.before.before.before.before.if1.false, e.ensures.long)) c.before.before.count_args.ensures refl refl refl refl
+    let a = c.args in
+    let e = c.emit-n in
+    added_type (lines_in a.t.now) a.t.now a.u.now a.f.now a.d a.y c.requires.0 a.scratch.now _ e.result c.count_args-a.result a.c _ e.ensures (omega (arith, c.if-n-scratch.false, e.ensures.long)) c.count_args-a.ensures refl refl refl refl
 
 pub count_type_spec : {M : Type 1} → statement M
 count_type_spec =

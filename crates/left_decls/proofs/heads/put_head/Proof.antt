@@ -7,29 +7,29 @@ use Rattle.left_decls.proofs.heads.put_head.Statement.{statement}
 use Rattle.table_access.specs.Tables.{lines_in}
 use Rattle.left_decls.proofs.heads.put_head.Tie as tie
 
-cast-t14 : tie.Need-overflow-cast-t14
+cast-t14 : tie.Need-overflow_cast-n
 cast-t14 c =
-    let z = c.before.before.before.before.before.before.before in
+    let z = c in
     let a = z.args in
-    omega (arith, params_inside (lines_in a.t.now) a.d c.before.before.before.before.params.result c.before.before.before.before.params.ensures c.before.before.before.first-param.result c.before.before.before.first-param.ensures, params_few (lines_in a.t.now) z.requires.0.0.passed)
+    omega (arith, params_inside (lines_in a.t.now) a.d c.params-n.result c.params-n.ensures c.first_param-i.result c.first_param-i.ensures, params_few (lines_in a.t.now) z.requires.0.0.passed)
 
-put-line-requires : tie.Need-put-line-requires
+put-line-requires : tie.Need-put_line-q-requires
 put-line-requires c κs =
-    let z = c.before.before.before.before.before.before.before in
+    let z = c in
     let a = z.args in
-    d_room (lines_in a.t.now) a.d a.kind a.end _ _ c.before.before.before.before.params.result c.before.before.before.first-param.result a.p a.p a.out.now a.out.now z.requires.1 c.before.before.decl-number.ensures c.before.decl-number2.ensures c.before.before.before.before.params.ensures c.before.before.before.first-param.ensures
+    d_room (lines_in a.t.now) a.d a.kind a.end _ _ c.params-n.result c.first_param-i.result a.p a.p a.out.now a.out.now z.requires.1 c.decl_number-name.ensures c.decl_number-flags.ensures c.params-n.ensures c.first_param-i.ensures
 
-put-params-requires : tie.Need-put-params-requires
+put-params-requires : tie.Need-put_params-requires
 put-params-requires c κs =
-    let z = c.before.before.before.before.before.before.before.before.before.before.before in
+    let z = c in
     let a = z.args in
-    ((z.requires.0.0, params_inside (lines_in a.t.now) a.d c.before.before.before.before.before.before.before.before.params.result c.before.before.before.before.before.before.before.before.params.ensures c.before.before.before.before.before.before.before.first-param.result c.before.before.before.before.before.before.before.first-param.ensures), p_room (lines_in a.t.now) a.d a.kind a.end _ _ c.before.before.before.before.before.before.before.before.params.result c.before.before.before.before.before.before.before.first-param.result a.p c.before.before.before.put_line.result a.out.now _ z.requires.1 c.before.before.before.before.before.before.decl-number.ensures c.before.before.before.before.before.decl-number2.ensures c.before.before.before.before.before.before.before.before.params.ensures c.before.before.before.before.before.before.before.first-param.ensures c.before.before.before.put_line.ensures)
+    ((z.requires.0.0, params_inside (lines_in a.t.now) a.d c.params-n.result c.params-n.ensures c.first_param-i.result c.first_param-i.ensures), p_room (lines_in a.t.now) a.d a.kind a.end _ _ c.params-n.result c.first_param-i.result a.p c.put_line-q.result a.out.now _ z.requires.1 c.decl_number-name.ensures c.decl_number-flags.ensures c.params-n.ensures c.first_param-i.ensures c.put_line-q.ensures)
 
 returns : tie.Need-returns
 returns c =
-    let z = c.before.before.before.before.before.before.before.before.before.before.before.before.before.before in
+    let z = c in
     let a = z.args in
-    head_writes (lines_in a.t.now) a.d a.kind a.end _ _ c.before.before.before.before.before.before.before.before.before.before.before.params.result c.before.before.before.before.before.before.before.before.before.before.first-param.result a.p c.before.before.before.before.before.before.put_line.result a.out.now _ z.requires.1 c.before.before.before.before.before.before.before.before.before.decl-number.ensures c.before.before.before.before.before.before.before.before.decl-number2.ensures c.before.before.before.before.before.before.before.before.before.before.before.params.ensures c.before.before.before.before.before.before.before.before.before.before.first-param.ensures c.before.before.before.before.before.before.put_line.ensures _ _ c.before.before.put-params.ensures
+    head_writes (lines_in a.t.now) a.d a.kind a.end _ _ c.params-n.result c.first_param-i.result a.p c.put_line-q.result a.out.now _ z.requires.1 c.decl_number-name.ensures c.decl_number-flags.ensures c.params-n.ensures c.first_param-i.ensures c.put_line-q.ensures _ _ c.put_params.ensures
 
 pub put_head_spec : {M : Type 1} → statement M
 put_head_spec =

@@ -14,42 +14,42 @@ use Rattle.left_decls.proofs.heads.put_params.Statement.{statement}
 use Rattle.table_access.specs.Tables.{lines_in}
 use Rattle.left_decls.proofs.heads.put_params.Tie as tie
 
-abbrev invariant-loop : tie.invariant-loop
+abbrev invariant-loop : tie.invariant-loop-j
 invariant-loop t out₀ i n q₀ j₀ out q j = (j ≤ n) × (length out ≡ length out₀) × Writes (fixed (map param_row (params_from (lines_in t) i j))) q₀ q out₀ out
 
-abbrev decreases-loop : tie.decreases-loop
+abbrev decreases-loop : tie.decreases-loop-j
 decreases-loop t out₀ i n q₀ j₀ out q j = n - j
 
-loop-holds : tie.Need-loop-init invariant-loop decreases-loop
+loop-holds : tie.Need-loop-j-init invariant-loop decreases-loop
 loop-holds c =
-    let a = c.before.before.args in
+    let a = c.args in
     (omega arith, refl, params_start (lines_in a.t.now) a.i a.p a.out.now)
 
-cast-t13 : tie.Need-overflow-cast-t13 invariant-loop decreases-loop
+cast-t13 : tie.Need-overflow_cast-x invariant-loop decreases-loop
 cast-t13 c =
-    let z = c.before.before.before.before.before.before in
+    let z = c in
     let a = z.args in
-    let l = c.before.before.before.loop in
-    omega (arith, c.before.param.ensures, param_small (lines_in a.t.now) z.requires.0.0.passed (a.i + l.j) (omega (arith, z.requires.0.1)))
+    let l = c.loop-j in
+    omega (arith, c.param-x.ensures, param_small (lines_in a.t.now) z.requires.0.0.passed (a.i + l.j) (omega (arith, z.requires.0.1)))
 
-put-line-requires : tie.Need-put-line-requires invariant-loop decreases-loop
+put-line-requires : tie.Need-put_line-q-requires invariant-loop decreases-loop
 put-line-requires c κs =
-    let z = c.before.before.before.before.before.before in
+    let z = c in
     let a = z.args in
-    let l = c.before.before.before.loop in
-    params_room (lines_in a.t.now) a.i a.p l.q a.out.now l.out l.j a.n _ (omega arith) c.before.param.ensures z.requires.1 l.invariant.2
+    let l = c.loop-j in
+    params_room (lines_in a.t.now) a.i a.p l.q a.out.now l.out l.j a.n _ (omega arith) c.param-x.ensures z.requires.1 l.invariant.2
 
-loop-again : tie.Need-loop-preserved invariant-loop decreases-loop
+loop-again : tie.Need-loop-j-preserved invariant-loop decreases-loop
 loop-again c =
-    let a = c.before.before.before.before.before.before.before.before.before.args in
-    let l = c.before.before.before.before.before.before.loop in
-    let w = c.before.before.put_line in
-    (omega arith, search rules, params_writes (lines_in a.t.now) a.i a.p l.q a.out.now l.out l.j _ w.result _ c.before.before.before.before.param.ensures l.invariant.2 w.ensures)
+    let a = c.args in
+    let l = c.loop-j in
+    let w = c.put_line-q in
+    (omega arith, search rules, params_writes (lines_in a.t.now) a.i a.p l.q a.out.now l.out l.j _ w.result _ c.param-x.ensures l.invariant.2 w.ensures)
 
 returns : tie.Need-returns invariant-loop decreases-loop
 returns c =
-    let l = c.before.loop in
-    let a = c.before.before.before.before.args in
+    let l = c.loop-j in
+    let a = c.args in
     let e : a.n ≡ l.j = omega arith in
     rw e l.invariant.2
 
@@ -60,8 +60,8 @@ put_params_spec =
     invariant-loop
     decreases-loop
     loop-holds
-    (λ c. let z = c.before.before.before.before in omega (arith, z.requires.0.1, params_few (lines_in z.args.t.now) z.requires.0.0.passed))
-    (λ c κs. let z = c.before.before.before.before in (z.requires.0.0, omega (arith, z.requires.0.1)))
+    (λ c. let z = c in omega (arith, z.requires.0.1, params_few (lines_in z.args.t.now) z.requires.0.0.passed))
+    (λ c κs. let z = c in (z.requires.0.0, omega (arith, z.requires.0.1)))
     cast-t13
     put-line-requires
     (λ c. search rules)

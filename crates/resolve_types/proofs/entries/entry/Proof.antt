@@ -20,13 +20,13 @@ returns : tie.Need-returns-then-not-fits
 returns c =
     let a = c.args in
     let p = c.requires in
-    entered_nine (lines_in a.t.now) a.t.now a.u.now a.y a.d p.0.0 (eqb c.state-newtype.result 1) (unfolded_at (lines_in a.t.now) a.t.now a.u.now a.y a.d _ c.state-newtype.ensures p.0.1) a.at a.count a.out.now p.1 a.k (sym c.before.fits2.ensures ∙ not-true _ c.if-not-fits.true)
+    entered_nine (lines_in a.t.now) a.t.now a.u.now a.y a.d p.0.0 (eqb c.state-newtype.result 1) (unfolded_at (lines_in a.t.now) a.t.now a.u.now a.y a.d _ c.state-newtype.ensures p.0.1) a.at a.count a.out.now p.1 a.k (sym c.fits.ensures ∙ c.if-not-fits.true)
 
 returns-2 : tie.Need-returns-then-k-eq0
 returns-2 c =
     let a = c.args in
     let p = c.requires in
-    entered_spent (lines_in a.t.now) a.t.now a.u.now a.y a.d p.0.0 (eqb c.state-newtype.result 1) (unfolded_at (lines_in a.t.now) a.t.now a.u.now a.y a.d _ c.state-newtype.ensures p.0.1) a.at a.count a.out.now p.1 a.k (sym c.before.before.fits2.ensures ∙ not-false _ c.if-not-fits.false) c.if-k-eq0.true
+    entered_spent (lines_in a.t.now) a.t.now a.u.now a.y a.d p.0.0 (eqb c.state-newtype.result 1) (unfolded_at (lines_in a.t.now) a.t.now a.u.now a.y a.d _ c.state-newtype.ensures p.0.1) a.at a.count a.out.now p.1 a.k (sym c.fits.ensures ∙ c.if-not-fits.false) c.if-k-eq0.true
 
 params-requires : tie.Need-params-n-requires
 params-requires c κs = let p = c.requires in (p.0.0.setup.tabled, p.0.0.decl)
@@ -36,7 +36,7 @@ enough : (c : tie.After-params-n) → c.params-n.result ≤ c.args.count
 enough c =
     let a = c.args in
     let p = c.requires in
-    entered_enough (lines_in a.t.now) a.t.now a.u.now a.y a.d p.0.0 (eqb c.state-newtype.result 1) (unfolded_at (lines_in a.t.now) a.t.now a.u.now a.y a.d _ c.state-newtype.ensures p.0.1) a.at a.count a.out.now p.1 a.k (sym c.before.before.before.fits2.ensures ∙ not-false _ c.if-not-fits.false) _ c.params-n.ensures
+    entered_enough (lines_in a.t.now) a.t.now a.u.now a.y a.d p.0.0 (eqb c.state-newtype.result 1) (unfolded_at (lines_in a.t.now) a.t.now a.u.now a.y a.d _ c.state-newtype.ensures p.0.1) a.at a.count a.out.now p.1 a.k (sym c.fits.ensures ∙ c.if-not-fits.false) _ c.params-n.ensures
 
 sub-over : tie.Need-overflow_sub-over
 sub-over c = enough c
@@ -54,13 +54,13 @@ returns-3 : tie.Need-returns-then-w-gt-LIMIT
 returns-3 c =
     let a = c.args in
     let p = c.requires in
-    entered_ten (lines_in a.t.now) a.t.now a.u.now a.y a.d p.0.0 (eqb c.state-newtype.result 1) (unfolded_at (lines_in a.t.now) a.t.now a.u.now a.y a.d _ c.state-newtype.ensures p.0.1) a.at a.count a.out.now p.1 a.k (sym c.before.before.before.before.before.before.fits2.ensures ∙ not-false _ c.if-not-fits.false) _ _ _ _ c.params-n.ensures refl c.total-from.ensures c.weigh-w.ensures c.if-w-gt-LIMIT.true
+    entered_ten (lines_in a.t.now) a.t.now a.u.now a.y a.d p.0.0 (eqb c.state-newtype.result 1) (unfolded_at (lines_in a.t.now) a.t.now a.u.now a.y a.d _ c.state-newtype.ensures p.0.1) a.at a.count a.out.now p.1 a.k (sym c.fits.ensures ∙ c.if-not-fits.false) _ _ _ _ c.params-n.ensures refl c.total-from.ensures c.weigh-w.ensures c.if-w-gt-LIMIT.true
 
 returns-4 : tie.Need-returns-then-over-eq0
 returns-4 c =
     let a = c.args in
     let p = c.requires in
-    entered_open (lines_in a.t.now) a.t.now a.u.now a.y a.d p.0.0 (eqb c.state-newtype.result 1) (unfolded_at (lines_in a.t.now) a.t.now a.u.now a.y a.d _ c.state-newtype.ensures p.0.1) a.at a.count a.out.now p.1 a.k (sym c.before.before.before.before.before.before.before.fits2.ensures ∙ not-false _ c.if-not-fits.false) _ _ _ _ c.params-n.ensures refl c.total-from.ensures c.weigh-w.ensures c.if-w-gt-LIMIT.false (omega (arith, c.if-k-eq0.false)) (λ e. c.if-over-eq0.true)
+    entered_open (lines_in a.t.now) a.t.now a.u.now a.y a.d p.0.0 (eqb c.state-newtype.result 1) (unfolded_at (lines_in a.t.now) a.t.now a.u.now a.y a.d _ c.state-newtype.ensures p.0.1) a.at a.count a.out.now p.1 a.k (sym c.fits.ensures ∙ c.if-not-fits.false) _ _ _ _ c.params-n.ensures refl c.total-from.ensures c.weigh-w.ensures c.if-w-gt-LIMIT.false (omega (arith, c.if-k-eq0.false)) (λ e. c.if-over-eq0.true)
 
 type-number-requires : tie.Need-type_number-requires
 type-number-requires c κs = let p = c.requires in (p.0.0.setup.tabled, (p.0.0.type, omega arith))
@@ -69,13 +69,13 @@ returns-5 : tie.Need-returns-then-type_number-eq3
 returns-5 c =
     let a = c.args in
     let p = c.requires in
-    entered_var (lines_in a.t.now) a.t.now a.u.now a.y a.d p.0.0 (eqb c.state-newtype.result 1) (unfolded_at (lines_in a.t.now) a.t.now a.u.now a.y a.d _ c.state-newtype.ensures p.0.1) a.at a.count a.out.now p.1 a.k (sym c.before.before.before.before.before.before.before.before.before.fits2.ensures ∙ not-false _ c.if-not-fits.false) _ _ _ _ c.params-n.ensures refl c.total-from.ensures c.weigh-w.ensures c.if-w-gt-LIMIT.false (omega (arith, c.if-over-eq0.false)) (sym c.type_number.ensures ∙ c.if-type_number-eq3.true)
+    entered_var (lines_in a.t.now) a.t.now a.u.now a.y a.d p.0.0 (eqb c.state-newtype.result 1) (unfolded_at (lines_in a.t.now) a.t.now a.u.now a.y a.d _ c.state-newtype.ensures p.0.1) a.at a.count a.out.now p.1 a.k (sym c.fits.ensures ∙ c.if-not-fits.false) _ _ _ _ c.params-n.ensures refl c.total-from.ensures c.weigh-w.ensures c.if-w-gt-LIMIT.false (omega (arith, c.if-over-eq0.false)) (sym c.type_number.ensures ∙ c.if-type_number-eq3.true)
 
 returns-6 : tie.Need-returns
 returns-6 c =
     let a = c.args in
     let p = c.requires in
-    entered_open (lines_in a.t.now) a.t.now a.u.now a.y a.d p.0.0 (eqb c.state-newtype.result 1) (unfolded_at (lines_in a.t.now) a.t.now a.u.now a.y a.d _ c.state-newtype.ensures p.0.1) a.at a.count a.out.now p.1 a.k (sym c.before.before.before.before.before.before.before.before.before.fits2.ensures ∙ not-false _ c.if-not-fits.false) _ _ _ _ c.params-n.ensures refl c.total-from.ensures c.weigh-w.ensures c.if-w-gt-LIMIT.false (omega (arith, c.if-k-eq0.false)) (λ e. absurd (c.if-type_number-eq3.false (c.type_number.ensures ∙ e)))
+    entered_open (lines_in a.t.now) a.t.now a.u.now a.y a.d p.0.0 (eqb c.state-newtype.result 1) (unfolded_at (lines_in a.t.now) a.t.now a.u.now a.y a.d _ c.state-newtype.ensures p.0.1) a.at a.count a.out.now p.1 a.k (sym c.fits.ensures ∙ c.if-not-fits.false) _ _ _ _ c.params-n.ensures refl c.total-from.ensures c.weigh-w.ensures c.if-w-gt-LIMIT.false (omega (arith, c.if-k-eq0.false)) (λ e. absurd (c.if-type_number-eq3.false (c.type_number.ensures ∙ e)))
 
 pub entry_spec : {M : Type 1} → statement M
 entry_spec =

@@ -13,30 +13,30 @@ use Rattle.verdict_sheet.proofs.overlay.copy.Lts as lts
 use Rattle.sheet_copier.proofs.copy_lines.Reads as copy-lines-reads
 
 -- src/lib.rt:119:23
-sub-copy-lines : tie.Need-overflow-sub-copy-lines
+sub-copy-lines : tie.Need-slice_bounds-copy_lines-count
 sub-copy-lines c = search rules
 
 -- src/lib.rt:119:23
-part-copy-lines-start : tie.Need-slice-bounds-copy-lines-start
+part-copy-lines-start : tie.Need-slice_bounds-copy_lines-start
 part-copy-lines-start c = search rules
 
 -- src/lib.rt:119:23
-part-copy-lines-end : tie.Need-slice-bounds-copy-lines-end
+part-copy-lines-end : tie.Need-slice_bounds-copy_lines-end
 part-copy-lines-end c = search rules
 
 -- src/lib.rt:119:5
-copy-lines-requires : tie.Need-copy-lines-requires
+copy-lines-requires : tie.Need-copy_lines-requires
 copy-lines-requires c κs = search rules
 
 -- src/lib.rt:114:1
-same_length : tie.Need-same-length
+same_length : tie.Need-shape_of-out
 same_length c = search rules
 
 -- src/lib.rt:114:1
 returns : tie.Need-returns
 returns c =
-    let a = c.before.before.before.before.before.before.args in
-    ap₂ (λ (x y : List ℕ). x ++ y) c.before.before.copy-lines.ensures (Post-is 0 (length a.s.now) a.out.now (omega arith))
+    let a = c.args in
+    ap₂ (λ (x y : List ℕ). x ++ y) c.copy_lines.ensures (Post-is 0 (length a.s.now) a.out.now (omega arith))
 
 pub copy_spec : {M : Type 1} → statement M
 copy_spec =

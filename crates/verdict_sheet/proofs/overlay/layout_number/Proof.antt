@@ -6,33 +6,33 @@ use Rattle.verdict_sheet.proofs.overlay.layout_number.Statement.{statement}
 use Rattle.table_access.specs.Tables.{lines_in}
 use Rattle.verdict_sheet.proofs.overlay.layout_number.Tie as tie
 
-shared-slice-read-state : tie.Need-shared-slice-read-state
-shared-slice-read-state c = let a = c.before.before.before in cell_inside (lines_in a.args.t.now) a.args.u.now a.args.d a.requires.0.1 a.requires.1
+shared-slice-read-state : tie.Need-bounds-u-d
+shared-slice-read-state c = let a = c in cell_inside (lines_in a.args.t.now) a.args.u.now a.args.d a.requires.0.1 a.requires.1
 
-returns : tie.Need-returns
-returns c = let a = c.before.before.before.before in number_gone (lines_in a.args.t.now) a.args.u.now a.args.d a.requires.0.1 a.requires.1 c.if1.true
+returns : tie.Need-returns-then-state-eq0
+returns c = let a = c in number_gone (lines_in a.args.t.now) a.args.u.now a.args.d a.requires.0.1 a.requires.1 c.if-state-eq0.true
 
-returns-2 : tie.Need-returns-2
-returns-2 c = let a = c.before.before.before.before.before in number_newtype (lines_in a.args.t.now) a.args.u.now a.args.d a.requires.0.1 a.requires.1 c.if2.true
+returns-2 : tie.Need-returns-then-state-eq1
+returns-2 c = let a = c in number_newtype (lines_in a.args.t.now) a.args.u.now a.args.d a.requires.0.1 a.requires.1 c.if-state-eq1.true
 
-returns-3 : tie.Need-returns-3
+returns-3 : tie.Need-returns-then-kind-eq0
 returns-3 c =
-    let a = c.before.before.before.before.before.before.before in
-    let k = c.before.decl-number in
-    rw c.if3.true at (number_kept (lines_in a.args.t.now) a.args.u.now a.args.d a.requires.0.1 a.requires.1 c.before.before.before.if1.false c.before.before.if2.false k.result k.ensures)
+    let a = c in
+    let k = c.decl_number-kind in
+    rw c.if-kind-eq0.true at (number_kept (lines_in a.args.t.now) a.args.u.now a.args.d a.requires.0.1 a.requires.1 c.if-state-eq0.false c.if-state-eq1.false k.result k.ensures)
 
-returns-4 : tie.Need-returns-4
+returns-4 : tie.Need-returns-then-kind-eq1
 returns-4 c =
-    let a = c.before.before.before.before.before.before.before.before in
-    let k = c.before.before.decl-number in
-    rw c.if4.true at (number_kept (lines_in a.args.t.now) a.args.u.now a.args.d a.requires.0.1 a.requires.1 c.before.before.before.before.if1.false c.before.before.before.if2.false k.result k.ensures)
+    let a = c in
+    let k = c.decl_number-kind in
+    rw c.if-kind-eq1.true at (number_kept (lines_in a.args.t.now) a.args.u.now a.args.d a.requires.0.1 a.requires.1 c.if-state-eq0.false c.if-state-eq1.false k.result k.ensures)
 
-returns-5 : tie.Need-returns-5
+returns-5 : tie.Need-returns
 returns-5 c =
-    let a = c.before.before.before.before.before.before.before.before in
-    let k = c.before.before.decl-number in
-    rw (ne_eqb k.result 0 c.before.if3.false, ne_eqb k.result 1 c.if4.false) at
-    (number_kept (lines_in a.args.t.now) a.args.u.now a.args.d a.requires.0.1 a.requires.1 c.before.before.before.before.if1.false c.before.before.before.if2.false k.result k.ensures)
+    let a = c in
+    let k = c.decl_number-kind in
+    rw (ne_eqb k.result 0 c.if-kind-eq0.false, ne_eqb k.result 1 c.if-kind-eq1.false) at
+    (number_kept (lines_in a.args.t.now) a.args.u.now a.args.d a.requires.0.1 a.requires.1 c.if-state-eq0.false c.if-state-eq1.false k.result k.ensures)
 
 pub layout_number_spec : {M : Type 1} → statement M
 layout_number_spec =
