@@ -1,4 +1,4 @@
-/* The layout pass for types, for callers in C. Link the static library that `rt staticlib` writes
+/* The layout pass for types, for callers in C. Link the static library that `rt lib` writes
  * (README.md in this folder). What a sheet is, what each code means and what is written is said in
  * docs/FORMAT.md; sections are cited here as [4].
  *

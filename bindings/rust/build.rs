@@ -1,4 +1,4 @@
-//! Links the static library that the variable LAYOUT_LIB names, as `target/staticlib/libNAME.a`.
+//! Links the static library that the variable LAYOUT_LIB names, as `crates/NAME/out/libNAME.a`.
 
 use std::path::Path;
 

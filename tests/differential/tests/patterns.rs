@@ -87,15 +87,15 @@ fn what_becomes_of_generated_patterns() {
         let (new, freed) = &rewritten;
         freed_some += usize::from(!freed.is_empty());
 
-        // lines-bounded
+        // lines_bounded
         let written = written(&rewritten);
         assert!(written.len() <= q_lines(&lines).len(), "sheet {index}");
-        // read-back
+        // read_back
         let names: Vec<Line> = lines.iter().filter(|l| l.letter == b'N').cloned().collect();
         let left = [names, written.into_iter().filter(|l| l.letter == b'Q').collect()].concat();
         assert_eq!((rows::row3(&left), rows::row5(&left)), (None, None), "sheet {index}");
         assert_eq!(reference::pattern::pattern(&left).as_ref(), Some(new), "sheet {index}");
-        // names-accounted
+        // names_accounted
         if once(&whole) {
             let after = counted(pat_vars(new).into_iter().chain(freed.iter().copied()));
             assert_eq!(counted(pat_vars(&whole)), after, "sheet {index}");

@@ -41,7 +41,7 @@ fn what_the_guard_makes_of_rings() {
 
         let mut seen = Vec::new();
         for i in all.clone().filter(|&i| candidates[i].is_some()) {
-            // guard-more
+            // guard_more
             assert!(by_payloads[i].is_some() || by_all[i].is_none(), "sheet {index}");
             let local = without(&passes, &|j| is_abbrev(j) && imported(j));
             let foreign = without(&passes, &|j| is_abbrev(j) && !imported(j));
@@ -75,11 +75,11 @@ fn what_the_guard_makes_of_rings() {
             ];
             seen.extend(leaves.iter().filter(|(_, gone_on)| ends(*gone_on)).map(|(words, _)| words));
         }
-        // guard-here
+        // guard_here
         if !all.clone().any(|i| is_abbrev(i) && passes[i].is_some()) {
             assert_eq!(by_payloads, by_all, "sheet {index}");
         }
-        // loops-left
+        // loops_left
         let ours = without(&unfolded, &|j| imported(j) && !is_abbrev(j));
         for i in all.clone().filter(|&i| returns(&program, &unfolded, i)) {
             assert!(is_abbrev(i) || imported(i) || !loops(&ours, i), "sheet {index}");
