@@ -267,9 +267,9 @@ emit_form_loop_again t c =
       omega (arith, c.if-e-out.false),
       put_same _ _ _ _ _ _ (filled_more (kid_words (lines_in a.t.now) a.u.now a.f.now a.d a.places a.y) (kids_of (lines_in a.t.now) a.y) a.f.now (get_or a.f.now (2 * a.m) 0) (get_or a.f.now (2 * a.m + 1) 0) (p.1.0.forms.inside a.m p.1.2) l.i c.loop-i-test.true) (put_more _ _ a.out.now a.at l.r _ l.out _ p.1.1 (omega (arith, l.invariant.1, l.invariant.2)) l.invariant.3 c.emit_node-e.ensures),
       elim c.if-p-y.branch [
-    then-p-y w ↦ λ q. stands_by (words (lines_in a.t.now) a.u.now a.f.now a.d a.places) _ _ _ _ _ _ _ _ w.last-is w.from-is w.end-is (stands_put (words (lines_in a.t.now) a.u.now a.f.now a.d a.places g.result) l.out l.r e.result _ l.invariant.2 h (put_same _ _ _ _ _ _ (sym (step_given (lines_in a.t.now) a.u.now a.f.now a.d a.places a.y _ _ g.ensures w.if-p-y.true)) e.ensures))
-    | else-p-y w ↦ λ q. stands_by (words (lines_in a.t.now) a.u.now a.f.now a.d a.places) _ _ _ _ _ _ _ _ w.last-is w.from-is w.end-is (stands_kept _ l.out l.r e.result _ l.invariant.2 h (words (lines_in a.t.now) a.u.now a.f.now a.d a.places l.last) l.from l.end e.ensures (l.invariant.4 (omega (arith, w.last-is))))
-    ],
+        | then-p-y w ↦ λ q. stands_by (words (lines_in a.t.now) a.u.now a.f.now a.d a.places) _ _ _ _ _ _ _ _ w.last-is w.from-is w.end-is (stands_put (words (lines_in a.t.now) a.u.now a.f.now a.d a.places g.result) l.out l.r e.result _ l.invariant.2 h (put_same _ _ _ _ _ _ (sym (step_given (lines_in a.t.now) a.u.now a.f.now a.d a.places a.y _ _ g.ensures w.if-p-y.true)) e.ensures))
+        | else-p-y w ↦ λ q. stands_by (words (lines_in a.t.now) a.u.now a.f.now a.d a.places) _ _ _ _ _ _ _ _ w.last-is w.from-is w.end-is (stands_kept _ l.out l.r e.result _ l.invariant.2 h (words (lines_in a.t.now) a.u.now a.f.now a.d a.places l.last) l.from l.end e.ensures (l.invariant.4 (omega (arith, w.last-is))))
+      ],
     )
 
 emit_form_same_length_2 : (t : ℕ) → emit-form-lts.Need-shape_of-out (

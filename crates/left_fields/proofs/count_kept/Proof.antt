@@ -31,9 +31,9 @@ loop-again c =
     let l = c.loop-j in (
       omega arith,
       elim c.if-keep-i-eq1.branch [
-    then-keep-i-eq1 w ↦ w.m-is ∙ (ap (λ (x : ℕ). x + 1) l.invariant.1 ∙ count_yes a.keep.now a.i l.j w.if-keep-i-eq1.true)
-    | else-keep-i-eq1 w ↦ w.m-is ∙ (l.invariant.1 ∙ count_no a.keep.now a.i l.j w.if-keep-i-eq1.false)
-    ],
+        | then-keep-i-eq1 w ↦ w.m-is ∙ (ap (λ (x : ℕ). x + 1) l.invariant.1 ∙ count_yes a.keep.now a.i l.j w.if-keep-i-eq1.true)
+        | else-keep-i-eq1 w ↦ w.m-is ∙ (l.invariant.1 ∙ count_no a.keep.now a.i l.j w.if-keep-i-eq1.false)
+      ],
     )
 
 returns : tie.Need-returns invariant-loop decreases-loop

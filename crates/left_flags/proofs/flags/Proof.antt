@@ -14,54 +14,54 @@ use borrow.Author.Rules.{rules}
 use Rattle.left_flags.proofs.flags.Statement.{statement}
 use Rattle.left_flags.proofs.flags.Tie as tie
 
-abbrev invariant-loop : tie.invariant-loop
+abbrev invariant-loop : tie.invariant-loop-d
 invariant-loop t u f keep left₀ n d₀ left d =
     (d ≤ n) × (n ≡ decls_of (lines_in t)) × (length left ≡ length left₀) × ((e : ℕ) → e < d → get_or left e 0 ≡ bit (is_left (left_at 100 (program (lines_in t)) e)))
 
-abbrev decreases-loop : tie.decreases-loop
+abbrev decreases-loop : tie.decreases-loop-d
 decreases-loop t u f keep left₀ n d₀ left d = n - d
 
-decls-requires : tie.Need-decls-requires invariant-loop decreases-loop
-decls-requires c κs = c.before.before.before.before.before.requires.0.tabled
+decls-requires : tie.Need-decls-n-requires invariant-loop decreases-loop
+decls-requires c κs = c.requires.0.tabled
 
-loop-holds : tie.Need-loop-init invariant-loop decreases-loop
-loop-holds c = (omega arith, c.decls.ensures, refl, λ e h. absurd (omega arith))
+loop-holds : tie.Need-loop-d-init invariant-loop decreases-loop
+loop-holds c = (omega arith, c.decls-n.ensures, refl, λ e h. absurd (omega arith))
 
-is-left-requires : tie.Need-is-left-requires invariant-loop decreases-loop
+is-left-requires : tie.Need-is_left-requires invariant-loop decreases-loop
 is-left-requires c κs =
-    let a = c.before.before.before.before.before.before.before.before.args in
-    let p = c.before.before.before.before.before.before.before.before.requires in
-    (p.0.tabled, ready_forms (lines_in a.t.now) a.t.now a.u.now a.f.now a.keep.now p.0, omega (arith, c.loop-test.true, c.before.loop.invariant.1))
+    let a = c.args in
+    let p = c.requires in
+    (p.0.tabled, ready_forms (lines_in a.t.now) a.t.now a.u.now a.f.now a.keep.now p.0, omega (arith, c.loop-d-test.true, c.loop-d.invariant.1))
 
-slice-write-left : tie.Need-slice-write-left invariant-loop decreases-loop
-slice-write-left c = omega (arith, c.before.before.loop-test.true, c.before.before.before.loop.invariant.1, c.before.before.before.loop.invariant.2, c.before.before.before.before.before.before.before.before.before.before.requires.1)
+slice-write-left : tie.Need-bounds-left-d invariant-loop decreases-loop
+slice-write-left c = omega (arith, c.loop-d-test.true, c.loop-d.invariant.1, c.loop-d.invariant.2, c.requires.1)
 
-add-d : tie.Need-overflow-add-d invariant-loop decreases-loop
-add-d c = omega (arith, c.before.before.loop-test.true, c.before.before.before.loop.invariant.1, decls_few (lines_in c.before.before.before.before.before.before.before.before.before.before.args.t.now) c.before.before.before.before.before.before.before.before.before.before.requires.0.tabled.passed)
+add-d : tie.Need-overflow_step-d invariant-loop decreases-loop
+add-d c = omega (arith, c.loop-d-test.true, c.loop-d.invariant.1, decls_few (lines_in c.args.t.now) c.requires.0.tabled.passed)
 
-loop-less : tie.Need-loop-smaller invariant-loop decreases-loop
-loop-less c = omega (arith, c.before.before.loop-test.true)
+loop-less : tie.Need-loop-d-smaller invariant-loop decreases-loop
+loop-less c = omega (arith, c.loop-d-test.true)
 
-loop-again : tie.Need-loop-preserved invariant-loop decreases-loop
+loop-again : tie.Need-loop-d-preserved invariant-loop decreases-loop
 loop-again c =
-    let a = c.before.before.before.before.before.before.before.before.before.before.args in
-    let p = c.before.before.before.before.before.before.before.before.before.before.requires in
-    let l = c.before.before.before.loop in
-    let h : l.d < decls_of (lines_in a.t.now) = omega (arith, c.before.before.loop-test.true, l.invariant.1) in (
-      omega (arith, c.before.before.loop-test.true),
+    let a = c.args in
+    let p = c.requires in
+    let l = c.loop-d in
+    let h : l.d < decls_of (lines_in a.t.now) = omega (arith, c.loop-d-test.true, l.invariant.1) in (
+      omega (arith, c.loop-d-test.true),
       l.invariant.1,
       length-set l.left l.d c.bit.result ∙ l.invariant.2,
       flag_more (λ e. bit (is_left (left_at 100 (program (lines_in a.t.now)) e))) l.left l.d (omega (arith, l.invariant.2, p.1)) l.invariant.3 c.bit.result
-          (c.bit.ensures ∙ ap bit (c.before.is_left.ensures ∙ leaves_is (lines_in a.t.now) a.t.now a.u.now a.f.now a.keep.now p.0 l.d h)),
+          (c.bit.ensures ∙ ap bit (c.is_left.ensures ∙ leaves_is (lines_in a.t.now) a.t.now a.u.now a.f.now a.keep.now p.0 l.d h)),
     )
 
-same_length : tie.Need-same-length invariant-loop decreases-loop
-same_length c = c.before.loop.invariant.2
+same_length : tie.Need-shape_of-left invariant-loop decreases-loop
+same_length c = c.loop-d.invariant.2
 
 returns : tie.Need-returns invariant-loop decreases-loop
 returns c =
-    let l = c.before.loop in
-    record { long = omega (arith, l.invariant.2, c.before.before.before.before.before.before.before.before.requires.1); flags = λ d h. l.invariant.3 d (omega (arith, c.loop-test.false, l.invariant.1)) }
+    let l = c.loop-d in
+    record { long = omega (arith, l.invariant.2, c.requires.1); flags = λ d h. l.invariant.3 d (omega (arith, c.loop-d-test.false, l.invariant.1)) }
 
 pub flags_spec : {M : Type 1} → statement M
 flags_spec =

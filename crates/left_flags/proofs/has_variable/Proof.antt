@@ -11,29 +11,29 @@ use borrow.Author.Rules.{rules}
 use Rattle.left_flags.proofs.has_variable.Statement.{statement}
 use Rattle.left_flags.proofs.has_variable.Tie as tie
 
-abbrev invariant-loop : tie.invariant-loop
+abbrev invariant-loop : tie.invariant-loop-k
 invariant-loop f start n i k₀ k = (k ≤ n) × ((j : ℕ) → j < k → is_var i (node_of (get_or f (start + j) 0)) ≡ false)
 
-abbrev decreases-loop : tie.decreases-loop
+abbrev decreases-loop : tie.decreases-loop-k
 decreases-loop f start n i k₀ k = n - k
 
-loop-holds : tie.Need-loop-init invariant-loop decreases-loop
+loop-holds : tie.Need-loop-k-init invariant-loop decreases-loop
 loop-holds c = (omega arith, λ j h. absurd (omega arith))
 
-returns : tie.Need-returns invariant-loop decreases-loop
+returns : tie.Need-returns-then-is_variable invariant-loop decreases-loop
 returns c =
-    let a = c.before.before.before.before.before.before.args in
-    sym (has_true a.f.now a.start a.n c.before.before.before.before.before.before.requires a.i c.before.before.before.before.loop.k c.before.before.before.loop-test.true (sym c.before.is-variable.ensures ∙ c.if1.true))
+    let a = c.args in
+    sym (has_true a.f.now a.start a.n c.requires a.i c.loop-k.k c.loop-k-test.true (sym c.is_variable.ensures ∙ c.if-is_variable.true))
 
-loop-again : tie.Need-loop-preserved invariant-loop decreases-loop
+loop-again : tie.Need-loop-k-preserved invariant-loop decreases-loop
 loop-again c =
-    let a = c.before.before.before.before.before.before.args in
-    (omega (arith, c.before.before.before.loop-test.true), none_more a.f.now a.start a.i c.before.before.before.before.loop.k c.before.before.before.before.loop.invariant.1 (sym c.before.is-variable.ensures ∙ c.if1.false))
+    let a = c.args in
+    (omega (arith, c.loop-k-test.true), none_more a.f.now a.start a.i c.loop-k.k c.loop-k.invariant.1 (sym c.is_variable.ensures ∙ c.if-is_variable.false))
 
-returns-2 : tie.Need-returns-2 invariant-loop decreases-loop
+returns-2 : tie.Need-returns invariant-loop decreases-loop
 returns-2 c =
-    let a = c.before.before.before.args in
-    sym (has_false a.f.now a.start a.n c.before.before.before.requires a.i (λ k h. c.before.loop.invariant.1 k (omega (arith, c.loop-test.false))))
+    let a = c.args in
+    sym (has_false a.f.now a.start a.n c.requires a.i (λ k h. c.loop-k.invariant.1 k (omega (arith, c.loop-k-test.false))))
 
 pub has_variable_spec : {M : Type 1} → statement M
 has_variable_spec =

@@ -7,28 +7,28 @@ use borrow.Author.Rules.{rules}
 use Rattle.mention_edges.proofs.edge.Statement.{statement}
 use Rattle.mention_edges.proofs.edge.Tie as tie
 
-mul-unite : tie.Need-overflow-mul-unite
+mul-unite : tie.Need-overflow_mul-body
 mul-unite c =
-    let a = c.before.before.before.before.before.before.before.before.args in
-    omega (arith, row_room a.body a.types a.words (length a.sets.now) c.before.if1.true c.before.before.before.before.before.before.before.before.requires.0)
+    let a = c.args in
+    omega (arith, row_room a.body a.types a.words (length a.sets.now) c.if-body-types.true c.requires.0)
 
 unite-requires : tie.Need-unite-requires
 unite-requires c κs =
-    let a = c.before.before.before.before.before.before.before.before.args in
-    let p = c.before.before.before.before.before.before.before.before.requires in
-    (omega (arith, p.1, c.before.before.before.before.clear.auto.0), omega (arith, row_room a.body a.types a.words (length a.sets.now) c.before.if1.true p.0))
+    let a = c.args in
+    let p = c.requires in
+    (omega (arith, p.1, c.clear.auto.s), omega (arith, row_room a.body a.types a.words (length a.sets.now) c.if-body-types.true p.0))
 
-returns : tie.Need-returns
+returns : tie.Need-returns-then-body-types
 returns c =
-    let a = c.before.before.before.before.before.before.before.before.before.before.before.args in
+    let a = c.args in
     rw
-    (c.before.before.unite.ensures, c.before.before.before.before.before.before.before.clear.ensures)
-    (edge_some a.words a.types a.sets.now a.body a.d a.steps.now c.before.before.before.before.before.before.before.before.before.before.before.requires.1 c.before.before.before.before.if1.true)
+    (c.unite.ensures, c.clear.ensures)
+    (edge_some a.words a.types a.sets.now a.body a.d a.steps.now c.requires.1 c.if-body-types.true)
 
-returns-2 : tie.Need-returns-2
+returns-2 : tie.Need-returns-else-body-types
 returns-2 c =
-    let a = c.before.before.before.before.before.before.before.args in
-    rw c.before.before.before.clear.ensures (edge_none a.words a.types a.sets.now a.body a.d a.steps.now c.before.before.before.before.before.before.before.requires.1 c.if1.false)
+    let a = c.args in
+    rw c.clear.ensures (edge_none a.words a.types a.sets.now a.body a.d a.steps.now c.requires.1 c.if-body-types.false)
 
 pub edge_spec : {M : Type 1} → statement M
 edge_spec =

@@ -8,35 +8,35 @@ use Rattle.resolve_faults.proofs.decl_fault.Statement.{statement}
 use Rattle.table_access.specs.Tables.{lines_in}
 use Rattle.resolve_faults.proofs.decl_fault.Tie as tie
 
-cast-state : tie.Need-overflow-cast-state
-cast-state c = omega (arith, c.shared-slice-known4.given (2 * c.before.before.before.before.before.before.args.d))
+cast-state : tie.Need-overflow_cast-state
+cast-state c = omega (arith, c.shared_slice_known-4-1.given (2 * c.args.d))
 
-returns : tie.Need-returns
-returns c = decl_gone (lines_in c.before.before.before.before.before.before.before.args.t.now) c.before.before.before.before.before.before.before.args.t.now c.before.before.before.before.before.before.before.args.u.now c.before.before.before.before.before.before.before.args.keep.now c.before.before.before.before.before.before.before.requires.0.0 c.before.before.before.before.before.before.before.args.d c.before.before.before.before.before.before.before.requires.0.1 (length c.before.before.before.before.before.before.before.args.out.now) c.before.before.before.before.before.before.before.args.slots.now c.if1.true c.before.before.before.before.before.before.before.requires.1
+returns : tie.Need-returns-then-state-eq-GONE
+returns c = decl_gone (lines_in c.args.t.now) c.args.t.now c.args.u.now c.args.keep.now c.requires.0.0 c.args.d c.requires.0.1 (length c.args.out.now) c.args.slots.now c.if-state-eq-GONE.true c.requires.1
 
-cast-y : tie.Need-overflow-cast-y
-cast-y c = omega (arith, c.shared-slice-known5.given (2 * c.before.before.before.before.before.before.before.before.before.args.d + 1))
+cast-y : tie.Need-overflow_cast-y
+cast-y c = omega (arith, c.shared_slice_known-then-state-eq-NEWTYPE-1.given (2 * c.args.d + 1))
 
 resolved-requires : tie.Need-resolved-requires
-resolved-requires c κs = (payload_place (lines_in c.before.before.before.before.before.before.before.before.before.before.before.args.t.now) c.before.before.before.before.before.before.before.before.before.before.before.args.t.now c.before.before.before.before.before.before.before.before.before.before.before.args.u.now c.before.before.before.before.before.before.before.before.before.before.before.args.keep.now c.before.before.before.before.before.before.before.before.before.before.before.requires.0.0 c.before.before.before.before.before.before.before.before.before.before.before.args.d c.before.before.before.before.before.before.before.before.before.before.before.requires.0.1 c.before.before.before.if2.true, c.before.before.before.before.before.before.before.before.before.before.before.requires.1)
+resolved-requires c κs = (payload_place (lines_in c.args.t.now) c.args.t.now c.args.u.now c.args.keep.now c.requires.0.0 c.args.d c.requires.0.1 c.if-state-eq-NEWTYPE.true, c.requires.1)
 
-returns-2 : tie.Need-returns-2
-returns-2 c = decl_payload (lines_in c.before.before.before.before.before.before.before.before.before.before.before.before.before.before.before.before.args.t.now) c.before.before.before.before.before.before.before.before.before.before.before.before.before.before.before.before.args.t.now c.before.before.before.before.before.before.before.before.before.before.before.before.before.before.before.before.args.u.now c.before.before.before.before.before.before.before.before.before.before.before.before.before.before.before.before.args.keep.now c.before.before.before.before.before.before.before.before.before.before.before.before.before.before.before.before.requires.0.0 c.before.before.before.before.before.before.before.before.before.before.before.before.before.before.before.before.args.d c.before.before.before.before.before.before.before.before.before.before.before.before.before.before.before.before.requires.0.1 c.before.before.before.before.before.before.before.before.if2.true c.before.before.before.before.before.before.before.before.before.before.before.before.before.before.before.before.args.out.now _ _ _ c.before.before.before.before.resolved.ensures
+returns-2 : tie.Need-returns-then-state-eq-NEWTYPE
+returns-2 c = decl_payload (lines_in c.args.t.now) c.args.t.now c.args.u.now c.args.keep.now c.requires.0.0 c.args.d c.requires.0.1 c.if-state-eq-NEWTYPE.true c.args.out.now _ _ _ c.resolved.ensures
 
-returns-3 : tie.Need-returns-3
-returns-3 c = decl_abstract (lines_in c.before.before.before.before.before.before.before.before.before.before.args.t.now) c.before.before.before.before.before.before.before.before.before.before.args.t.now c.before.before.before.before.before.before.before.before.before.before.args.u.now c.before.before.before.before.before.before.before.before.before.before.args.keep.now c.before.before.before.before.before.before.before.before.before.before.requires.0.0 c.before.before.before.before.before.before.before.before.before.before.args.d c.before.before.before.before.before.before.before.before.before.before.requires.0.1 c.before.before.before.if1.false c.before.before.if2.false _ c.before.decl-number.ensures (length c.before.before.before.before.before.before.before.before.before.before.args.out.now) c.before.before.before.before.before.before.before.before.before.before.args.slots.now c.if3.true c.before.before.before.before.before.before.before.before.before.before.requires.1
+returns-3 : tie.Need-returns-then-kind-eq-ABSTRACT
+returns-3 c = decl_abstract (lines_in c.args.t.now) c.args.t.now c.args.u.now c.args.keep.now c.requires.0.0 c.args.d c.requires.0.1 c.if-state-eq-GONE.false c.if-state-eq-NEWTYPE.false _ c.decl_number-kind.ensures (length c.args.out.now) c.args.slots.now c.if-kind-eq-ABSTRACT.true c.requires.1
 
-resolved-requires-2 : tie.Need-resolved-requires-2
-resolved-requires-2 c κs = (abbrev_place (lines_in c.before.before.before.before.before.before.before.before.before.before.before.before.before.before.args.t.now) c.before.before.before.before.before.before.before.before.before.before.before.before.before.before.args.t.now c.before.before.before.before.before.before.before.before.before.before.before.before.before.before.args.u.now c.before.before.before.before.before.before.before.before.before.before.before.before.before.before.args.keep.now c.before.before.before.before.before.before.before.before.before.before.before.before.before.before.requires.0.0 c.before.before.before.before.before.before.before.before.before.before.before.before.before.before.args.d c.before.before.before.before.before.before.before.before.before.before.before.before.before.before.requires.0.1 c.before.before.before.before.before.before.before.if1.false c.before.before.before.before.before.before.if2.false _ c.before.before.before.before.before.decl-number.ensures c.before.before.before.if4.true _ c.before.before.decl-number2.ensures, c.before.before.before.before.before.before.before.before.before.before.before.before.before.before.requires.1)
+resolved-requires-2 : tie.Need-resolved-requires-then-kind-eq-ABBREVIATION
+resolved-requires-2 c κs = (abbrev_place (lines_in c.args.t.now) c.args.t.now c.args.u.now c.args.keep.now c.requires.0.0 c.args.d c.requires.0.1 c.if-state-eq-GONE.false c.if-state-eq-NEWTYPE.false _ c.decl_number-kind.ensures c.if-kind-eq-ABBREVIATION.true _ c.decl_number-y.ensures, c.requires.1)
 
-returns-4 : tie.Need-returns-4
-returns-4 c = decl_abbrev (lines_in c.before.before.before.before.before.before.before.before.before.before.before.before.before.before.before.before.before.before.before.args.t.now) c.before.before.before.before.before.before.before.before.before.before.before.before.before.before.before.before.before.before.before.args.t.now c.before.before.before.before.before.before.before.before.before.before.before.before.before.before.before.before.before.before.before.args.u.now c.before.before.before.before.before.before.before.before.before.before.before.before.before.before.before.before.before.before.before.args.keep.now c.before.before.before.before.before.before.before.before.before.before.before.before.before.before.before.before.before.before.before.requires.0.0 c.before.before.before.before.before.before.before.before.before.before.before.before.before.before.before.before.before.before.before.args.d c.before.before.before.before.before.before.before.before.before.before.before.before.before.before.before.before.before.before.before.requires.0.1 c.before.before.before.before.before.before.before.before.before.before.before.before.if1.false c.before.before.before.before.before.before.before.before.before.before.before.if2.false _ c.before.before.before.before.before.before.before.before.before.before.decl-number.ensures c.before.before.before.before.before.before.before.before.if4.true _ c.before.before.before.before.before.before.before.decl-number2.ensures c.before.before.before.before.before.before.before.before.before.before.before.before.before.before.before.before.before.before.before.args.out.now _ _ _ c.before.before.before.before.resolved2.ensures
+returns-4 : tie.Need-returns-then-kind-eq-ABBREVIATION
+returns-4 c = decl_abbrev (lines_in c.args.t.now) c.args.t.now c.args.u.now c.args.keep.now c.requires.0.0 c.args.d c.requires.0.1 c.if-state-eq-GONE.false c.if-state-eq-NEWTYPE.false _ c.decl_number-kind.ensures c.if-kind-eq-ABBREVIATION.true _ c.decl_number-y.ensures c.args.out.now _ _ _ c.resolved-then-kind-eq-ABBREVIATION.ensures
 
-field-fault-requires : tie.Need-field-fault-requires
-field-fault-requires c κs = ((c.before.before.before.before.before.before.before.before.before.before.before.before.before.before.before.requires.0.0, c.before.before.before.before.before.before.before.before.before.before.before.before.before.before.before.requires.0.1, fields_inside (lines_in c.before.before.before.before.before.before.before.before.before.before.before.before.before.before.before.args.t.now) c.before.before.before.before.before.before.before.before.before.before.before.before.before.before.before.args.t.now c.before.before.before.before.before.before.before.before.before.before.before.before.before.before.before.args.u.now c.before.before.before.before.before.before.before.before.before.before.before.before.before.before.before.args.keep.now c.before.before.before.before.before.before.before.before.before.before.before.before.before.before.before.requires.0.0 c.before.before.before.before.before.before.before.before.before.before.before.before.before.before.before.args.d c.before.before.before.before.before.before.before.before.before.before.before.before.before.before.before.requires.0.1 _ c.before.before.first-field2.ensures), c.before.before.before.before.before.before.before.before.before.before.before.before.before.before.before.requires.1)
+field-fault-requires : tie.Need-field_fault-requires
+field-fault-requires c κs = ((c.requires.0.0, c.requires.0.1, fields_inside (lines_in c.args.t.now) c.args.t.now c.args.u.now c.args.keep.now c.requires.0.0 c.args.d c.requires.0.1 _ c.first_field-end.ensures), c.requires.1)
 
-returns-5 : tie.Need-returns-5
-returns-5 c = decl_fields (lines_in c.before.before.before.before.before.before.before.before.before.before.before.before.before.before.before.before.before.before.before.before.args.t.now) c.before.before.before.before.before.before.before.before.before.before.before.before.before.before.before.before.before.before.before.before.args.t.now c.before.before.before.before.before.before.before.before.before.before.before.before.before.before.before.before.before.before.before.before.args.u.now c.before.before.before.before.before.before.before.before.before.before.before.before.before.before.before.before.before.before.before.before.args.keep.now c.before.before.before.before.before.before.before.before.before.before.before.before.before.before.before.before.before.before.before.before.requires.0.0 c.before.before.before.before.before.before.before.before.before.before.before.before.before.before.before.before.before.before.before.before.args.d c.before.before.before.before.before.before.before.before.before.before.before.before.before.before.before.before.before.before.before.before.requires.0.1 c.before.before.before.before.before.before.before.before.before.before.before.before.before.if1.false c.before.before.before.before.before.before.before.before.before.before.before.before.if2.false _ c.before.before.before.before.before.before.before.before.before.before.before.decl-number.ensures c.before.before.before.before.before.before.before.before.before.before.if3.false c.before.before.before.before.before.before.before.before.before.if4.false _ _ c.before.before.before.before.before.before.before.before.first_field.ensures c.before.before.before.before.before.before.before.first-field2.ensures (length c.before.before.before.before.before.before.before.before.before.before.before.before.before.before.before.before.before.before.before.before.args.out.now) _ _ c.before.before.before.before.field-fault.ensures
+returns-5 : tie.Need-returns
+returns-5 c = decl_fields (lines_in c.args.t.now) c.args.t.now c.args.u.now c.args.keep.now c.requires.0.0 c.args.d c.requires.0.1 c.if-state-eq-GONE.false c.if-state-eq-NEWTYPE.false _ c.decl_number-kind.ensures c.if-kind-eq-ABSTRACT.false c.if-kind-eq-ABBREVIATION.false _ _ c.first_field-from.ensures c.first_field-end.ensures (length c.args.out.now) _ _ c.field_fault.ensures
 
 pub decl_fault_spec : {M : Type 1} → statement M
 decl_fault_spec =

@@ -12,57 +12,57 @@ use Rattle.resolve_faults.proofs.field_fault.Statement.{statement}
 use Rattle.table_access.specs.Tables.{lines_in}
 use Rattle.resolve_faults.proofs.field_fault.Tie as tie
 
-abbrev invariant-loop : tie.invariant-loop
+abbrev invariant-loop : tie.invariant-loop-f
 invariant-loop t u keep d from end out₀ slots₀ f₀ out slots f =
     (length out ≡ length out₀) × (length slots ≡ length slots₀) × Rest (lines_in t) u keep d (length out₀) from f end × Slots (call_of (lines_in t) u) slots
 
-abbrev decreases-loop : tie.decreases-loop
+abbrev decreases-loop : tie.decreases-loop-f
 decreases-loop t u keep d from end out₀ slots₀ f₀ out slots f = end - f
 
-loop-holds : tie.Need-loop-init invariant-loop decreases-loop
-loop-holds c = (refl, refl, rest_all (lines_in c.before.before.before.before.before.args.t.now) c.before.before.before.before.before.args.u.now c.before.before.before.before.before.args.keep.now c.before.before.before.before.before.args.d (length c.before.before.before.before.before.args.out.now) c.before.before.before.before.before.args.from c.before.before.before.before.before.args.end, c.before.before.before.before.before.requires.1)
+loop-holds : tie.Need-loop-f-init invariant-loop decreases-loop
+loop-holds c = (refl, refl, rest_all (lines_in c.args.t.now) c.args.u.now c.args.keep.now c.args.d (length c.args.out.now) c.args.from c.args.end, c.requires.1)
 
-shared-slice-read-if1 : tie.Need-shared-slice-read-if1 invariant-loop decreases-loop
-shared-slice-read-if1 c = omega (arith, c.before.loop-test.true, c.before.before.before.before.before.before.before.before.requires.0.0.fields, c.before.before.before.before.before.before.before.before.requires.0.2)
+shared-slice-read-if1 : tie.Need-bounds-keep-f invariant-loop decreases-loop
+shared-slice-read-if1 c = omega (arith, c.loop-f-test.true, c.requires.0.0.fields, c.requires.0.2)
 
-field-number-requires : tie.Need-field-number-requires invariant-loop decreases-loop
-field-number-requires c κs = (c.before.before.before.before.before.before.before.before.before.requires.0.0.setup.tabled, (omega (arith, c.before.before.loop-test.true, c.before.before.before.before.before.before.before.before.before.requires.0.2), omega arith))
+field-number-requires : tie.Need-field_number-y-requires invariant-loop decreases-loop
+field-number-requires c κs = (c.requires.0.0.setup.tabled, (omega (arith, c.loop-f-test.true, c.requires.0.2), omega arith))
 
-resolved-requires : tie.Need-resolved-requires invariant-loop decreases-loop
-resolved-requires c κs = (field_place _ _ _ c.before.before.before.before.before.before.before.before.before.before.before.before.args.keep.now c.before.before.before.before.before.before.before.before.before.before.before.before.requires.0.0 c.before.before.before.before.before.before.before.before.before.before.before.before.args.d c.before.before.before.before.before.before.before.before.before.before.before.before.requires.0.1 c.before.before.before.before.before.before.loop.f _ (omega (arith, c.before.before.before.before.before.loop-test.true, c.before.before.before.before.before.before.before.before.before.before.before.before.requires.0.2)) c.before.before.field-number.ensures, c.before.before.before.before.before.before.loop.invariant.3)
+resolved-requires : tie.Need-resolved-r-requires invariant-loop decreases-loop
+resolved-requires c κs = (field_place _ _ _ c.args.keep.now c.requires.0.0 c.args.d c.requires.0.1 c.loop-f.f _ (omega (arith, c.loop-f-test.true, c.requires.0.2)) c.field_number-y.ensures, c.loop-f.invariant.3)
 
-same_length : tie.Need-same-length invariant-loop decreases-loop
-same_length c = c.before.before.before.before.before.resolved.ensures.kept.long ∙ c.before.before.before.before.before.before.before.before.before.before.before.before.loop.invariant.0
+same_length : tie.Need-shape_of-out-then-r-lt-VALUE invariant-loop decreases-loop
+same_length c = c.resolved-r.ensures.kept.long ∙ c.loop-f.invariant.0
 
-returns : tie.Need-returns invariant-loop decreases-loop
-returns c = rest_stops (lines_in c.before.before.before.before.before.before.before.before.before.before.before.before.before.before.before.before.before.before.args.t.now) c.before.before.before.before.before.before.before.before.before.before.before.before.before.before.before.before.before.before.args.u.now c.before.before.before.before.before.before.before.before.before.before.before.before.before.before.before.before.before.before.args.keep.now c.before.before.before.before.before.before.before.before.before.before.before.before.before.before.before.before.before.before.args.d (length c.before.before.before.before.before.before.before.before.before.before.before.before.before.before.before.before.before.before.args.out.now) c.before.before.before.before.before.before.before.before.before.before.before.before.before.before.before.before.before.before.args.from c.before.before.before.before.before.before.before.before.before.before.before.before.loop.f c.before.before.before.before.before.before.before.before.before.before.before.before.before.before.before.before.before.before.args.end c.before.before.before.before.before.before.before.before.before.before.before.loop-test.true c.before.before.before.before.before.before.before.before.before.before.before.before.loop.invariant.2 _ c.before.before.before.before.before.before.before.before.field-number.ensures c.before.before.before.before.before.before.before.before.before.before.before.before.loop.out _ _ _ c.before.before.before.before.before.resolved.ensures c.before.before.before.before.before.before.before.before.before.if1.true c.before.before.before.before.before.before.before.before.before.before.before.before.loop.invariant.0 c.if2.true
+returns : tie.Need-returns-then-r-lt-VALUE invariant-loop decreases-loop
+returns c = rest_stops (lines_in c.args.t.now) c.args.u.now c.args.keep.now c.args.d (length c.args.out.now) c.args.from c.loop-f.f c.args.end c.loop-f-test.true c.loop-f.invariant.2 _ c.field_number-y.ensures c.loop-f.out _ _ _ c.resolved-r.ensures c.if-keep-f-eq1.true c.loop-f.invariant.0 c.if-r-lt-VALUE.true
 
-add-f : tie.Need-overflow-add-f invariant-loop decreases-loop
-add-f c = omega (arith, c.before.before.loop-test.true)
+add-f : tie.Need-overflow_add-f invariant-loop decreases-loop
+add-f c = omega (arith, c.loop-f-test.true)
 
-loop-less : tie.Need-loop-smaller invariant-loop decreases-loop
-loop-less c = omega (arith, c.before.before.loop-test.true)
+loop-less : tie.Need-loop-f-smaller invariant-loop decreases-loop
+loop-less c = omega (arith, c.loop-f-test.true)
 
-loop-again : tie.Need-loop-preserved invariant-loop decreases-loop
+loop-again : tie.Need-loop-f-preserved invariant-loop decreases-loop
 loop-again c =
     ⊎_elim
     (λ w. (
-      ap length w.10 ∙ (w.4.ensures.kept.long ∙ c.before.before.before.loop.invariant.0),
+      ap length w.10 ∙ (w.4.ensures.kept.long ∙ c.loop-f.invariant.0),
       rw w.11 (search rules),
-      rest_next (lines_in c.before.before.before.before.before.before.before.before.before.args.t.now) c.before.before.before.before.before.before.before.before.before.args.u.now c.before.before.before.before.before.before.before.before.before.args.keep.now c.before.before.before.before.before.before.before.before.before.args.d (length c.before.before.before.before.before.before.before.before.before.args.out.now) c.before.before.before.before.before.before.before.before.before.args.from c.before.before.before.loop.f c.before.before.before.before.before.before.before.before.before.args.end c.before.before.loop-test.true c.before.before.before.loop.invariant.2 _ w.1.ensures c.before.before.before.loop.out _ _ _ w.4.ensures w.0.taken w.9.left,
+      rest_next (lines_in c.args.t.now) c.args.u.now c.args.keep.now c.args.d (length c.args.out.now) c.args.from c.loop-f.f c.args.end c.loop-f-test.true c.loop-f.invariant.2 _ w.1.ensures c.loop-f.out _ _ _ w.4.ensures w.0.taken w.9.left,
       rw w.11 w.4.ensures.slots,
     ))
-    (λ w. (ap length w.1 ∙ c.before.before.before.loop.invariant.0, ap length w.2 ∙ c.before.before.before.loop.invariant.1, rest_skip (lines_in c.before.before.before.before.before.before.before.before.before.args.t.now) c.before.before.before.before.before.before.before.before.before.args.u.now c.before.before.before.before.before.before.before.before.before.args.keep.now c.before.before.before.before.before.before.before.before.before.args.d (length c.before.before.before.before.before.before.before.before.before.args.out.now) c.before.before.before.before.before.before.before.before.before.args.from c.before.before.before.loop.f c.before.before.before.before.before.before.before.before.before.args.end c.before.before.loop-test.true c.before.before.before.loop.invariant.2 w.0.left, rw w.2 c.before.before.before.loop.invariant.3))
-    c.if1.branch
+    (λ w. (ap length w.1 ∙ c.loop-f.invariant.0, ap length w.2 ∙ c.loop-f.invariant.1, rest_skip (lines_in c.args.t.now) c.args.u.now c.args.keep.now c.args.d (length c.args.out.now) c.args.from c.loop-f.f c.args.end c.loop-f-test.true c.loop-f.invariant.2 w.0.left, rw w.2 c.loop-f.invariant.3))
+    c.if-keep-f-eq1.branch
 
-same-length-3 : tie.Need-same-length-3 invariant-loop decreases-loop
-same-length-3 c = c.before.loop.invariant.0
+same-length-3 : tie.Need-shape_of-out invariant-loop decreases-loop
+same-length-3 c = c.loop-f.invariant.0
 
-same-length-4 : tie.Need-same-length-4 invariant-loop decreases-loop
-same-length-4 c = c.before.loop.invariant.1
+same-length-4 : tie.Need-shape_of-slots invariant-loop decreases-loop
+same-length-4 c = c.loop-f.invariant.1
 
-returns-2 : tie.Need-returns-2 invariant-loop decreases-loop
-returns-2 c = rest_none (lines_in c.before.before.before.before.before.before.before.args.t.now) c.before.before.before.before.before.before.before.args.u.now c.before.before.before.before.before.before.before.args.keep.now c.before.before.before.before.before.before.before.args.d (length c.before.before.before.before.before.before.before.args.out.now) c.before.before.before.before.before.before.before.args.from c.before.loop.f c.before.before.before.before.before.before.before.args.end c.before.loop.slots c.loop-test.false c.before.loop.invariant.2 c.before.loop.invariant.3
+returns-2 : tie.Need-returns invariant-loop decreases-loop
+returns-2 c = rest_none (lines_in c.args.t.now) c.args.u.now c.args.keep.now c.args.d (length c.args.out.now) c.args.from c.loop-f.f c.args.end c.loop-f.slots c.loop-f-test.false c.loop-f.invariant.2 c.loop-f.invariant.3
 
 pub field_fault_spec : {M : Type 1} → statement M
 field_fault_spec =

@@ -12,42 +12,42 @@ use Rattle.resolve_faults.proofs.first_fault.Statement.{statement}
 use Rattle.table_access.specs.Tables.{lines_in}
 use Rattle.resolve_faults.proofs.first_fault.Tie as tie
 
-abbrev invariant-loop : tie.invariant-loop
+abbrev invariant-loop : tie.invariant-loop-d
 invariant-loop t u keep out₀ slots₀ n d₀ out slots d =
     (d ≤ n) × (length out ≡ length out₀) × (length slots ≡ length slots₀) × ((i : ℕ) → i < d → AllFine (lines_in t) u keep i) × Slots (call_of (lines_in t) u) slots
 
-abbrev decreases-loop : tie.decreases-loop
+abbrev decreases-loop : tie.decreases-loop-d
 decreases-loop t u keep out₀ slots₀ n d₀ out slots d = n - d
 
-decls-requires : tie.Need-decls-requires invariant-loop decreases-loop
-decls-requires c κs = c.before.before.before.before.before.requires.0.setup.tabled
+decls-requires : tie.Need-decls-n-requires invariant-loop decreases-loop
+decls-requires c κs = c.requires.0.setup.tabled
 
-loop-holds : tie.Need-loop-init invariant-loop decreases-loop
-loop-holds c = (omega arith, refl, refl, fine_none (lines_in c.before.before.before.before.before.before.args.t.now) c.before.before.before.before.before.before.args.u.now c.before.before.before.before.before.before.args.keep.now, c.before.before.before.before.before.before.requires.1)
+loop-holds : tie.Need-loop-d-init invariant-loop decreases-loop
+loop-holds c = (omega arith, refl, refl, fine_none (lines_in c.args.t.now) c.args.u.now c.args.keep.now, c.requires.1)
 
-decl-fault-requires : tie.Need-decl-fault-requires invariant-loop decreases-loop
-decl-fault-requires c κs = ((c.before.before.before.before.before.before.before.before.before.before.requires.0, omega (arith, c.before.before.loop-test.true, c.before.before.before.before.decls.ensures)), c.before.before.before.loop.invariant.4)
+decl-fault-requires : tie.Need-decl_fault-answer-requires invariant-loop decreases-loop
+decl-fault-requires c κs = ((c.requires.0, omega (arith, c.loop-d-test.true, c.decls-n.ensures)), c.loop-d.invariant.4)
 
-returns : tie.Need-returns invariant-loop decreases-loop
-returns c = first_stops (lines_in c.before.before.before.before.before.before.before.before.before.before.before.before.before.before.before.before.args.t.now) c.before.before.before.before.before.before.before.before.before.before.before.before.before.before.before.before.args.u.now c.before.before.before.before.before.before.before.before.before.before.before.before.before.before.before.before.args.keep.now (length c.before.before.before.before.before.before.before.before.before.loop.out) (length c.before.before.before.before.before.before.before.before.before.before.before.before.before.before.before.before.args.out.now) c.before.before.before.before.before.before.before.before.before.loop.d _ _ c.before.before.before.before.before.before.before.before.before.loop.invariant.1 c.before.before.before.before.before.before.before.before.before.loop.invariant.3 (omega (arith, c.before.before.before.before.before.before.before.before.loop-test.true, c.before.before.before.before.before.before.before.before.before.before.decls.ensures)) c.before.before.before.before.before.decl_fault.ensures c.if1.true
+returns : tie.Need-returns-then-answer-lt-VALUE invariant-loop decreases-loop
+returns c = first_stops (lines_in c.args.t.now) c.args.u.now c.args.keep.now (length c.loop-d.out) (length c.args.out.now) c.loop-d.d _ _ c.loop-d.invariant.1 c.loop-d.invariant.3 (omega (arith, c.loop-d-test.true, c.decls-n.ensures)) c.decl_fault-answer.ensures c.if-answer-lt-VALUE.true
 
-add-d : tie.Need-overflow-add-d invariant-loop decreases-loop
-add-d c = omega (arith, c.before.before.before.before.before.before.before.before.loop-test.true)
+add-d : tie.Need-overflow_step-d invariant-loop decreases-loop
+add-d c = omega (arith, c.loop-d-test.true)
 
-loop-less : tie.Need-loop-smaller invariant-loop decreases-loop
-loop-less c = omega (arith, c.before.before.before.before.before.before.before.before.loop-test.true)
+loop-less : tie.Need-loop-d-smaller invariant-loop decreases-loop
+loop-less c = omega (arith, c.loop-d-test.true)
 
-loop-again : tie.Need-loop-preserved invariant-loop decreases-loop
-loop-again c = (omega (arith, c.before.before.before.before.before.before.before.before.loop-test.true), search rules, search rules, fine_more (lines_in c.before.before.before.before.before.before.before.before.before.before.before.before.before.before.before.before.args.t.now) c.before.before.before.before.before.before.before.before.before.before.before.before.before.before.before.before.args.u.now c.before.before.before.before.before.before.before.before.before.before.before.before.before.before.before.before.args.keep.now c.before.before.before.before.before.before.before.before.before.loop.d (length c.before.before.before.before.before.before.before.before.before.loop.out) _ _ c.before.before.before.before.before.before.before.before.before.loop.invariant.3 c.before.before.before.before.before.decl_fault.ensures c.if1.false, c.before.before.before.before.before.decl_fault.ensures.slots_right)
+loop-again : tie.Need-loop-d-preserved invariant-loop decreases-loop
+loop-again c = (omega (arith, c.loop-d-test.true), search rules, search rules, fine_more (lines_in c.args.t.now) c.args.u.now c.args.keep.now c.loop-d.d (length c.loop-d.out) _ _ c.loop-d.invariant.3 c.decl_fault-answer.ensures c.if-answer-lt-VALUE.false, c.decl_fault-answer.ensures.slots_right)
 
-same-length-3 : tie.Need-same-length-3 invariant-loop decreases-loop
-same-length-3 c = c.before.loop.invariant.1
+same-length-3 : tie.Need-shape_of-out invariant-loop decreases-loop
+same-length-3 c = c.loop-d.invariant.1
 
-same-length-4 : tie.Need-same-length-4 invariant-loop decreases-loop
-same-length-4 c = c.before.loop.invariant.2
+same-length-4 : tie.Need-shape_of-slots invariant-loop decreases-loop
+same-length-4 c = c.loop-d.invariant.2
 
-returns-2 : tie.Need-returns-2 invariant-loop decreases-loop
-returns-2 c = first_clear (lines_in c.before.before.before.before.before.before.before.before.args.t.now) c.before.before.before.before.before.before.before.before.args.u.now c.before.before.before.before.before.before.before.before.args.keep.now (length c.before.before.before.before.before.before.before.before.args.out.now) c.before.loop.d _ c.before.before.decls.ensures (omega (arith, c.before.loop.invariant.0, c.loop-test.false)) c.before.loop.invariant.3
+returns-2 : tie.Need-returns invariant-loop decreases-loop
+returns-2 c = first_clear (lines_in c.args.t.now) c.args.u.now c.args.keep.now (length c.args.out.now) c.loop-d.d _ c.decls-n.ensures (omega (arith, c.loop-d.invariant.0, c.loop-d-test.false)) c.loop-d.invariant.3
 
 pub first_fault_spec : {M : Type 1} → statement M
 first_fault_spec =

@@ -15,8 +15,8 @@ returns-2 c =
     let a = c in
     let s = a.args.s.now in
     let f : (j : ℕ) → j < length s - 6 → get_or s j 0 ≡ 32 = elim c.if-n-gt6.branch [
-      then-n-gt6+else-not-four_spaces w ↦ four_front s a.requires.1 (sym w.four_spaces.ensures ∙ w.if-not-four_spaces.false)
-    | else-n-gt6 w ↦ λ j h. absurd (omega (arith, w.if-n-gt6.false))
+      | then-n-gt6+else-not-four_spaces w ↦ four_front s a.requires.1 (sym w.four_spaces.ensures ∙ w.if-not-four_spaces.false)
+      | else-n-gt6 w ↦ λ j h. absurd (omega (arith, w.if-n-gt6.false))
     ] in
     c.six.ensures ∙ read_six s a.requires.0 f
 

@@ -12,8 +12,8 @@ returns-5 c =
     let h = c.in-48-to-57.if-b-lt48-own.false in
     let k = c.in-48-to-57.if-b-lt58-own.true in
     λ _. elim c.match-a.branch [
-      in-32-1 w ↦ pair_space a.a a.b w.in-32-1.keys1 h (omega (arith, k))
-    | in_default+else-a-lt49+then-a-lt58 w ↦ pair_digit a.a a.b w.if-a-lt49-1.false (omega (arith, w.if-a-lt58-1.true)) h (omega (arith, k))
+      | in-32-1 w ↦ pair_space a.a a.b w.in-32-1.keys1 h (omega (arith, k))
+      | in_default+else-a-lt49+then-a-lt58 w ↦ pair_digit a.a a.b w.if-a-lt49-1.false (omega (arith, w.if-a-lt58-1.true)) h (omega (arith, k))
     ]
 
 pub pair_spec : {M : Type 1} → statement M
