@@ -4,19 +4,19 @@ use Rattle.collapse_verdicts.proofs.verdicts.Statement.{statement}
 use Rattle.collapse_verdicts.proofs.verdicts.Tie as tie
 
 candidates-requires : tie.Need-candidates-requires
-candidates-requires c κs = let p = c.before.before.before.before.before.before.before.before.before.before.before.requires in (p.0.tabled, (p.1.0, p.1.1.1.fields_long))
+candidates-requires c κs = let p = c.requires in (p.0.tabled, (p.1.0, p.1.1.1.fields_long))
 
 passes-requires : tie.Need-passes-requires
-passes-requires c κs = let p = c.before.before.before.before.before.before.before.before.before.before.before.before.before.before.before.before.requires in (p.0.tabled, (p.1.0.marked, (c.before.before.before.before.candidates.ensures, p.1.1.1.bodies_long)))
+passes-requires c κs = let p = c.requires in (p.0.tabled, (p.1.0.marked, (c.candidates.ensures, p.1.1.1.bodies_long)))
 
 dropped-requires : tie.Need-dropped-requires
-dropped-requires c κs = let p = c.before.before.before.before.before.before.before.before.before.before.before.before.before.before.before.before.before.before.before.before.before.before.before.before.before.requires in (p.0.tabled, (p.1.1.0, (c.before.before.before.before.before.before.before.before.before.before.before.before.before.candidates.ensures, (c.before.before.before.before.before.before.before.before.passes.ensures, p.1.1.1.lent))))
+dropped-requires c κs = let p = c.requires in (p.0.tabled, (p.1.1.0, (c.candidates.ensures, (c.passes.ensures, p.1.1.1.lent))))
 
-compute-layouts-requires : tie.Need-compute-layouts-requires
+compute-layouts-requires : tie.Need-compute_layouts-requires
 compute-layouts-requires c κs =
-    let p = c.before.before.before.before.before.before.before.before.before.before.before.before.before.before.before.before.before.before.before.before.before.before.before.before.before.before.before.before.before.before.before.before.before.before.before.before.requires in
-    let g = c.before.before.before.before.before.before.before.before.before.before.dropped in
-    (p.0, (p.1.0, record { candidates = c.before.before.before.before.before.before.before.before.before.before.before.before.before.before.before.before.before.before.before.before.before.before.before.before.candidates.ensures; guarded = g.ensures; long = omega (arith, p.1.1.1.lent.found_long, g.auto.1.1.1.1.1.1.1.1.0) }))
+    let p = c.requires in
+    let g = c.dropped in
+    (p.0, (p.1.0, record { candidates = c.candidates.ensures; guarded = g.ensures; long = omega (arith, p.1.1.1.lent.found_long, g.auto.found) }))
 
 returns : tie.Need-returns
 returns c = c.compute_layouts.ensures
@@ -29,10 +29,10 @@ verdicts_spec =
     passes-requires
     dropped-requires
     compute-layouts-requires
-    (λ c. c.before.before.before.before.before.before.before.before.before.before.before.before.before.before.before.before.before.before.before.before.before.before.before.before.before.candidates.auto.1.1.1.0)
-    (λ c. c.before.before.before.before.before.before.before.before.before.before.before.before.before.before.before.before.before.before.before.before.passes.auto.1.1.1.0)
-    (λ c. c.before.before.before.before.before.before.before.before.before.before.before.dropped.auto.1.1.1.1.1.0)
-    (λ c. c.before.before.before.before.before.before.before.before.before.before.before.dropped.auto.1.1.1.1.1.1.0)
-    (λ c. c.before.before.before.before.before.before.before.before.before.before.before.dropped.auto.1.1.1.1.1.1.1.0)
-    (λ c. c.before.before.before.before.before.before.before.before.before.before.before.dropped.auto.1.1.1.1.1.1.1.1.0)
+    (λ c. c.candidates.auto.fields)
+    (λ c. c.passes.auto.bodies)
+    (λ c. c.dropped.auto.steps)
+    (λ c. c.dropped.auto.marks)
+    (λ c. c.dropped.auto.queue)
+    (λ c. c.dropped.auto.found)
     returns)

@@ -75,7 +75,7 @@ returns c =
     let a = c.args in
     sym (c.loop-p.invariant
     ∙ all_miss (lines_in a.t.now) (params_of (lines_in a.t.now) a.d) (map node_of (form_words a.f.now a.d)) c.first_param-end.result c.loop-p.p c.place_of-i.result
-    (rw (← c.param.ensures) c.place_of-i.ensures) c.loop-p-test.true (sym c.has_variable.ensures ∙ not-true _ c.if-not-has_variable.true))
+    (rw (← c.param.ensures) c.place_of-i.ensures) c.loop-p-test.true (sym c.has_variable.ensures ∙ c.if-not-has_variable.true))
 
 add-p : tie.Need-overflow_add-p invariant-loop decreases-loop
 add-p c =
@@ -90,7 +90,7 @@ loop-again c =
     let a = c.args in
     c.loop-p.invariant
     ∙ all_hit (lines_in a.t.now) (params_of (lines_in a.t.now) a.d) (map node_of (form_words a.f.now a.d)) c.first_param-end.result c.loop-p.p c.place_of-i.result
-    (rw (← c.param.ensures) c.place_of-i.ensures) c.loop-p-test.true (sym c.has_variable.ensures ∙ not-false _ c.if-not-has_variable.false)
+    (rw (← c.param.ensures) c.place_of-i.ensures) c.loop-p-test.true (sym c.has_variable.ensures ∙ c.if-not-has_variable.false)
 
 returns-2 : tie.Need-returns invariant-loop decreases-loop
 returns-2 c =

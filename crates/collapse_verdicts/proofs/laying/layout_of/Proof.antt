@@ -6,20 +6,20 @@ use Rattle.collapse_verdicts.proofs.laying.layout_of.Statement.{statement}
 use Rattle.table_access.specs.Tables.{lines_in}
 use Rattle.collapse_verdicts.proofs.laying.layout_of.Tie as tie
 
-by-verdict-requires : tie.Need-by-verdict-requires
+by-verdict-requires : tie.Need-by_verdict-requires
 by-verdict-requires c κs =
-    let p = c.before.before.before.before.before.before.before.requires in
-    (p.0, ((p.1.0, sym c.before.is-import.ensures ∙ c.if1.true), (p.1.1.0.slotted, p.1.1.0.long)))
+    let p = c.requires in
+    (p.0, ((p.1.0, sym c.is_import.ensures ∙ c.if-is_import.true), (p.1.1.0.slotted, p.1.1.0.long)))
 
-returns-2 : tie.Need-returns-2
+returns-2 : tie.Need-returns-then-decl-d-eq1
 returns-2 c =
-    let a = c.before.before.before.before.before.before.before.before.before in
-    local_erased (lines_in a.args.t.now) a.args.d a.requires.1.0 a.args.decl.now a.requires.1.1.0.marked.marks (sym c.before.before.before.is-import.ensures ∙ c.before.before.if1.false) c.if2.true
+    let a = c in
+    local_erased (lines_in a.args.t.now) a.args.d a.requires.1.0 a.args.decl.now a.requires.1.1.0.marked.marks (sym c.is_import.ensures ∙ c.if-is_import.false) c.if-decl-d-eq1.true
 
-returns-3 : tie.Need-returns-3
+returns-3 : tie.Need-returns
 returns-3 c =
-    let a = c.before.before.before.before.before.before.before.before.before.before in
-    local_kept (lines_in a.args.t.now) a.args.d a.requires.1.0 a.args.decl.now a.requires.1.1.0.marked.marks (sym c.before.before.before.before.is-import.ensures ∙ c.before.before.before.if1.false) c.by_body.result c.before.if2.false c.by_body.ensures
+    let a = c in
+    local_kept (lines_in a.args.t.now) a.args.d a.requires.1.0 a.args.decl.now a.requires.1.1.0.marked.marks (sym c.is_import.ensures ∙ c.if-is_import.false) c.by_body.result c.if-decl-d-eq1.false c.by_body.ensures
 
 pub layout_of_spec : {M : Type 1} → statement M
 layout_of_spec =

@@ -7,21 +7,21 @@ use Rattle.collapse_verdicts.proofs.laying.collapses.collapse.Statement.{stateme
 use Rattle.table_access.specs.Tables.{lines_in}
 use Rattle.collapse_verdicts.proofs.laying.collapses.collapse.Tie as tie
 
-returns : tie.Need-returns
-returns c = let a = c.before.before.before.before.before in candidate_dropped (lines_in a.args.t.now) a.args.d a.args.fields.now a.args.found.now a.requires.1.1 a.requires.1.0 c.if1.true
+returns : tie.Need-returns-then-found-d-eq1
+returns c = let a = c in candidate_dropped (lines_in a.args.t.now) a.args.d a.args.fields.now a.args.found.now a.requires.1.1 a.requires.1.0 c.if-found-d-eq1.true
 
-returns-2 : tie.Need-returns-2
+returns-2 : tie.Need-returns-then-f
 returns-2 c =
-    let a = c.before.before.before.before.before.before.before in
-    candidate_none (lines_in a.args.t.now) a.args.d a.args.fields.now a.args.found.now a.requires.1.1 a.requires.1.0 (omega (arith, fields_few (lines_in a.args.t.now) a.requires.0.passed)) c.if2.true
+    let a = c in
+    candidate_none (lines_in a.args.t.now) a.args.d a.args.fields.now a.args.found.now a.requires.1.1 a.requires.1.0 (omega (arith, fields_few (lines_in a.args.t.now) a.requires.0.passed)) c.if-f.true
 
 newtype-requires : tie.Need-newtype-requires
-newtype-requires c κs = let p = c.before.before.before.before.before.before.before.requires in let k = p.1.1.candidates.each c.before.before.before.before.before.before.before.args.d p.1.0 in (p.0, (p.1.0, k.one (k.named c.if2.false)))
+newtype-requires c κs = let p = c.requires in let k = p.1.1.candidates.each c.args.d p.1.0 in (p.0, (p.1.0, k.one (k.named c.if-f.false)))
 
-returns-3 : tie.Need-returns-3
+returns-3 : tie.Need-returns
 returns-3 c =
-    let a = c.before.before.before.before.before.before.before.before in
-    rw c.newtype.ensures (candidate_some (lines_in a.args.t.now) a.args.d a.args.fields.now a.args.found.now a.requires.1.1 a.requires.1.0 c.before.before.before.if1.false c.before.if2.false)
+    let a = c in
+    rw c.newtype.ensures (candidate_some (lines_in a.args.t.now) a.args.d a.args.fields.now a.args.found.now a.requires.1.1 a.requires.1.0 c.if-found-d-eq1.false c.if-f.false)
 
 pub collapse_spec : {M : Type 1} → statement M
 collapse_spec =
