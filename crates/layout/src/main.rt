@@ -3,44 +3,40 @@
 #![tactic(auto)]
 
 use answer_built::Built;
-use libc::STDOUT_FILENO;
+use std::io;
 
 // The first n bytes, all where n is more.
-fn put(bytes: &[u8], n: usize) -> bool {
+fn put(rt: &impl Print, bytes: &[u8], n: usize) -> io::Result<()> {
     if n > bytes.len() {
-        return io::write_all(STDOUT_FILENO, bytes);
+        return rt.write_all(bytes);
     }
-    io::write_all(STDOUT_FILENO, &bytes[0..n])
+    rt.write_all(&bytes[0..n])
 }
 
 // Line R, and on code 0 both sheets.
-fn put_all(b: Built, verdict: &[u8], left: &[u8]) -> bool {
+fn put_all(rt: &impl Print, b: Built, verdict: &[u8], left: &[u8]) -> io::Result<()> {
     let mut line = [0u8; 32];
     sheet_answer::put_answer(&mut line, b.code, b.place, b.rounds);
-    if !put(&line, 32) {
-        return false;
-    }
+    put(rt, &line, 32)?;
     if b.code != 0 {
-        return true;
+        return Ok(());
     }
-    if !put(verdict, b.verdict) {
-        return false;
-    }
-    put(left, b.left)
+    put(rt, verdict, b.verdict)?;
+    put(rt, left, b.left)
 }
 
-fn main() {
+fn main(rt: HostRuntime) {
     let mut sheet = [0u8; 65537];
-    let input = program_input::read_all(&mut sheet);
-    if input.failed {
-        os::fail(b"layout: standard input");
+    let input = program_input::read_all(&mut rt.stdin(), &mut sheet);
+    if let Some(e) = input.error {
+        program_input::fail(&rt, b"layout: standard input", e);
         return;
     }
     let n = input.length;
     let mut verdict = [0u8; 65536];
     let mut left = [0u8; 65536];
     let b = build::build(&sheet[0..n], &mut verdict, &mut left);
-    if !put_all(b, &verdict, &left) {
-        os::fail(b"layout: standard output");
+    if let Err(e) = put_all(&rt, b, &verdict, &left) {
+        program_input::fail(&rt, b"layout: standard output", e);
     }
 }

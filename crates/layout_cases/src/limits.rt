@@ -6,14 +6,22 @@ use answer_built::Built;
 const OLD: u8 = 0xA5;
 
 // A build with the first v and l bytes of the outputs.
-fn built(sheet: &[u8], verdict: &mut [u8], v: usize, left: &mut [u8], l: usize) -> Built {
+fn built(
+    rt: &impl Print,
+    sheet: &[u8],
+    verdict: &mut [u8],
+    v: usize,
+    left: &mut [u8],
+    l: usize,
+) -> Built {
     let a = output::least(v, verdict.len());
     let e = output::least(l, left.len());
     let b = build::build(sheet, &mut verdict[0..a], &mut left[0..e]);
-    output::put_all(b, verdict, left);
+    output::put_all(rt, b, verdict, left);
     let same_verdict = output::all_are(verdict, b.verdict, OLD);
     let same_left = output::all_are(left, b.left, OLD);
     output::put_line(
+        rt,
         b'K',
         [output::bit(same_verdict), output::bit(same_left), 0, 0, 0],
     );
@@ -21,10 +29,10 @@ fn built(sheet: &[u8], verdict: &mut [u8], v: usize, left: &mut [u8], l: usize) 
 }
 
 // A build with outputs of these lengths.
-fn with(sheet: &[u8], v: usize, l: usize) -> Built {
+fn with(rt: &impl Print, sheet: &[u8], v: usize, l: usize) -> Built {
     let mut verdict = [OLD; 65536];
     let mut left = [OLD; 65536];
-    built(sheet, &mut verdict, v, &mut left, l)
+    built(rt, sheet, &mut verdict, v, &mut left, l)
 }
 
 fn less(n: usize) -> usize {
@@ -32,15 +40,15 @@ fn less(n: usize) -> usize {
 }
 
 // With room to spare, as long as needed, the verdict output a byte short, the left output a byte short, both.
-pub fn all(sheet: &[u8]) {
-    let b = with(sheet, 65536, 65536);
+pub fn all(rt: &impl Print, sheet: &[u8]) {
+    let b = with(rt, sheet, 65536, 65536);
     if b.code != 0 {
         return;
     }
     let v = b.verdict;
     let l = b.left;
-    with(sheet, v, l);
-    with(sheet, less(v), l);
-    with(sheet, v, less(l));
-    with(sheet, less(v), less(l));
+    with(rt, sheet, v, l);
+    with(rt, sheet, less(v), l);
+    with(rt, sheet, v, less(l));
+    with(rt, sheet, less(v), less(l));
 }

@@ -6,6 +6,9 @@ mod limits;
 mod output;
 mod units;
 
+use std::env::Env;
+use std::rt::Files;
+
 // What is done with a sheet.
 const WHOLE: u8 = 0;
 
@@ -31,53 +34,54 @@ fn mode_of(word: &[u8], mode: u8) -> u8 {
     mode
 }
 
-fn whole(sheet: &[u8]) {
+fn whole(rt: &impl Print, sheet: &[u8]) {
     let mut verdict = [0u8; 65536];
     let mut left = [0u8; 65536];
     let b = build::build(sheet, &mut verdict, &mut left);
-    output::put_all(b, &verdict, &left);
+    output::put_all(rt, b, &verdict, &left);
 }
 
 // The sheet in the file of this name.
-fn case(path: &[u8], mode: u8) {
-    let fd = os::open_read(path);
-    if fd < 0 {
-        os::fail(path);
-        return;
-    }
+fn case(rt: &(impl Files + Print + Eprint), path: &[u8], mode: u8) {
+    let mut file = match program_input::open_read(rt, path) {
+        Ok(file) => file,
+        Err(e) => {
+            program_input::fail(rt, path, e);
+            return;
+        }
+    };
     let mut sheet = [0u8; 65569];
-    let n = io::read_full(fd, &mut sheet);
-    libc::close(fd);
+    let n = program_input::read_full(&mut file, &mut sheet);
+    drop(file);
     match mode {
-        1 => limits::all(&sheet[..n]),
-        2 => units::all(&sheet[..n]),
-        _ => whole(&sheet[..n]),
+        1 => limits::all(rt, &sheet[..n]),
+        2 => units::all(rt, &sheet[..n]),
+        _ => whole(rt, &sheet[..n]),
     }
 }
 
 // Argument i, and what is done from there on.
-fn word(i: usize, mode: u8) -> u8 {
-    let mut path = io::buffer();
-    let length = os::arg(i, &mut path);
-    if os::errno() != 0 {
+fn word(rt: &(impl Env + Files + Print + Eprint), i: usize, mode: u8) -> u8 {
+    let mut path = [0u8; 4096];
+    let Ok(length) = rt.arg(i, &mut path) else {
         return mode;
-    }
+    };
     if length == 0 {
         return mode;
     }
     let next = mode_of(&path[..length], mode);
     if path[0] != b'-' {
-        case(&path[..length], mode);
+        case(rt, &path[..length], mode);
     }
     next
 }
 
-fn main() {
-    let n = os::arg_count();
+fn main(rt: HostRuntime) {
+    let n = program_input::arg_count(&rt);
     let mut mode = WHOLE;
     let mut i: usize = 1;
     while i < n {
-        mode = word(i, mode);
+        mode = word(&rt, i, mode);
         i += 1;
     }
 }

@@ -1,40 +1,39 @@
-// What is written of an answer, and how bytes are compared.
+// What is written of an answer, and how bytes are compared. A write that fails is not told.
 ghost use Rattle.std.specs.Prelude.{◌≤◌, length};
 
 use answer_built::Built;
-use libc::STDOUT_FILENO;
 
 // A line of a letter and five numbers.
-pub fn put_line(letter: u8, numbers: [u32; 5]) {
+pub fn put_line(rt: &impl Print, letter: u8, numbers: [u32; 5]) {
     let mut line = [0u8; 32];
     sheet_writer::put_row(&mut line, letter, numbers);
-    io::write_all(STDOUT_FILENO, &line);
+    let _ = rt.write_all(&line);
 }
 
 // The first n bytes, all where n is more.
-pub fn put(bytes: &[u8], n: usize) {
+pub fn put(rt: &impl Print, bytes: &[u8], n: usize) {
     if n > bytes.len() {
-        io::write_all(STDOUT_FILENO, bytes);
+        let _ = rt.write_all(bytes);
         return;
     }
-    io::write_all(STDOUT_FILENO, &bytes[0..n]);
+    let _ = rt.write_all(&bytes[0..n]);
 }
 
 // Line R.
-pub fn put_answer(b: Built) {
+pub fn put_answer(rt: &impl Print, b: Built) {
     let mut line = [0u8; 32];
     sheet_answer::put_answer(&mut line, b.code, b.place, b.rounds);
-    io::write_all(STDOUT_FILENO, &line);
+    let _ = rt.write_all(&line);
 }
 
 // Line R and, on code 0, both sheets.
-pub fn put_all(b: Built, verdict: &[u8], left: &[u8]) {
-    put_answer(b);
+pub fn put_all(rt: &impl Print, b: Built, verdict: &[u8], left: &[u8]) {
+    put_answer(rt, b);
     if b.code != 0 {
         return;
     }
-    put(verdict, b.verdict);
-    put(left, b.left);
+    put(rt, verdict, b.verdict);
+    put(rt, left, b.left);
 }
 
 pub fn least(a: usize, b: usize) -> usize

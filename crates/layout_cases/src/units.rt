@@ -90,7 +90,7 @@ fn step(s: &[u8], k: u32, unit: &mut [u8], v: &mut [u8], l: &mut [u8], w: Progre
     }
     let r = build::build(&unit[0..end], v, l);
     lay(v, unit, end);
-    let units = std::num::wrapping_add_u32(w.units, 1);
+    let units = w.units.wrapping_add(1);
     if r.code != 0 {
         return Progress {
             at: end,
@@ -124,7 +124,7 @@ fn run(s: &[u8], k: u32, unit: &mut [u8], v: &mut [u8], l: &mut [u8]) -> Progres
 }
 
 // One way: units of k declarations against the whole, whose answer is b.
-fn way(s: &[u8], k: u32, b: Built, verdict: &[u8], left: &[u8]) {
+fn way(rt: &impl Print, s: &[u8], k: u32, b: Built, verdict: &[u8], left: &[u8]) {
     let mut unit = [0u8; 65536];
     let mut v = [0u8; 65536];
     let mut l = [0u8; 65536];
@@ -136,6 +136,7 @@ fn way(s: &[u8], k: u32, b: Built, verdict: &[u8], left: &[u8]) {
     }
     let same_verdict = output::same_front(&unit, verdict, s.len());
     output::put_line(
+        rt,
         b'W',
         [
             k,
@@ -148,12 +149,12 @@ fn way(s: &[u8], k: u32, b: Built, verdict: &[u8], left: &[u8]) {
 }
 
 // The whole, and the three ways.
-pub fn all(s: &[u8]) {
+pub fn all(rt: &impl Print, s: &[u8]) {
     let mut verdict = [0u8; 65536];
     let mut left = [0u8; 65536];
     let b = build::build(s, &mut verdict, &mut left);
-    output::put_answer(b);
-    way(s, 1, b, &verdict, &left);
-    way(s, 2, b, &verdict, &left);
-    way(s, 3, b, &verdict, &left);
+    output::put_answer(rt, b);
+    way(rt, s, 1, b, &verdict, &left);
+    way(rt, s, 2, b, &verdict, &left);
+    way(rt, s, 3, b, &verdict, &left);
 }

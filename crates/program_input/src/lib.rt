@@ -1,52 +1,63 @@
-// Standard input, read whole: what every program begins with. A read that fails is told to the caller.
+// What every program asks of the system before it works: standard input read whole, the arguments, the file that one of them names, and a
+// line that tells what failed. A read that fails is told to the caller.
 #![tactic(auto)]
 
 ghost use Rattle.std.specs.Prelude.{◌≤◌, length};
 
-use libc::STDIN_FILENO;
+use std::env::{Env, FillError};
+use std::fmt::InlineText;
+use std::fs::File;
+use std::io;
+use std::io::{ErrorKind, Read};
+use std::rt::Files;
 
 // Reads that move a byte or are interrupted: enough for a byte at a time, and no input is waited for without end.
 const TURNS: usize = 1048576;
 
-// What is read so far, and whether there may be more or a read failed.
+// What is read so far, and whether there may be more or a read failed, and how.
 #[derive(Clone, Copy)]
 pub struct Input {
     pub length: usize,
     pub more: bool,
     pub failed: bool,
+    pub error: Option<io::Error>,
 }
 
 // One read into the buffer from byte `at` on.
-fn read_some(buffer: &mut [u8], at: usize) -> Input
+fn read_some(from: &mut impl Read, buffer: &mut [u8], at: usize) -> Input
     requires { at ≤ length buffer.old }
     ensures { result.length ≤ length buffer.new }
 {
-    let got = libc::read(STDIN_FILENO, &mut buffer[at..]);
-    if got > 0 {
-        let n = io::count(got, &buffer[at..]);
-        return Input {
-            length: at + n,
-            more: true,
-            failed: false,
-        };
-    }
-    if got == 0 {
-        return Input {
+    match from.read(&mut buffer[at..]) {
+        Ok(0) => Input {
             length: at,
             more: false,
             failed: false,
-        };
-    }
-    let again = os::errno() == libc::EINTR;
-    Input {
-        length: at,
-        more: again,
-        failed: !again,
+            error: None,
+        },
+        Ok(n) => Input {
+            length: at + n,
+            more: true,
+            failed: false,
+            error: None,
+        },
+        Err(e) if e.kind() == ErrorKind::Interrupted => Input {
+            length: at,
+            more: true,
+            failed: false,
+            error: None,
+        },
+        Err(e) => Input {
+            length: at,
+            more: false,
+            failed: true,
+            error: Some(e),
+        },
     }
 }
 
 // Reads until the buffer is full or the input ends.
-pub fn read_all(buffer: &mut [u8]) -> Input
+pub fn read_all(from: &mut impl Read, buffer: &mut [u8]) -> Input
     ensures { result.length ≤ length buffer.new }
 {
     let mut at = 0;
@@ -57,9 +68,10 @@ pub fn read_all(buffer: &mut [u8]) -> Input
                 length: at,
                 more: false,
                 failed: false,
+                error: None,
             };
         }
-        let r = read_some(buffer, at);
+        let r = read_some(from, buffer, at);
         if !r.more {
             return r;
         }
@@ -70,5 +82,56 @@ pub fn read_all(buffer: &mut [u8]) -> Input
         length: at,
         more: true,
         failed: true,
+        error: Some(io::Error::from(ErrorKind::Interrupted)),
     }
+}
+
+// Reads until the buffer is full, the input ends or a read fails, and says how many bytes there are.
+pub fn read_full(from: &mut impl Read, buffer: &mut [u8]) -> usize
+    ensures { result ≤ length buffer.new }
+{
+    let mut done = 0;
+    while done < buffer.len() {
+        match from.read(&mut buffer[done..]) {
+            Ok(n) if n > 0 => done += n,
+            _ => return done,
+        }
+    }
+    done
+}
+
+// How many arguments the program was started with, its own name among them.
+pub fn arg_count(rt: &impl Env) -> usize {
+    for i in 0..usize::MAX {
+        if let Err(FillError::NotPresent) = rt.arg(i, &mut []) {
+            return i;
+        }
+    }
+    usize::MAX
+}
+
+// The file of this name, opened to be read. A name that is not text names none.
+pub fn open_read<R: Files>(rt: &R, path: &[u8]) -> io::Result<R::File> {
+    match str::from_utf8(path) {
+        Ok(name) => File::open(rt, name),
+        Err(_) => Err(io::Error::new(ErrorKind::InvalidFilename, "not text")),
+    }
+}
+
+// What the system says of an error, without the number that std writes behind it.
+fn words(text: &str) -> &str {
+    match text.rsplit_once(" (os error ") {
+        Some((front, _)) => front,
+        None => text,
+    }
+}
+
+// Writes a line to standard error: what failed, as the caller names it, a colon and the error's text. A line that cannot be written is lost.
+pub fn fail(rt: &impl Eprint, what: &[u8], error: io::Error) {
+    let text = InlineText::<256>::of(error);
+    let said = words(text.as_str());
+    let _ = match str::from_utf8(what) {
+        Ok(name) => eprintln!(rt; "{name}: {said}"),
+        Err(_) => eprintln!(rt; "{}: {said}", what.escape_ascii()),
+    };
 }

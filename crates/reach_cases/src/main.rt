@@ -1,26 +1,27 @@
 // The reach index of each sheet that an argument names: what the program `reach` prints and, where the call accepts the sheet, the two words
-// of each declaration's set. A word that should have kept what it held, or should be 0, is told.
+// of each declaration's set. A word that should have kept what it held, or should be 0, is told; a write that fails is not.
 #![tactic(auto)]
 
 use answer::Refusal;
-use libc::STDOUT_FILENO;
+use std::env::Env;
+use std::rt::Files;
 
 // What the words hold before a call.
 const HELD: u64 = 11936128518282651045;
 
 // The build's line R, with outputs as the program `reach` has them; and its code.
-fn put_answer(sheet: &[u8]) -> u32 {
+fn put_answer(rt: &impl Print, sheet: &[u8]) -> u32 {
     let mut verdict = [0u8; 65536];
     let mut left = [0u8; 65536];
     let b = build::build(sheet, &mut verdict, &mut left);
     let mut line = [0u8; 32];
     sheet_answer::put_answer(&mut line, b.code, b.place, b.rounds);
-    io::write_all(STDOUT_FILENO, &line);
+    let _ = rt.write_all(&line);
     b.code
 }
 
 // The lines X, where the build accepted the sheet; and how many declarations there are.
-fn put_lines(sheet: &[u8], shown: bool) -> usize {
+fn put_lines(rt: &impl Print, sheet: &[u8], shown: bool) -> usize {
     let mut lines = [0u8; 3072];
     let r = reach_index::reach_lines(sheet, &mut lines);
     let n = r.length;
@@ -28,25 +29,25 @@ fn put_lines(sheet: &[u8], shown: bool) -> usize {
         return 0;
     }
     if shown {
-        io::write_all(STDOUT_FILENO, &lines[0..n]);
+        let _ = rt.write_all(&lines[0..n]);
     }
     n / 32
 }
 
 // The words of the first n sets, two in a line, and whether all others are 0.
-fn put_words(sets: [u64; 192], n: usize) {
+fn put_words(rt: &impl Print, sets: [u64; 192], n: usize) {
     let mut i = 0;
     while i < 192 {
         if i / 2 >= n {
             if sets[i] != 0 {
-                io::write_all(STDOUT_FILENO, b"a word is not 0\n");
+                let _ = rt.write_all(b"a word is not 0\n");
             }
         } else {
-            io::print_decimal(STDOUT_FILENO, sets[i]);
+            let _ = rt.print(sets[i]);
             if i % 2 == 0 {
-                io::write_all(STDOUT_FILENO, b" ");
+                let _ = rt.write_all(b" ");
             } else {
-                io::write_all(STDOUT_FILENO, b"\n");
+                let _ = rt.write_all(b"\n");
             }
         }
         i += 1;
@@ -54,57 +55,58 @@ fn put_words(sets: [u64; 192], n: usize) {
 }
 
 // Whether every word is as it was.
-fn put_kept(sets: [u64; 192]) {
+fn put_kept(rt: &impl Print, sets: [u64; 192]) {
     let mut i = 0;
     while i < 192 {
         if sets[i] != HELD {
-            io::write_all(STDOUT_FILENO, b"a word was changed\n");
+            let _ = rt.write_all(b"a word was changed\n");
         }
         i += 1;
     }
 }
 
-fn put_sets(sheet: &[u8], n: usize) {
+fn put_sets(rt: &impl Print, sheet: &[u8], n: usize) {
     let mut sets = [HELD; 192];
     let r = reach_index::reach_index(sheet, &mut sets);
     match r {
-        Refusal::Accepted => put_words(sets, n),
-        Refusal::Refused { code: _, place: _ } => put_kept(sets),
+        Refusal::Accepted => put_words(rt, sets, n),
+        Refusal::Refused { code: _, place: _ } => put_kept(rt, sets),
     }
 }
 
 // The sheet in the file of this name.
-fn case(path: &[u8]) {
-    let fd = os::open_read(path);
-    if fd < 0 {
-        os::fail(path);
-        return;
-    }
+fn case(rt: &(impl Files + Print + Eprint), path: &[u8]) {
+    let mut file = match program_input::open_read(rt, path) {
+        Ok(file) => file,
+        Err(e) => {
+            program_input::fail(rt, path, e);
+            return;
+        }
+    };
     let mut sheet = [0u8; 65569];
-    let n = io::read_full(fd, &mut sheet);
-    libc::close(fd);
-    let code = put_answer(&sheet[..n]);
-    let decls = put_lines(&sheet[..n], code == 0);
-    put_sets(&sheet[..n], decls);
+    let n = program_input::read_full(&mut file, &mut sheet);
+    drop(file);
+    let code = put_answer(rt, &sheet[..n]);
+    let decls = put_lines(rt, &sheet[..n], code == 0);
+    put_sets(rt, &sheet[..n], decls);
 }
 
-fn argument(i: usize) {
-    let mut path = io::buffer();
-    let length = os::arg(i, &mut path);
-    if os::errno() != 0 {
+fn argument(rt: &(impl Env + Files + Print + Eprint), i: usize) {
+    let mut path = [0u8; 4096];
+    let Ok(length) = rt.arg(i, &mut path) else {
         return;
-    }
+    };
     if length == 0 {
         return;
     }
-    case(&path[..length]);
+    case(rt, &path[..length]);
 }
 
-fn main() {
-    let n = os::arg_count();
+fn main(rt: HostRuntime) {
+    let n = program_input::arg_count(&rt);
     let mut i: usize = 1;
     while i < n {
-        argument(i);
+        argument(&rt, i);
         i += 1;
     }
 }

@@ -1,0 +1,9 @@
+use Rattle.std.proofs.Common.{◌-◌, ◌≤◌, length}
+use Rattle.program_input.proofs.read_all.Given as goal
+
+-- what is read so far lies within the buffer
+abbrev pub invariant-loop-turns : goal.invariant-loop-turns
+invariant-loop-turns g l = l.at ≤ length l.buffer
+
+abbrev pub decreases-loop-turns : goal.decreases-loop-turns
+decreases-loop-turns g l = 1048576 - l.turns
