@@ -2,7 +2,8 @@
 // line that tells what failed. A read that fails is told to the caller.
 #![tactic(auto)]
 
-ghost use Rattle.std.specs.Prelude.{◌≤◌, length};
+ghost use Rattle.std.specs.Prelude.{◌≡◌, ◌<◌, ◌≤◌, ◌⊎◌, ◌↔◌, length, take, slice_range, IsSome, IsTrue, IsFalse};
+ghost use Rattle.std.specs.Io.KnownBytes.{Consumes, IsAtEnd};
 
 use std::env::{Env, FillError};
 use std::fmt::InlineText;
@@ -24,9 +25,14 @@ pub struct Input {
 }
 
 // One read into the buffer from byte `at` on.
-fn read_some(from: &mut impl Read, buffer: &mut [u8], at: usize) -> Input
+fn read_some<R: Read>(from: &mut R, buffer: &mut [u8], at: usize) -> Input
     requires { at ≤ length buffer.old }
-    ensures { result.length ≤ length buffer.new }
+    ensures within { result.length ≤ length buffer.new }
+    ensures forward { at ≤ result.length }
+    ensures front { take at buffer.new ≡ take at buffer.old }
+    ensures bytes { Consumes (R.remaining from.old) (R.remaining from.new) (slice_range buffer.new at result.length) }
+    ensures end { IsFalse result.more → IsFalse result.failed → at < length buffer.old → IsAtEnd (R.remaining from.new) }
+    ensures told { IsTrue result.failed ↔ IsSome result.error }
 {
     match from.read(&mut buffer[at..]) {
         Ok(0) => Input {
@@ -57,8 +63,11 @@ fn read_some(from: &mut impl Read, buffer: &mut [u8], at: usize) -> Input
 }
 
 // Reads until the buffer is full or the input ends.
-pub fn read_all(from: &mut impl Read, buffer: &mut [u8]) -> Input
-    ensures { result.length ≤ length buffer.new }
+pub fn read_all<R: Read>(from: &mut R, buffer: &mut [u8]) -> Input
+    ensures within { result.length ≤ length buffer.new }
+    ensures bytes { Consumes (R.remaining from.old) (R.remaining from.new) (take result.length buffer.new) }
+    ensures whole { IsFalse result.failed → (result.length ≡ length buffer.new) ⊎ IsAtEnd (R.remaining from.new) }
+    ensures told { IsTrue result.failed ↔ IsSome result.error }
 {
     let mut at = 0;
     let mut turns: usize = 0;
@@ -87,8 +96,9 @@ pub fn read_all(from: &mut impl Read, buffer: &mut [u8]) -> Input
 }
 
 // Reads until the buffer is full, the input ends or a read fails, and says how many bytes there are.
-pub fn read_full(from: &mut impl Read, buffer: &mut [u8]) -> usize
-    ensures { result ≤ length buffer.new }
+pub fn read_full<R: Read>(from: &mut R, buffer: &mut [u8]) -> usize
+    ensures within { result ≤ length buffer.new }
+    ensures bytes { Consumes (R.remaining from.old) (R.remaining from.new) (take result buffer.new) }
 {
     let mut done = 0;
     while done < buffer.len() {
