@@ -35,7 +35,7 @@ pub fn good_type(t: &[u32], i: usize, names: usize, args: usize, types: usize, y
         4 => both(
             both(
                 number_at(t, i, 1) <= 1,
-                row5_widths::is_width(number_at(t, i, 2)),
+                crate::type_lists::is_width(number_at(t, i, 2)),
             ),
             crate::unused::zeros_from(t, i, 3),
         ),

@@ -6,7 +6,7 @@ use Rattle.build_sheets.proofs.formed.Statement.{statement}
 use Rattle.build_sheets.proofs.formed.Tie as tie
 
 flags-requires : tie.Need-flags-requires
-flags-requires c κs = let p = c.before.before.before.before.before.before.before.before.before.before.requires.0 in (p.ready, decls_within base _ p.of.bounded)
+flags-requires c κs = let p = c.requires.0 in (p.ready, decls_within base _ p.of.bounded)
 
 pub formed_spec : {M : Type 1} → statement M
 formed_spec =

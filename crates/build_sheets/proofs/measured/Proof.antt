@@ -14,73 +14,73 @@ use Rattle.table_access.specs.OfSheet.{program_same}
 use Rattle.table_access.specs.Tables.{lines_in}
 use Rattle.build_sheets.proofs.measured.Tie as tie
 
-returns : tie.Need-returns
+returns : tie.Need-returns-then-not-c
 returns c =
-    let a = c.before.before.before.before.before.before.before.before.before.before.before.before.before.before.before.before.before.before.args in
-    rw c.none.ensures (tries_none _ a.s.now a.v.now a.l.now (c.before.before.before.before.before.count.ensures.0.short (not-true _ c.before.if1.true)))
+    let a = c.args in
+    rw c.none.ensures (tries_none _ a.s.now a.v.now a.l.now (c.count-c.ensures.0.short (not-true _ c.if-not-c.true)))
 
-add-needed : tie.Need-overflow-add-needed
+add-needed : tie.Need-overflow_add-needed
 add-needed c =
-    let g = c.before.before.before.before.before.before in
-    let s = g.before.before.before.before.before.before.before.before.before.before.before in
-    let f = c.before.before.before.before.count.ensures.1 in
-    let t = not-false _ c.if1.false in
-    omega (arith, names_few (lines_in s.args.t.now) s.requires.0.ready.tabled.passed, g.names.ensures, f.args t)
+    let g = c in
+    let s = g in
+    let f = c.count-c.ensures.1 in
+    let t = not-false _ c.if-not-c.false in
+    omega (arith, names_few (lines_in s.args.t.now) s.requires.0.ready.tabled.passed, g.names-names.ensures, f.args t)
 
-add-needed-2 : tie.Need-overflow-add-needed-2
+add-needed-2 : tie.Need-overflow_add-needed-2
 add-needed-2 c =
-    let g = c.before.before.before.before.before.before in
-    let s = g.before.before.before.before.before.before.before.before.before.before.before in
-    let f = c.before.before.before.before.count.ensures.1 in
-    let t = not-false _ c.if1.false in
-    omega (arith, names_few (lines_in s.args.t.now) s.requires.0.ready.tabled.passed, g.names.ensures, f.args t, f.types t)
+    let g = c in
+    let s = g in
+    let f = c.count-c.ensures.1 in
+    let t = not-false _ c.if-not-c.false in
+    omega (arith, names_few (lines_in s.args.t.now) s.requires.0.ready.tabled.passed, g.names-names.ensures, f.args t, f.types t)
 
-add-needed-3 : tie.Need-overflow-add-needed-3
+add-needed-3 : tie.Need-overflow_add-needed-3
 add-needed-3 c =
-    let g = c.before.before.before.before.before.before.before in
-    let s = g.before.before.before.before.before.before.before.before.before.before.before in
-    let f = c.before.before.before.before.before.count.ensures.1 in
-    let t = not-false _ c.before.if1.false in
-    omega (arith, names_few (lines_in s.args.t.now) s.requires.0.ready.tabled.passed, g.names.ensures, f.args t, f.types t, f.lines t)
+    let g = c in
+    let s = g in
+    let f = c.count-c.ensures.1 in
+    let t = not-false _ c.if-not-c.false in
+    omega (arith, names_few (lines_in s.args.t.now) s.requires.0.ready.tabled.passed, g.names-names.ensures, f.args t, f.types t, f.lines t)
 
-mul-needed : tie.Need-overflow-mul-needed
+mul-needed : tie.Need-overflow_mul-needed
 mul-needed c =
-    let g = c.before.before.before.before.before.before.before in
-    let s = g.before.before.before.before.before.before.before.before.before.before.before in
-    let f = c.before.before.before.before.before.count.ensures.1 in
-    let t = not-false _ c.before.if1.false in
-    omega (arith, names_few (lines_in s.args.t.now) s.requires.0.ready.tabled.passed, g.names.ensures, f.args t, f.types t, f.lines t)
+    let g = c in
+    let s = g in
+    let f = c.count-c.ensures.1 in
+    let t = not-false _ c.if-not-c.false in
+    omega (arith, names_few (lines_in s.args.t.now) s.requires.0.ready.tabled.passed, g.names-names.ensures, f.args t, f.types t, f.lines t)
 
-returns-2 : tie.Need-returns-2
+returns-2 : tie.Need-returns-then-l-needed
 returns-2 c =
-    let g = c.before.before.before.before.before.before.before.before.before in
-    let s = g.before.before.before.before.before.before.before.before.before.before.before in
-    let n = needed_of s.args.s.now s.args.t.now _ _ _ s.requires.0.of s.requires.0.accepted _ g.names.result g.names.ensures c.before.before.before.before.before.before.before.count.ensures.0 (not-false _ c.before.before.before.if1.false) in
-    let f = c.before.before.before.before.before.before.before.count.ensures.1 in
-    let t = not-false _ c.before.before.before.if1.false in
-    let r = c.before.before.before.before.before.before.before.count.result in
-    let k : 32 * (g.names.result + r.args + r.types + r.lines) ≤ 1000000000000 = omega (arith, names_few (lines_in s.args.t.now) s.requires.0.ready.tabled.passed, g.names.ensures, f.args t, f.types t, f.lines t) in
-    tries_twelve _ s.args.s.now s.args.v.now s.args.l.now _ _ s.requires.0.accepted s.requires.0.verdict_room n k c.before.if2.true c.refused.ensures
+    let g = c in
+    let s = g in
+    let n = needed_of s.args.s.now s.args.t.now _ _ _ s.requires.0.of s.requires.0.accepted _ g.names-names.result g.names-names.ensures c.count-c.ensures.0 (not-false _ c.if-not-c.false) in
+    let f = c.count-c.ensures.1 in
+    let t = not-false _ c.if-not-c.false in
+    let r = c.count-c.result in
+    let k : 32 * (g.names-names.result + r.args + r.types + r.lines) ≤ 1000000000000 = omega (arith, names_few (lines_in s.args.t.now) s.requires.0.ready.tabled.passed, g.names-names.ensures, f.args t, f.types t, f.lines t) in
+    tries_twelve _ s.args.s.now s.args.v.now s.args.l.now _ _ s.requires.0.accepted s.requires.0.verdict_room n k c.if-l-needed.true c.refused-built.ensures
 
 write-requires : tie.Need-write-requires
 write-requires c κs =
-    let g = c.before.before.before.before.before.before.before.before.before.before.before.before in
-    let s = g.before.before.before.before.before.before.before.before.before.before.before in
-    let x = c.before.before.before.before.before.before.before.before.before.before.count.ensures.0 in
-    let t = not-false _ c.before.before.before.before.before.before.if1.false in
-    let n = needed_of s.args.s.now s.args.t.now _ _ _ s.requires.0.of s.requires.0.accepted _ g.names.result g.names.ensures x t in
-    let k = c.before.before.before.before.before.before.before.before.before.before.count.auto.1.1.1.1.1.0 in
-    (known_long _ _ _ _ _ _ _ _ _ k s.requires.0, (s.requires.1.0, owed_long _ _ _ _ _ _ _ _ _ k (owed_of s.args.s.now s.args.t.now _ _ _ s.requires.0.of s.args.l.now _ x t (omega (arith, n, c.before.before.before.before.if2.false)))))
+    let g = c in
+    let s = g in
+    let x = c.count-c.ensures.0 in
+    let t = not-false _ c.if-not-c.false in
+    let n = needed_of s.args.s.now s.args.t.now _ _ _ s.requires.0.of s.requires.0.accepted _ g.names-names.result g.names-names.ensures x t in
+    let k = c.count-c.auto.scratch in
+    (known_long _ _ _ _ _ _ _ _ _ k s.requires.0, (s.requires.1.0, owed_long _ _ _ _ _ _ _ _ _ k (owed_of s.args.s.now s.args.t.now _ _ _ s.requires.0.of s.args.l.now _ x t (omega (arith, n, c.if-l-needed.false)))))
 
-returns-3 : tie.Need-returns-3
+returns-3 : tie.Need-returns
 returns-3 c =
-    let g = c.before.before.before.before.before.before.before.before.before.before.before.before.before.before.before.before.before.before.before.before.before in
-    let s = g.before.before.before.before.before.before.before.before.before.before.before in
-    let x = c.before.before.before.before.before.before.before.before.before.before.before.before.before.before.before.before.before.before.before.count.ensures.0 in
-    let t = not-false _ c.before.before.before.before.before.before.before.before.before.before.before.before.before.before.before.if1.false in
-    let n = needed_of s.args.s.now s.args.t.now _ _ _ s.requires.0.of s.requires.0.accepted _ g.names.result g.names.ensures x t in
+    let g = c in
+    let s = g in
+    let x = c.count-c.ensures.0 in
+    let t = not-false _ c.if-not-c.false in
+    let n = needed_of s.args.s.now s.args.t.now _ _ _ s.requires.0.of s.requires.0.accepted _ g.names-names.result g.names-names.ensures x t in
     tries_gives _ s.args.s.now s.args.v.now s.args.l.now _ _ _
-    (gives_written s.args.s.now s.requires.0.accepted s.args.v.now s.args.l.now _ _ _ _ _ c.before.before.before.before.before.before.before.before.write.ensures (s.requires.1.1 ∙ ap (λ (ds : List Decl). (run 100 ds).rounds) (program_same s.args.s.now s.args.t.now s.requires.0.of)) s.requires.0.verdict_room (omega (arith, n, c.before.before.before.before.before.before.before.before.before.before.before.before.before.if2.false)) refl n)
+    (gives_written s.args.s.now s.requires.0.accepted s.args.v.now s.args.l.now _ _ _ _ _ c.write.ensures (s.requires.1.1 ∙ ap (λ (ds : List Decl). (run 100 ds).rounds) (program_same s.args.s.now s.args.t.now s.requires.0.of)) s.requires.0.verdict_room (omega (arith, n, c.if-l-needed.false)) refl n)
 
 pub measured_spec : {M : Type 1} → statement M
 measured_spec =

@@ -7,7 +7,7 @@ use Rattle.build_sheets.proofs.none.Statement.{statement}
 use Rattle.build_sheets.proofs.none.Tie as tie
 
 returns : tie.Need-returns
-returns c = ap (λ (x : Built). record { room = false; built = x }) c.refused.ensures
+returns c = ap (λ (x : Built). record { room = false; built = x }) c.refused-built.ensures
 
 pub none_spec : {M : Type 1} → statement M
 none_spec = tie.close (tie.spec (λ c κs. search rules) returns)

@@ -7,12 +7,12 @@ use Rattle.build_sheets.proofs.write.Tie as tie
 
 records-requires : tie.Need-records-requires
 records-requires c κs =
-    let p = c.before.before.before.before.before.before.before.before.before.before.before.requires in
+    let p = c.requires in
     ((p.0.ready, p.1.0), (p.0.keeps, decls_within base _ p.0.of.bounded))
 
-put-left-requires : tie.Need-put-left-requires
+put-left-requires : tie.Need-put_left-requires
 put-left-requires c κs =
-    let p = c.before.before.before.before.before.before.before.before.before.before.before.before.before.before.before.before.before.before.before.before.before.requires in
+    let p = c.requires in
     ((p.0.of, p.0.ready), ((p.1.0, p.1.1.fit), ((p.0.keeps, p.0.stacked), ((p.1.1.args_are, p.1.1.types_are), p.1.1.left_room))))
 
 pub write_spec : {M : Type 1} → statement M

@@ -7,15 +7,15 @@ use Rattle.pattern_flags.specs.Flags.{ctor_flag}
 use Rattle.pattern_flags.proofs.ctor_flag.Statement.{statement}
 use Rattle.pattern_flags.proofs.ctor_flag.Tie as tie
 
-returns : tie.Need-returns
+returns : tie.Need-returns-then-a-eq0
 unfolding ctor_flag
-returns c = rw c.if1.true
+returns c = rw c.if-a-eq0.true
 
-returns-2 : tie.Need-returns-2
+returns-2 : tie.Need-returns
 unfolding ctor_flag
 returns-2 c =
-    let a = c.before.before.before.before.before.before.before.before.before.args in
-    rw (c.slot_flag.ensures, c.before.state.ensures, ne_eqb (get_or a.m.now (3 * a.n) 0) 0 c.before.before.before.before.if1.false)
+    let a = c.args in
+    rw (c.slot_flag.ensures, c.state.ensures, ne_eqb (get_or a.m.now (3 * a.n) 0) 0 c.if-a-eq0.false)
 
 pub ctor_flag_spec : {M : Type 1} → statement M
 ctor_flag_spec =

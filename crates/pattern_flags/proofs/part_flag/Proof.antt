@@ -16,54 +16,54 @@ use Rattle.pattern_marks.specs.TablesLaws.{record_named, ctor_entry, ctor_fits, 
 use Rattle.pattern_flags.proofs.part_flag.Statement.{statement}
 use Rattle.pattern_flags.proofs.part_flag.Tie as tie
 
-number-requires : tie.Need-number-requires
-number-requires c κs = let a = c.before.before.before.before.before in (omega (arith, length_lines_of a.args.q.now, a.requires.0.1), omega arith)
+number-requires : tie.Need-number-kind-requires
+number-requires c κs = let a = c in (omega (arith, length_lines_of a.args.q.now, a.requires.0.1), omega arith)
 
-number-requires-2 : tie.Need-number-requires-2
-number-requires-2 c κs = let a = c.before.before.before.before.before.before.before in (omega (arith, length_lines_of a.args.q.now, a.requires.0.1), omega arith)
+number-requires-2 : tie.Need-number-requires
+number-requires-2 c κs = let a = c in (omega (arith, length_lines_of a.args.q.now, a.requires.0.1), omega arith)
 
-ctor-flag-requires : tie.Need-ctor-flag-requires
+ctor-flag-requires : tie.Need-ctor_flag-requires
 ctor-flag-requires c κs =
-    let a = c.before.before.before.before.before.before.before.before in
-    let e = sym c.before.before.number.ensures ∙ c.before.if1.true in
+    let a = c in
+    let e = sym c.number-kind.ensures ∙ c.if-kind-eq3.true in
     let g = a.requires.0.0 in
-    rw c.number2.ensures
+    rw c.number.ensures
     (ctor_entry a.args.t.now a.args.m.now (lines_of a.args.q.now) g a.args.o a.requires.0.1 e, omega (arith, ctor_fits a.args.t.now a.args.m.now (lines_of a.args.q.now) g a.args.o a.requires.0.1 e, a.requires.1))
 
-returns : tie.Need-returns
+returns : tie.Need-returns-then-kind-eq3
 unfolding part_flag
 returns c =
-    let e = sym c.before.before.before.number.ensures ∙ c.before.before.if1.true in
-    rw (c.ctor_flag.ensures, e, c.before.number2.ensures)
+    let e = sym c.number-kind.ensures ∙ c.if-kind-eq3.true in
+    rw (c.ctor_flag.ensures, e, c.number.ensures)
 
-number-requires-3 : tie.Need-number-requires-3
-number-requires-3 c κs = let a = c.before.before.before.before.before.before.before.before in (omega (arith, length_lines_of a.args.q.now, a.requires.0.1), omega arith)
+number-requires-3 : tie.Need-number-requires-then-kind-eq4
+number-requires-3 c κs = let a = c in (omega (arith, length_lines_of a.args.q.now, a.requires.0.1), omega arith)
 
-decl-of-requires : tie.Need-decl-of-requires
+decl-of-requires : tie.Need-decl_of-d-requires
 decl-of-requires c κs =
-    let a = c.before.before.before.before.before.before.before.before.before in
-    let e = sym c.before.before.before.number.ensures ∙ c.before.if2.true in
-    (a.requires.0.0.tabled, rw c.number3.ensures (record_named a.args.t.now a.args.m.now (lines_of a.args.q.now) a.requires.0.0 a.args.o a.requires.0.1 e))
+    let a = c in
+    let e = sym c.number-kind.ensures ∙ c.if-kind-eq4.true in
+    (a.requires.0.0.tabled, rw c.number-then-kind-eq4.ensures (record_named a.args.t.now a.args.m.now (lines_of a.args.q.now) a.requires.0.0 a.args.o a.requires.0.1 e))
 
-record-flag-requires : tie.Need-record-flag-requires
+record-flag-requires : tie.Need-record_flag-requires
 record-flag-requires c κs =
-    let a = c.before.before.before.before.before.before.before.before.before.before in
+    let a = c in
     let ls = lines_in a.args.t.now in
-    ((a.requires.0.0.tabled, omega (arith, c.decl_of.ensures, position_le (program ls) c.before.number3.result, length_program ls), a.requires.1), (given_linked a.args.t.now a.args.m.now (lines_of a.args.q.now) a.requires.0.0, a.requires.0.2))
+    ((a.requires.0.0.tabled, omega (arith, c.decl_of-d.ensures, position_le (program ls) c.number-then-kind-eq4.result, length_program ls), a.requires.1), (given_linked a.args.t.now a.args.m.now (lines_of a.args.q.now) a.requires.0.0, a.requires.0.2))
 
-returns-2 : tie.Need-returns-2
+returns-2 : tie.Need-returns-then-kind-eq4
 unfolding part_flag
 returns-2 c =
-    let e = sym c.before.before.before.before.before.number.ensures ∙ c.before.before.before.if2.true in
-    rw (c.record_flag.ensures, e, c.before.decl_of.ensures, c.before.before.number3.ensures)
+    let e = sym c.number-kind.ensures ∙ c.if-kind-eq4.true in
+    rw (c.record_flag.ensures, e, c.decl_of-d.ensures, c.number-then-kind-eq4.ensures)
 
-returns-3 : tie.Need-returns-3
+returns-3 : tie.Need-returns
 unfolding part_flag
 returns-3 c =
-    let a = c.before.before.before.before.before.before.before.before.args in
+    let a = c.args in
     let k = kind_of (nth_line (lines_of a.q.now) a.o) in
-    let n = c.before.before.number.ensures in
-    rw (ne_eqb k 3 (λ z. c.before.if1.false (n ∙ z)), ne_eqb k 4 (λ z. c.if2.false (n ∙ z)))
+    let n = c.number-kind.ensures in
+    rw (ne_eqb k 3 (λ z. c.if-kind-eq3.false (n ∙ z)), ne_eqb k 4 (λ z. c.if-kind-eq4.false (n ∙ z)))
 
 pub part_flag_spec : {M : Type 1} → statement M
 part_flag_spec =

@@ -46,13 +46,13 @@ loop-less c = omega (arith, c.loop-f-test.true)
 loop-again : tie.Need-loop-f-preserved invariant-loop decreases-loop
 loop-again c =
     elim c.if-keep-f-eq1.branch [
-    then-keep-f-eq1+else-r-lt-VALUE w ↦ (
-      ap length w.out-is ∙ (w.resolved-r.ensures.kept.long ∙ c.loop-f.invariant.0),
-      rw w.slots-is (search rules),
-      rest_next (lines_in c.args.t.now) c.args.u.now c.args.keep.now c.args.d (length c.args.out.now) c.args.from c.loop-f.f c.args.end c.loop-f-test.true c.loop-f.invariant.2 _ w.field_number-y.ensures c.loop-f.out _ _ _ w.resolved-r.ensures w.if-keep-f-eq1.true w.if-r-lt-VALUE.false,
-      rw w.slots-is w.resolved-r.ensures.slots,
-    )
-    | else-keep-f-eq1 w ↦ (ap length w.out-is ∙ c.loop-f.invariant.0, ap length w.slots-is ∙ c.loop-f.invariant.1, rest_skip (lines_in c.args.t.now) c.args.u.now c.args.keep.now c.args.d (length c.args.out.now) c.args.from c.loop-f.f c.args.end c.loop-f-test.true c.loop-f.invariant.2 w.if-keep-f-eq1.false, rw w.slots-is c.loop-f.invariant.3)
+      | then-keep-f-eq1+else-r-lt-VALUE w ↦ (
+        ap length w.out-is ∙ (w.resolved-r.ensures.kept.long ∙ c.loop-f.invariant.0),
+        rw w.slots-is (search rules),
+        rest_next (lines_in c.args.t.now) c.args.u.now c.args.keep.now c.args.d (length c.args.out.now) c.args.from c.loop-f.f c.args.end c.loop-f-test.true c.loop-f.invariant.2 _ w.field_number-y.ensures c.loop-f.out _ _ _ w.resolved-r.ensures w.if-keep-f-eq1.true w.if-r-lt-VALUE.false,
+        rw w.slots-is w.resolved-r.ensures.slots,
+      )
+      | else-keep-f-eq1 w ↦ (ap length w.out-is ∙ c.loop-f.invariant.0, ap length w.slots-is ∙ c.loop-f.invariant.1, rest_skip (lines_in c.args.t.now) c.args.u.now c.args.keep.now c.args.d (length c.args.out.now) c.args.from c.loop-f.f c.args.end c.loop-f-test.true c.loop-f.invariant.2 w.if-keep-f-eq1.false, rw w.slots-is c.loop-f.invariant.3)
     ]
 
 same-length-3 : tie.Need-shape_of-out invariant-loop decreases-loop

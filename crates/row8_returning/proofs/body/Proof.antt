@@ -4,20 +4,20 @@ use borrow.Author.Rules.{rules}
 use Rattle.row8_returning.proofs.body.Statement.{statement}
 use Rattle.row8_returning.proofs.body.Tie as tie
 
-returns : tie.Need-returns
+returns : tie.Need-returns-then-state-eq1
 returns c =
-    let a = c.before.before.before in
-    through_newtype a.args.types a.args.u.now a.args.d a.requires c.before.if1.true
+    let a = c in
+    through_newtype a.args.types a.args.u.now a.args.d a.requires c.if-state-eq1.true
 
-returns-2 : tie.Need-returns-2
+returns-2 : tie.Need-returns-then-state-eq2
 returns-2 c =
-    let a = c.before.before.before.before in
-    through_abbreviation a.args.types a.args.u.now a.args.d a.requires c.before.before.if1.false c.before.if2.true
+    let a = c in
+    through_abbreviation a.args.types a.args.u.now a.args.d a.requires c.if-state-eq1.false c.if-state-eq2.true
 
-returns-3 : tie.Need-returns-3
+returns-3 : tie.Need-returns
 returns-3 c =
-    let a = c.before.before.before in
-    through_none a.args.types a.args.u.now a.args.d a.requires c.before.if1.false c.if2.false
+    let a = c in
+    through_none a.args.types a.args.u.now a.args.d a.requires c.if-state-eq1.false c.if-state-eq2.false
 
 pub body_spec : {M : Type 1} → statement M
 body_spec =

@@ -8,21 +8,21 @@ use Rattle.row8_returning.proofs.returning.Tie as tie
 
 edges-requires : tie.Need-edges-requires
 edges-requires c κs =
-    let a = c.before.before.before.before.before.before.before.before.before.before.before.before.before in
-    (rows_fit _ _ _ _ c.before.before.types.ensures a.requires.1.1.0.long, rows_fit _ _ _ _ c.before.before.before.before.before.put-bodies.ensures.long a.requires.1.1.1.steps_long)
+    let a = c in
+    (rows_fit _ _ _ _ c.types-types.ensures a.requires.1.1.0.long, rows_fit _ _ _ _ c.put_bodies.ensures.long a.requires.1.1.1.steps_long)
 
 ranks-requires : tie.Need-ranks-requires
 ranks-requires c κs =
-    let a = c.before.before.before.before.before.before.before.before.before.before.before.before.before.before.before.before.before.before.before in
+    let a = c in
     let r = a.requires.1.1.1 in
-    let n = c.before.before.decls.ensures in
-    (searchable (lines_in a.args.t.now) a.requires.0.passed a.args.u.now a.requires.1.0 a.args.words _ _ a.args.sets.now _ a.args.steps.now _ (omega (arith, r.limit)) c.before.before.before.before.before.before.before.before.types.ensures n r.steps_long a.requires.1.1.0 c.before.before.before.before.before.before.before.before.before.before.before.put-bodies.ensures c.before.before.before.before.before.edges.ensures, (omega (arith, n, r.rank_long), r.limit))
+    let n = c.decls-n.ensures in
+    (searchable (lines_in a.args.t.now) a.requires.0.passed a.args.u.now a.requires.1.0 a.args.words _ _ a.args.sets.now _ a.args.steps.now _ (omega (arith, r.limit)) c.types-types.ensures n r.steps_long a.requires.1.1.0 c.put_bodies.ensures c.edges.ensures, (omega (arith, n, r.rank_long), r.limit))
 
 returns : tie.Need-returns
 returns c =
-    let a = c.before.before.before.before.before.before.before.before.before.before.before.before.before.before.before.before.before.before.before.before.before.before.before.before in
+    let a = c in
     let r = a.requires.1.1.1 in
-    found (lines_in a.args.t.now) a.requires.0.passed a.args.u.now a.requires.1.0 a.args.words _ _ a.args.sets.now _ a.args.steps.now _ (omega (arith, r.limit)) c.before.before.before.before.before.before.before.before.before.before.before.before.before.types.ensures c.before.before.before.before.before.before.before.decls.ensures r.steps_long a.requires.1.1.0 c.before.before.before.before.before.before.before.before.before.before.before.before.before.before.before.before.put-bodies.ensures c.before.before.before.before.before.before.before.before.before.before.edges.ensures _ _ _ c.before.before.before.before.ranks.ensures
+    found (lines_in a.args.t.now) a.requires.0.passed a.args.u.now a.requires.1.0 a.args.words _ _ a.args.sets.now _ a.args.steps.now _ (omega (arith, r.limit)) c.types-types.ensures c.decls-n.ensures r.steps_long a.requires.1.1.0 c.put_bodies.ensures c.edges.ensures _ _ _ c.ranks.ensures
 
 pub returning_spec : {M : Type 1} → statement M
 returning_spec =

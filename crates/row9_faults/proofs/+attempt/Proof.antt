@@ -30,9 +30,9 @@ attempt_behind_requires : (t : ℕ) → attempt-lts.Need-behind-requires (
   attempt_below t,
   attempt.Post,
 ) (attempt_at t) attempt.Post
-attempt_behind_requires t c κs = c.before.before.before.before.requires.1
+attempt_behind_requires t c κs = c.requires.1
 
-attempt_tried_requires : (t : ℕ) → attempt-lts.Need-tried-requires (
+attempt_tried_requires : (t : ℕ) → attempt-lts.Need-tried-first-requires (
   behind-reads.Asked,
   behind-reads.Learnt,
   tried-reads.Asked,
@@ -40,7 +40,7 @@ attempt_tried_requires : (t : ℕ) → attempt-lts.Need-tried-requires (
   attempt_below t,
   attempt.Post,
 ) (attempt_at t) attempt.Post
-attempt_tried_requires t c κs = (c.before.before.before.before.before.before.requires.1, slots_zero _ 704)
+attempt_tried_requires t c κs = (c.requires.1, slots_zero _ 704)
 
 attempt_attempt_requires : (t : ℕ) → attempt-lts.Need-attempt-requires (
   behind-reads.Asked,
@@ -50,9 +50,9 @@ attempt_attempt_requires : (t : ℕ) → attempt-lts.Need-attempt-requires (
   attempt_below t,
   attempt.Post,
 ) (attempt_at t) attempt.Post
-attempt_attempt_requires t c κs = (omega (arith, c.before.before.before.before.before.before.before.before.before.before.before.requires.0, c.before.before.before.before.before.before.before.if1.false), c.before.before.before.before.before.before.before.before.before.before.before.requires.1)
+attempt_attempt_requires t c κs = (omega (arith, c.requires.0, c.if-number-gt0.false), c.requires.1)
 
-attempt_returns_2 : (t : ℕ) → attempt-lts.Need-returns-2 (
+attempt_returns_2 : (t : ℕ) → attempt-lts.Need-returns-in-Clear (
   behind-reads.Asked,
   behind-reads.Learnt,
   tried-reads.Asked,
@@ -60,9 +60,9 @@ attempt_returns_2 : (t : ℕ) → attempt-lts.Need-returns-2 (
   attempt_below t,
   attempt.Post,
 ) (attempt_at t) attempt.Post
-attempt_returns_2 t c = rw c.enum_told.given.1 at c.before.before.before.before.tried.ensures
+attempt_returns_2 t c = rw c.in-Clear.is at c.tried-first.ensures
 
-attempt_returns_3 : (t : ℕ) → attempt-lts.Need-returns-3 (
+attempt_returns_3 : (t : ℕ) → attempt-lts.Need-returns-in-Fault (
   behind-reads.Asked,
   behind-reads.Learnt,
   tried-reads.Asked,
@@ -70,7 +70,7 @@ attempt_returns_3 : (t : ℕ) → attempt-lts.Need-returns-3 (
   attempt_below t,
   attempt.Post,
 ) (attempt_at t) attempt.Post
-attempt_returns_3 t c = rw c.before.first.given.1 at c.before.before.before.before.before.tried.ensures
+attempt_returns_3 t c = rw c.in-Fault.is at c.tried-first.ensures
 
 pub +attempt_spec : {M : Type 1} → statement M
 +attempt_spec = close μ_attempt λ t. attempt-lts.spec (

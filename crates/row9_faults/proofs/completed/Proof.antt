@@ -3,11 +3,11 @@ use borrow.Author.Rules.{rules}
 use Rattle.row9_faults.proofs.completed.Statement.{statement}
 use Rattle.row9_faults.proofs.completed.Tie as tie
 
-returns : tie.Need-returns
-returns c = rw c.enum_told.given.1 at c.before.before.before.before.before.requires.1
+returns : tie.Need-returns-in-Clear
+returns c = rw c.in-Clear.is at c.requires.1
 
-returns-2 : tie.Need-returns-2
-returns-2 c = rw c.before.r.given.1 at c.before.before.before.before.before.before.requires.1
+returns-2 : tie.Need-returns-in-Fault
+returns-2 c = rw c.in-Fault.is at c.requires.1
 
 pub completed_spec : {M : Type 1} → statement M
 completed_spec =

@@ -13,4 +13,4 @@ many_spec =
     (λ c κs. search rules)
     (λ c. search rules)
     (λ c κs. search rules)
-    (λ c. comes_less (lines_in c.before.before.before.before.before.args.t.now) 768 1000 c.wide.result (omega arith) c.wide.ensures))
+    (λ c. comes_less (lines_in c.args.t.now) 768 1000 c.wide.result (omega arith) c.wide.ensures))

@@ -7,17 +7,17 @@ use borrow.Author.Rules.{rules}
 use Rattle.row9_faults.proofs.refused.Statement.{statement}
 use Rattle.row9_faults.proofs.refused.Tie as tie
 
-line-of-requires : tie.Need-line-of-requires
-line-of-requires c κs = (c.before.before.before.before.requires.0.tabled, fault_inside _ _ _ (rw c.before.r.given.1 at c.before.before.before.before.requires.1))
+line-of-requires : tie.Need-line_of-requires
+line-of-requires c κs = (c.requires.0.tabled, fault_inside _ _ _ (rw c.in-Fault.is at c.requires.1))
 
-returns : tie.Need-returns
-returns c = refused_none _ (rw c.enum_told.given.1 at c.before.before.before.requires.1)
+returns : tie.Need-returns-in-Clear
+returns c = refused_none _ (rw c.in-Clear.is at c.requires.1)
 
-returns-2 : tie.Need-returns-2
-returns-2 c = refused_at _ _ _ _ (rw c.before.before.r.given.1 at c.before.before.before.before.before.requires.1) c.line_of.ensures
+returns-2 : tie.Need-returns-in-Fault
+returns-2 c = refused_at _ _ _ _ (rw c.in-Fault.is at c.requires.1) c.line_of.ensures
 
-returns-3 : tie.Need-returns-3
-returns-3 c = absurd (omega (arith, decls_within base _ c.before.before.before.requires.0.bounded, rw c.enum-told2.given.1 at c.before.before.before.requires.1))
+returns-3 : tie.Need-returns-in-NoRoom
+returns-3 c = absurd (omega (arith, decls_within base _ c.requires.0.bounded, rw c.in-NoRoom.is at c.requires.1))
 
 pub refused_spec : {M : Type 1} → statement M
 refused_spec =

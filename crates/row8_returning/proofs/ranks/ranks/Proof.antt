@@ -6,9 +6,9 @@ use Rattle.row8_returning.proofs.ranks.ranks.Tie as tie
 
 returns : tie.Need-returns
 returns c =
-    let s = c.before.before.before.before.before.before.before.before.before.before.before in
-    let d = c.before.before.before.before.before.before.before.close in
-    ranks_first s.args.n s.args.words s.args.steps.now _ s.requires.0 d.ensures (λ i. (c.before.before.before.before.before.slice-known3.given i).fits) c.before.before.count.result _ _ c.before.before.count.ensures
+    let s = c in
+    let d = c.close in
+    ranks_first s.args.n s.args.words s.args.steps.now _ s.requires.0 d.ensures (λ i. (c.slice_known-3-1.given i).fits) c.count.result _ _ c.count.ensures
 
 pub ranks_spec : {M : Type 1} → statement M
 ranks_spec = tie.close (tie.spec (λ c κs. search rules) (λ c κs. search rules) (λ c. search rules) (λ c. search rules) returns)

@@ -5,7 +5,7 @@ use Rattle.row9_faults.proofs.attempts.middle.Statement.{statement}
 use Rattle.row9_faults.proofs.attempts.middle.Tie as tie
 
 tried-requires : tie.Need-tried-requires
-tried-requires c κs = (c.before.before.before.before.before.requires, slots_zero _ 11264)
+tried-requires c κs = (c.requires, slots_zero _ 11264)
 
 pub middle_spec : {M : Type 1} → statement M
 middle_spec =

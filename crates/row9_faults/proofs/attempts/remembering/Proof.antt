@@ -5,7 +5,7 @@ use Rattle.row9_faults.proofs.attempts.remembering.Statement.{statement}
 use Rattle.row9_faults.proofs.attempts.remembering.Tie as tie
 
 tried-requires : tie.Need-tried-requires
-tried-requires c κs = (c.before.before.before.before.before.before.requires, slots_zero _ 22528)
+tried-requires c κs = (c.requires, slots_zero _ 22528)
 
 pub remembering_spec : {M : Type 1} → statement M
 remembering_spec = tie.close (tie.spec (λ c. search rules) tried-requires (λ c. search rules) (λ c. search rules))

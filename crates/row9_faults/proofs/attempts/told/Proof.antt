@@ -4,21 +4,21 @@ use Rattle.row9_faults.specs.Attempts.{outcome_of}
 use Rattle.row9_faults.proofs.attempts.told.Statement.{statement}
 use Rattle.row9_faults.proofs.attempts.told.Tie as tie
 
-returns : tie.Need-returns
+returns : tie.Need-returns-then-answer-eq-NO_ROOM
 unfolding outcome_of
-returns c = rw c.if1.true
+returns c = rw c.if-answer-eq-NO_ROOM.true
 
-returns-2 : tie.Need-returns-2
+returns-2 : tie.Need-returns-then-answer-eq-NINE
 unfolding outcome_of
-returns-2 c = rw c.if2.true
+returns-2 c = rw c.if-answer-eq-NINE.true
 
-returns-3 : tie.Need-returns-3
+returns-3 : tie.Need-returns-then-answer-eq-TEN
 unfolding outcome_of
-returns-3 c = rw c.if3.true
+returns-3 c = rw c.if-answer-eq-TEN.true
 
-returns-4 : tie.Need-returns-4
+returns-4 : tie.Need-returns
 unfolding outcome_of
-returns-4 c = rw (ne_eqb _ 1 c.before.before.if1.false, ne_eqb _ 2 c.before.if2.false, ne_eqb _ 3 c.if3.false)
+returns-4 c = rw (ne_eqb _ 1 c.if-answer-eq-NO_ROOM.false, ne_eqb _ 2 c.if-answer-eq-NINE.false, ne_eqb _ 3 c.if-answer-eq-TEN.false)
 
 pub told_spec : {M : Type 1} → statement M
 told_spec = tie.close (tie.spec returns returns-2 returns-3 returns-4)

@@ -5,11 +5,11 @@ use borrow.Author.Rules.{rules}
 use Rattle.row9_faults.proofs.attempts.tried.Statement.{statement}
 use Rattle.row9_faults.proofs.attempts.tried.Tie as tie
 
-first-fault-requires : tie.Need-first-fault-requires
-first-fault-requires c κs = (asked_kept _ _ _ _ c.before.before.before.before.before.before.before.requires.0, c.before.before.before.before.before.before.before.requires.1)
+first-fault-requires : tie.Need-first_fault-f-requires
+first-fault-requires c κs = (asked_kept _ _ _ _ c.requires.0, c.requires.1)
 
 returns : tie.Need-returns
-returns c = attempted _ _ _ _ c.before.before.before.before.before.before.before.before.before.before.before.before.before.requires.0 (length c.before.before.before.before.before.before.before.before.before.before.before.before.before.args.out.now) _ _ c.before.before.before.before.before.first-fault.ensures c.told.ensures
+returns c = attempted _ _ _ _ c.requires.0 (length c.args.out.now) _ _ c.first_fault-f.ensures c.told.ensures
 
 pub tried_spec : {M : Type 1} → statement M
 tried_spec =
