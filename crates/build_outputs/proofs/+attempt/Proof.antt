@@ -30,9 +30,9 @@ attempt_behind_requires : (t : ℕ) → attempt-lts.Need-behind-requires (
   attempt_below t,
   attempt.Post,
 ) (attempt_at t) attempt.Post
-attempt_behind_requires t c κs = c.before.before.before.before.before.before.before.before.before.before.requires.1
+attempt_behind_requires t c κs = c.requires.1
 
-attempt_sheets_requires : (t : ℕ) → attempt-lts.Need-sheets-requires (
+attempt_sheets_requires : (t : ℕ) → attempt-lts.Need-sheets-first-requires (
   behind-reads.Asked,
   behind-reads.Learnt,
   sheets-reads.Asked,
@@ -40,9 +40,9 @@ attempt_sheets_requires : (t : ℕ) → attempt-lts.Need-sheets-requires (
   attempt_below t,
   attempt.Post,
 ) (attempt_at t) attempt.Post
-attempt_sheets_requires t c κs = let p = c.before.before.before.before.before.before.before.before.before.before.before.before.before.requires.1 in (lent_less _ _ _ _ _ _ _ _ _ (omega arith) (omega arith) (omega arith) p.0, p.1)
+attempt_sheets_requires t c κs = let p = c.requires.1 in (lent_less _ _ _ _ _ _ _ _ _ (omega arith) (omega arith) (omega arith) p.0, p.1)
 
-attempt_returns_2 : (t : ℕ) → attempt-lts.Need-returns-2 (
+attempt_returns_2 : (t : ℕ) → attempt-lts.Need-returns-then-first (
   behind-reads.Asked,
   behind-reads.Learnt,
   sheets-reads.Asked,
@@ -50,7 +50,7 @@ attempt_returns_2 : (t : ℕ) → attempt-lts.Need-returns-2 (
   attempt_below t,
   attempt.Post,
 ) (attempt_at t) attempt.Post
-attempt_returns_2 t c = c.before.before.before.before.before.before.before.before.before.sheets.ensures.gives c.before.if2.true
+attempt_returns_2 t c = c.sheets-first.ensures.gives c.if-first.true
 
 attempt_attempt_requires : (t : ℕ) → attempt-lts.Need-attempt-requires (
   behind-reads.Asked,
@@ -61,10 +61,10 @@ attempt_attempt_requires : (t : ℕ) → attempt-lts.Need-attempt-requires (
   attempt.Post,
 ) (attempt_at t) attempt.Post
 attempt_attempt_requires t c κs =
-    let p = c.before.before.before.before.before.before.before.before.before.before.before.before.before.before.before.before.before.before.before.before.before.before.before.before.requires in
-    (omega (arith, p.0, c.before.before.before.before.before.before.before.before.before.before.before.before.before.before.before.before.if1.false), (lent_kept _ _ _ _ _ _ _ (c.before.before.before.before.before.before.before.before.before.before.sheets.ensures.verdict_kept c.before.before.if2.false) p.1.0, p.1.1))
+    let p = c.requires in
+    (omega (arith, p.0, c.if-number-gt0.false), (lent_kept _ _ _ _ _ _ _ (c.sheets-first.ensures.verdict_kept c.if-first.false) p.1.0, p.1.1))
 
-attempt_returns_3 : (t : ℕ) → attempt-lts.Need-returns-3 (
+attempt_returns_3 : (t : ℕ) → attempt-lts.Need-returns (
   behind-reads.Asked,
   behind-reads.Learnt,
   sheets-reads.Asked,
@@ -72,7 +72,7 @@ attempt_returns_3 : (t : ℕ) → attempt-lts.Need-returns-3 (
   attempt_below t,
   attempt.Post,
 ) (attempt_at t) attempt.Post
-attempt_returns_3 t c = tries_again _ _ _ _ _ _ _ _ _ _ c.before.before.before.before.before.before.before.before.before.before.before.before.before.before.before.sheets.ensures c.before.before.before.before.before.before.before.if2.false c.before.before.before.before.attempt.ensures
+attempt_returns_3 t c = tries_again _ _ _ _ _ _ _ _ _ _ c.sheets-first.ensures c.if-first.false c.attempt.ensures
 
 pub +attempt_spec : {M : Type 1} → statement M
 +attempt_spec = close μ_attempt λ t. attempt-lts.spec (

@@ -6,18 +6,18 @@ use Rattle.build_outputs.specs.OutputsLaws.{lent_kept, tries_again, tries_last}
 use Rattle.build_outputs.proofs.larger.Statement.{statement}
 use Rattle.build_outputs.proofs.larger.Tie as tie
 
-returns : tie.Need-returns
-returns c = c.before.before.before.before.before.before.middle.ensures.gives c.before.if1.true
+returns : tie.Need-returns-then-second
+returns c = c.middle-second.ensures.gives c.if-second.true
 
-large-requires : tie.Need-large-requires
+large-requires : tie.Need-large-third-requires
 large-requires c κs =
-    let p = c.before.before.before.before.before.before.before.before.before.before.before.before.before.before.before.before.before.requires in
-    (lent_kept _ _ _ _ _ _ _ (c.before.before.before.before.before.before.before.middle.ensures.verdict_kept c.before.before.if1.false) p.0, p.1)
+    let p = c.requires in
+    (lent_kept _ _ _ _ _ _ _ (c.middle-second.ensures.verdict_kept c.if-second.false) p.0, p.1)
 
-returns-2 : tie.Need-returns-2
+returns-2 : tie.Need-returns
 returns-2 c =
-    tries_again _ _ _ _ _ _ _ _ _ _ c.before.before.before.before.before.before.before.before.before.before.before.before.before.middle.ensures c.before.before.before.before.before.before.before.before.if1.false
-    (tries_last _ (decls_within base _ c.before.before.before.before.before.before.before.before.before.before.before.before.before.before.before.before.before.before.before.before.before.before.before.requires.0.of.bounded) _ _ _ _ _ _ c.before.before.before.before.before.large.ensures)
+    tries_again _ _ _ _ _ _ _ _ _ _ c.middle-second.ensures c.if-second.false
+    (tries_last _ (decls_within base _ c.requires.0.of.bounded) _ _ _ _ _ _ c.large-third.ensures)
 
 pub larger_spec : {M : Type 1} → statement M
 larger_spec =

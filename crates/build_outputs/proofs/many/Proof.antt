@@ -4,16 +4,16 @@ use Rattle.build_outputs.specs.OutputsLaws.{lent_kept, tries_again}
 use Rattle.build_outputs.proofs.many.Statement.{statement}
 use Rattle.build_outputs.proofs.many.Tie as tie
 
-returns : tie.Need-returns
-returns c = c.before.before.before.before.before.before.wide.ensures.gives c.before.if1.true
+returns : tie.Need-returns-then-first
+returns c = c.wide-first.ensures.gives c.if-first.true
 
 larger-requires : tie.Need-larger-requires
 larger-requires c κs =
-    let p = c.before.before.before.before.before.before.before.before.before.before.before.before.before.before.before.before.before.requires in
-    (lent_kept _ _ _ _ _ _ _ (c.before.before.before.before.before.before.before.wide.ensures.verdict_kept c.before.before.if1.false) p.0, p.1)
+    let p = c.requires in
+    (lent_kept _ _ _ _ _ _ _ (c.wide-first.ensures.verdict_kept c.if-first.false) p.0, p.1)
 
-returns-2 : tie.Need-returns-2
-returns-2 c = tries_again _ _ _ _ _ _ _ _ _ _ c.before.before.before.before.before.before.before.before.before.before.before.before.wide.ensures c.before.before.before.before.before.before.before.if1.false c.before.before.before.before.larger.ensures
+returns-2 : tie.Need-returns
+returns-2 c = tries_again _ _ _ _ _ _ _ _ _ _ c.wide-first.ensures c.if-first.false c.larger.ensures
 
 pub many_spec : {M : Type 1} → statement M
 many_spec =

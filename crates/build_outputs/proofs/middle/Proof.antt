@@ -6,7 +6,7 @@ use Rattle.build_outputs.proofs.middle.Statement.{statement}
 use Rattle.build_outputs.proofs.middle.Tie as tie
 
 sheets-requires : tie.Need-sheets-requires
-sheets-requires c κs = let p = c.before.before.before.before.before.before.before.before.before.before.before.before.requires in (lent_less _ _ _ _ _ _ _ _ _ (omega arith) (omega arith) (omega arith) p.0, p.1)
+sheets-requires c κs = let p = c.requires in (lent_less _ _ _ _ _ _ _ _ _ (omega arith) (omega arith) (omega arith) p.0, p.1)
 
 pub middle_spec : {M : Type 1} → statement M
 middle_spec =

@@ -6,7 +6,7 @@ use Rattle.build_outputs.proofs.wide.Statement.{statement}
 use Rattle.build_outputs.proofs.wide.Tie as tie
 
 sheets-requires : tie.Need-sheets-requires
-sheets-requires c κs = let p = c.before.before.before.before.before.before.before.before.before.before.before.before.requires in (lent_less _ _ _ _ _ _ _ _ _ (omega arith) (omega arith) (omega arith) p.0, p.1)
+sheets-requires c κs = let p = c.requires in (lent_less _ _ _ _ _ _ _ _ _ (omega arith) (omega arith) (omega arith) p.0, p.1)
 
 pub wide_spec : {M : Type 1} → statement M
 wide_spec =

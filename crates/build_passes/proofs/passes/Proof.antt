@@ -11,50 +11,50 @@ use Rattle.build_passes.proofs.passes.Statement.{statement}
 use Rattle.table_access.specs.Tables.{lines_in}
 use Rattle.build_passes.proofs.passes.Tie as tie
 
-keep-fields-requires : tie.Need-keep-fields-requires
+keep-fields-requires : tie.Need-keep_fields-requires
 keep-fields-requires c κs =
-    let a = c.before.before.before.before.before.before.before.before.before in
-    let r = c.before.before.before.before.erasure_fixpoint in
+    let a = c in
+    let r = c.erasure_fixpoint-e in
     let l : length r.result.node ≡ 1024 = search rules in
     (a.requires.0.0.tabled, (erased_of (lines_in a.args.t.now) a.requires.0.0.bounded r.result r.ensures l, a.requires.0.1))
 
-part-named-end : tie.Need-slice-bounds-named-end
+part-named-end : tie.Need-slice_bounds-named-end
 part-named-end c =
-    let a = c.before.before.before.before.before.before.before.before.before.before.before.before.before.before in
-    let n = c.before.decls in
-    let r = c.before.before.before.before.before.before.before.before.before.erasure_fixpoint in
+    let a = c in
+    let n = c.decls-n in
+    let r = c.erasure_fixpoint-e in
     let l : length r.result.decl ≡ 96 = search rules in
     let h : n.result ≤ length r.result.decl = omega (arith, n.ensures, decls_within base (lines_in a.args.t.now) a.requires.0.0.bounded) in
     h
 
-named-requires : tie.Need-named-requires
+named-requires : tie.Need-named-returning-requires
 named-requires c κs =
-    let a = c.before.before.before.before.before.before.before.before.before.before.before.before.before.before.before.before.before.before in
-    let n = c.before.before.before.before.before.decls in
-    let k = c.before.before.before.before.before.before.before.before.keep-fields in
-    let r = c.before.before.before.before.before.before.before.before.before.before.before.before.before.erasure_fixpoint in
+    let a = c in
+    let n = c.decls-n in
+    let k = c.keep_fields in
+    let r = c.erasure_fixpoint-e in
     let l : length r.result.decl ≡ 96 = search rules in
-    ((a.requires.0.0, ruled_of (lines_in a.args.t.now) a.requires.0.0.bounded r.result r.ensures l n.result n.ensures _ k.ensures (omega (arith, a.requires.0.1, k.auto.1.1.0))), a.requires.1)
+    ((a.requires.0.0, ruled_of (lines_in a.args.t.now) a.requires.0.0.bounded r.result r.ensures l n.result n.ensures _ k.ensures (omega (arith, a.requires.0.1, k.auto.keep))), a.requires.1)
 
 returns : tie.Need-returns
 returns c =
-    let a = c.before.before.before.before.before.before.before.before.before.before.before.before.before.before.before.before.before.before.before.before.before.before.before in
-    let k = c.before.before.before.before.before.before.before.before.before.before.before.before.before.keep-fields in
-    record { counted = c.before.before.before.before.before.before.before.before.before.before.before.before.before.before.before.before.before.before.erasure_fixpoint.ensures.counted; slotted = k.ensures; long = omega (arith, a.requires.0.1, k.auto.1.1.0); judged = c.before.before.before.before.named.ensures }
+    let a = c in
+    let k = c.keep_fields in
+    record { counted = c.erasure_fixpoint-e.ensures.counted; slotted = k.ensures; long = omega (arith, a.requires.0.1, k.auto.keep); judged = c.named-returning.ensures }
 
 pub passes_spec : {M : Type 1} → statement M
 passes_spec =
     tie.close
     (tie.spec
-    (λ c κs. c.before.before.before.before.requires.0.0)
+    (λ c κs. c.requires.0.0)
     (λ c. search rules)
     keep-fields-requires
-    (λ c κs. c.before.before.before.before.before.before.before.before.before.before.before.before.requires.0.0.tabled)
+    (λ c κs. c.requires.0.0.tabled)
     (λ c. search rules)
     (λ c. search rules)
     part-named-end
     named-requires
-    (λ c. c.before.before.before.before.before.before.before.before.before.before.before.before.before.keep-fields.auto.1.1.0)
-    (λ c. c.before.before.before.before.named.auto.1.1.1.0)
-    (λ c. c.before.before.before.before.named.auto.1.1.1.1.0)
+    (λ c. c.keep_fields.auto.keep)
+    (λ c. c.named-returning.auto.u)
+    (λ c. c.named-returning.auto.rank)
     returns)

@@ -6,12 +6,12 @@ use Rattle.input_rows.proofs.decide.Statement.{statement}
 use Rattle.input_rows.proofs.decide.Tie as tie
 
 parted-requires : tie.Need-parted-requires
-parted-requires c κs = (c.before.before.before.before.before.before.before.before.tabled.ensures.accepts c.before.before.before.before.enum_told.given.1, c.before.before.before.before.before.before.before.before.before.before.before.before.before.before.before.requires.2)
+parted-requires c κs = (c.tabled-f.ensures.accepts c.in-Accepted.is, c.requires.2)
 
-returns-2 : tie.Need-returns-2
+returns-2 : tie.Need-returns-in-Refused
 returns-2 c =
-    let a = c.before.before.before.before.before.before.before.before.before.before.before.before.before.args in
-    rw c.refuse.ensures (decides_refused a.s.now _ _ _ _ _ _ (input_sheet a.s.now _ _ (sym c.before.before.before.before.before.before.tabled.ensures.answer ∙ c.before.before.refusal.given.1)))
+    let a = c.args in
+    rw c.refuse.ensures (decides_refused a.s.now _ _ _ _ _ _ (input_sheet a.s.now _ _ (sym c.tabled-f.ensures.answer ∙ c.in-Refused.is)))
 
 pub decide_spec : {M : Type 1} → statement M
 decide_spec =

@@ -4,9 +4,9 @@ use Rattle.input_rows.specs.JudgingLaws.{uncounted_long}
 use Rattle.input_rows.proofs.miscounted.Statement.{statement}
 use Rattle.input_rows.proofs.miscounted.Tie as tie
 
-miscounted-by-requires : tie.Need-miscounted-by-requires
+miscounted-by-requires : tie.Need-miscounted_by-requires
 miscounted-by-requires c κs =
-    let s = c.before.before.before.before in
+    let s = c in
     uncounted_long s.args.t.now s.args.q.now s.args.m.now s.args.names _ (search rules) s.requires
 
 pub miscounted_spec : {M : Type 1} → statement M

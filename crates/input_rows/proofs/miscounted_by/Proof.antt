@@ -7,13 +7,13 @@ use Rattle.input_rows.proofs.miscounted_by.Tie as tie
 
 row13-requires : tie.Need-row13-requires
 row13-requires c κs =
-    let s = c.before.before.before.before.before.before.before.before.before in
-    (s.requires.listed.few, good_long s.args.q.now _ _ c.before.before.before.counts.auto.1.1.0 s.requires.listed.good)
+    let s = c in
+    (s.requires.listed.few, good_long s.args.q.now _ _ c.counts.auto.fields s.requires.listed.good)
 
 returns : tie.Need-returns
 returns c =
-    let a = c.before.before.before.before.before.before.before.before.before.before.args in
-    row13_told (lines_in a.t.now) c.before.before.before.before.counts.new.1.1.0 a.q.now c.row13.result c.before.before.before.before.counts.ensures c.row13.ensures
+    let a = c.args in
+    row13_told (lines_in a.t.now) c.counts.new.fields a.q.now c.row13.result c.counts.ensures c.row13.ensures
 
 pub miscounted_by_spec : {M : Type 1} → statement M
 miscounted_by_spec =

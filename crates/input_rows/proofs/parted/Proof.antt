@@ -9,54 +9,54 @@ use Rattle.input_rows.specs.JudgingLaws.{tabled_in, listed_of, fields_room, decl
 use Rattle.input_rows.proofs.parted.Statement.{statement}
 use Rattle.input_rows.proofs.parted.Tie as tie
 
-decls-requires : tie.Need-decls-requires
+decls-requires : tie.Need-decls-n-requires
 decls-requires c κs =
-    let s = c.before.before.before.before.before.before.before in
+    let s = c in
     let a = s.args in
     (read_lent a.s.now a.t.now a.lines a.cells s.requires.0 (a.lines * 32) refl).of.tabled
 
 -- so few declarations there are
-few : (c : tie.After-decls) → c.decls.result ≤ 96
+few : (c : tie.After-decls-n) → c.decls-n.result ≤ 96
 few c =
-    let s = c.before.before.before.before.before.before.before.before in
+    let s = c in
     let a = s.args in
-    decls_room _ _ (read_lent a.s.now a.t.now a.lines a.cells s.requires.0 (a.lines * 32) refl).of _ c.decls.ensures
+    decls_room _ _ (read_lent a.s.now a.t.now a.lines a.cells s.requires.0 (a.lines * 32) refl).of _ c.decls-n.ensures
 
-mul-judge-2 : tie.Need-overflow-mul-judge-2
+mul-judge-2 : tie.Need-overflow_mul-n
 mul-judge-2 c = record { fits = omega (arith, few c.before.before.before) }
 
-part-judge-end-3 : tie.Need-slice-bounds-judge-end-3
+part-judge-end-3 : tie.Need-slice_bounds-judge-end-3
 part-judge-end-3 c =
-    let s = c.before.before.before.before.before.before.before.before.before.before.before in
+    let s = c in
     omega (arith, few c.before.before.before, s.requires.1.names)
 
-part-judge-end-4 : tie.Need-slice-bounds-judge-end-4
+part-judge-end-4 : tie.Need-slice_bounds-judge-end-4
 part-judge-end-4 c =
-    let s = c.before.before.before.before.before.before.before.before.before.before.before.before in
+    let s = c in
     omega (arith, few c.before.before.before.before, s.requires.1.ranks)
 
-judge-requires : tie.Need-judge-requires
+judge-requires : tie.Need-judge-j-requires
 judge-requires c κs =
-    let s = c.before.before.before.before.before.before.before.before.before.before.before.before.before in
+    let s = c in
     let a = s.args in
-    let d = c.before.before.before.before.before in
-    let n = d.decls.result in
+    let d = c in
+    let n = d.decls-n.result in
     let r = read_lent a.s.now a.t.now a.lines a.cells s.requires.0 (a.lines * 32) refl in
     let w = tailed_lent a.s.now a.t.now a.lines a.cells s.requires.0 (a.lines * 32) (8 * a.lines + 16) (8 * a.lines + 16 + length (take (length a.s.now - a.lines * 32) (drop (a.lines * 32) a.s.now)) / 32 * 6) refl refl (omega arith) in
-    let e = d.decls.ensures in (
+    let e = d.decls-n.ensures in (
       (tabled_in _ _ _ _ r w, listed_of _ _ _ _ r w, fields_room _ _ r.of a.keep.now a.u.now a.rank.now s.requires.1),
-      (part_sized a.u.now 0 (2 * n) (2 * n) (omega arith) (omega (arith, few d, s.requires.1.names)) ∙ ap (λ (k : ℕ). 2 * k) e, part_sized a.rank.now 0 n n (omega arith) (omega (arith, few d, s.requires.1.ranks)) ∙ e),
+      (part_sized a.u.now 0 (2 * n) (2 * n) (omega arith) (omega (arith, few d.before.before.before.before.before, s.requires.1.names)) ∙ ap (λ (k : ℕ). 2 * k) e, part_sized a.rank.now 0 n n (omega arith) (omega (arith, few d.before.before.before.before.before, s.requires.1.ranks)) ∙ e),
     )
 
 returns : tie.Need-returns
 returns c =
-    let s = c.before.before.before.before.before.before.before.before.before.before.before.before.before.before.before.before.before.before.before.before in
+    let s = c in
     let a = s.args in
-    let d = c.before.before.before.before.before.before.before.before.before.before.before.before in
-    let n = d.decls.result in
-    let j = c.before.before.before.before.before.before.judge in
-    decides_parts a.s.now a.t.now a.lines a.cells s.requires.0 n d.decls.ensures (8 * a.lines + 16) _ refl (omega arith) _ a.u.now a.rank.now j.new.1.1.1.0 j.new.1.1.1.1.0 j.result j.ensures
-    (j.auto.1.1.1.0 ∙ part_sized a.u.now 0 (2 * n) (2 * n) (omega arith) (omega (arith, few d, s.requires.1.names))) (j.auto.1.1.1.1.0 ∙ part_sized a.rank.now 0 n n (omega arith) (omega (arith, few d, s.requires.1.ranks)))
+    let d = c in
+    let n = d.decls-n.result in
+    let j = c.judge-j in
+    decides_parts a.s.now a.t.now a.lines a.cells s.requires.0 n d.decls-n.ensures (8 * a.lines + 16) _ refl (omega arith) _ a.u.now a.rank.now j.new.u j.new.rank j.result j.ensures
+    (j.auto.u ∙ part_sized a.u.now 0 (2 * n) (2 * n) (omega arith) (omega (arith, few d.before.before.before.before.before.before.before.before.before.before.before.before, s.requires.1.names))) (j.auto.rank ∙ part_sized a.rank.now 0 n n (omega arith) (omega (arith, few d.before.before.before.before.before.before.before.before.before.before.before.before, s.requires.1.ranks)))
 
 pub parted_spec : {M : Type 1} → statement M
 parted_spec =

@@ -7,15 +7,15 @@ use Rattle.input_rows.specs.JudgingLaws.{after_faults, at_faults}
 use Rattle.input_rows.proofs.resolved.Statement.{statement}
 use Rattle.input_rows.proofs.resolved.Tie as tie
 
-returns : tie.Need-returns
+returns : tie.Need-returns-in-Accepted
 returns c =
-    let a = c.before.before.before.before.before.before.before.before.args in
-    c.row13.ensures ∙ sym (after_faults (lines_in a.t.now) (lines_of a.q.now) (sym c.before.before.before.rows9-10.ensures ∙ c.before.enum_told.given.1))
+    let a = c.args in
+    c.row13.ensures ∙ sym (after_faults (lines_in a.t.now) (lines_of a.q.now) (sym c.rows9_10-r.ensures ∙ c.in-Accepted.is))
 
-returns-2 : tie.Need-returns-2
+returns-2 : tie.Need-returns-in-Refused
 returns-2 c =
-    let a = c.before.before.before.before.before.before.before.before.args in
-    sym (at_faults (lines_in a.t.now) (lines_of a.q.now) _ _ (sym c.before.before.before.rows9-10.ensures ∙ c.before.r.given.1))
+    let a = c.args in
+    sym (at_faults (lines_in a.t.now) (lines_of a.q.now) _ _ (sym c.rows9_10-r.ensures ∙ c.in-Refused.is))
 
 pub resolved_spec : {M : Type 1} → statement M
 resolved_spec =

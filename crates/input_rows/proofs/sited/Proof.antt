@@ -6,8 +6,8 @@ use Rattle.input_rows.proofs.sited.Tie as tie
 
 miscounted-requires : tie.Need-miscounted-requires
 miscounted-requires c κs =
-    let s = c.before.before.before.before.before.before.before.before.before in
-    uncounted_of s.args.t.now s.args.q.now _ s.requires.0 s.requires.1 c.before.before.before.before.fill.ensures _ c.names.ensures
+    let s = c in
+    uncounted_of s.args.t.now s.args.q.now _ s.requires.0 s.requires.1 c.fill.ensures _ c.names.ensures
 
 pub sited_spec : {M : Type 1} → statement M
 sited_spec =
