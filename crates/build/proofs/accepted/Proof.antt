@@ -6,22 +6,22 @@ use Rattle.build.specs.BuildLaws.{taken_lent, counted_lent, decls_lent, gives_le
 use Rattle.build.proofs.accepted.Statement.{statement}
 use Rattle.build.proofs.accepted.Tie as tie
 
-mul-written-2 : tie.Need-overflow-mul-written-2
-mul-written-2 c = let s = c.before.before.before.before.before.before.before.before.before.before.before.before.before in record { fits = omega (arith, decls_lent _ _ _ _ _ s.args.d s.requires.0) }
+mul-written-2 : tie.Need-overflow_mul-n
+mul-written-2 c = let s = c in record { fits = omega (arith, decls_lent _ _ _ _ _ s.args.d s.requires.0) }
 
-part-written-end-4 : tie.Need-slice-bounds-written-end-4
-part-written-end-4 c = let s = c.before.before.before.before.before.before.before.before.before.before.before.before.before in omega (arith, decls_lent _ _ _ _ _ s.args.d s.requires.0, s.requires.1.names)
+part-written-end-4 : tie.Need-slice_bounds-written-end-4
+part-written-end-4 c = let s = c in omega (arith, decls_lent _ _ _ _ _ s.args.d s.requires.0, s.requires.1.names)
 
-part-written-end-5 : tie.Need-slice-bounds-written-end-5
-part-written-end-5 c = let s = c.before.before.before.before.before.before.before.before.before.before.before.before.before.before in omega (arith, decls_lent _ _ _ _ _ s.args.d s.requires.0, s.requires.1.ranks)
+part-written-end-5 : tie.Need-slice_bounds-written-end-5
+part-written-end-5 c = let s = c in omega (arith, decls_lent _ _ _ _ _ s.args.d s.requires.0, s.requires.1.ranks)
 
 written-requires : tie.Need-written-requires
-written-requires c κs = let s = c.before.before.before.before.before.before.before.before.before.before.before.before.before.before.before.before.before in (taken_lent _ _ _ _ _ s.args.d s.requires.0 _ _ refl (omega arith), counted_lent _ _ _ _ _ s.args.d s.requires.0)
+written-requires c κs = let s = c in (taken_lent _ _ _ _ _ s.args.d s.requires.0 _ _ refl (omega arith), counted_lent _ _ _ _ _ s.args.d s.requires.0)
 
 returns : tie.Need-returns
 returns c =
-    let s = c.before.before.before.before.before.before.before.before.before.before.before.before.before.before.before.before.before.before.before.before.before.before in
-    gives_lent _ _ _ _ _ s.args.d s.requires.0 s.args.v.now s.args.l.now _ _ _ c.before.before.before.before.written.ensures
+    let s = c in
+    gives_lent _ _ _ _ _ s.args.d s.requires.0 s.args.v.now s.args.l.now _ _ _ c.written.ensures
 
 pub accepted_spec : {M : Type 1} → statement M
 accepted_spec =

@@ -11,51 +11,51 @@ use Rattle.build.specs.BuildLaws.{gives_input}
 use Rattle.build.proofs.build.Statement.{statement}
 use Rattle.build.proofs.build.Tie as tie
 
-returns : tie.Need-returns
+returns : tie.Need-returns-then-row1
 returns c =
-    let a = c.before.before.before.before.before.before.args in
-    rw c.refused.ensures (gives_input a.s.now a.v.now a.l.now 1 0 (input_one a.s.now (sym c.before.before.row1.ensures ∙ c.before.if1.true)))
+    let a = c.args in
+    rw c.refused.ensures (gives_input a.s.now a.v.now a.l.now 1 0 (input_one a.s.now (sym c.row1.ensures ∙ c.if-row1.true)))
 
 checked-requires : tie.Need-checked-requires
 checked-requires c κs =
-    let e = c.before.before.before.before in
-    let s = e.before.before.before.before.before.args.s.now in
-    let h : row1 base s ≡ false = sym e.before.row1.ensures ∙ e.if1.false in
+    let e = c in
+    let s = e.args.s.now in
+    let h : row1 base s ≡ false = sym e.row1.ensures ∙ e.if-row1.false in
     (h, omega (arith, short_bytes s h))
 
-checked-requires-2 : tie.Need-checked-requires-2
+checked-requires-2 : tie.Need-checked-requires-then-s-le-SMALL
 checked-requires-2 c κs =
-    let e = c.before.before.before.before.before in
-    let s = e.before.before.before.before.before.args.s.now in
-    let h : row1 base s ≡ false = sym e.before.row1.ensures ∙ e.if1.false in
+    let e = c in
+    let s = e.args.s.now in
+    let h : row1 base s ≡ false = sym e.row1.ensures ∙ e.if-row1.false in
     (h, omega (arith, short_bytes s h))
 
-checked-requires-3 : tie.Need-checked-requires-3
+checked-requires-3 : tie.Need-checked-requires-then-s-le-MIDDLE
 checked-requires-3 c κs =
-    let e = c.before.before.before.before.before.before in
-    let s = e.before.before.before.before.before.args.s.now in
-    let h : row1 base s ≡ false = sym e.before.row1.ensures ∙ e.if1.false in
+    let e = c in
+    let s = e.args.s.now in
+    let h : row1 base s ≡ false = sym e.row1.ensures ∙ e.if-row1.false in
     (h, omega (arith, short_bytes s h))
 
-checked-requires-4 : tie.Need-checked-requires-4
+checked-requires-4 : tie.Need-checked-requires-then-s-le-LARGE
 checked-requires-4 c κs =
-    let e = c.before.before.before.before.before.before.before in
-    let s = e.before.before.before.before.before.args.s.now in
-    let h : row1 base s ≡ false = sym e.before.row1.ensures ∙ e.if1.false in
+    let e = c in
+    let s = e.args.s.now in
+    let h : row1 base s ≡ false = sym e.row1.ensures ∙ e.if-row1.false in
     (h, omega (arith, short_bytes s h))
 
-checked-requires-5 : tie.Need-checked-requires-5
+checked-requires-5 : tie.Need-checked-requires-then-s-le-HALF
 checked-requires-5 c κs =
-    let e = c.before.before.before.before.before.before.before.before in
-    let s = e.before.before.before.before.before.args.s.now in
-    let h : row1 base s ≡ false = sym e.before.row1.ensures ∙ e.if1.false in
+    let e = c in
+    let s = e.args.s.now in
+    let h : row1 base s ≡ false = sym e.row1.ensures ∙ e.if-row1.false in
     (h, omega (arith, short_bytes s h))
 
-checked-requires-6 : tie.Need-checked-requires-6
+checked-requires-6 : tie.Need-checked-requires-2
 checked-requires-6 c κs =
-    let e = c.before.before.before.before.before.before.before.before in
-    let s = e.before.before.before.before.before.args.s.now in
-    let h : row1 base s ≡ false = sym e.before.row1.ensures ∙ e.if1.false in
+    let e = c in
+    let s = e.args.s.now in
+    let h : row1 base s ≡ false = sym e.row1.ensures ∙ e.if-row1.false in
     (h, omega (arith, short_bytes s h))
 
 pub build_spec : {M : Type 1} → statement M

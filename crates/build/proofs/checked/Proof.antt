@@ -7,13 +7,13 @@ use Rattle.build.proofs.checked.Tie as tie
 
 accepted-requires : tie.Need-accepted-requires
 accepted-requires c κs =
-    let d = c.before.before.before.before.before.before.before.before.before.before.before.before.before.decide in
-    (d.ensures.accepts c.before.before.before.before.before.before.enum_told.given.1, record { keeps = search rules; names = search rules; ranks = search rules })
+    let d = c.decide-d in
+    (c.decide-d.ensures.accepts c.in-Accepted.is, record { keeps = search rules; names = search rules; ranks = search rules })
 
-returns-2 : tie.Need-returns-2
+returns-2 : tie.Need-returns-in-Refused
 returns-2 c =
-    let a = c.before.before.before.before.before.before.before.before.before.before.before.before.before.before.before.before.before.before.args in
-    rw c.refused.ensures (gives_input a.s.now a.v.now a.l.now _ _ (sym c.before.before.before.before.before.before.before.before.before.decide.ensures.answer ∙ c.before.before.refusal.given.1))
+    let a = c.args in
+    rw c.refused.ensures (gives_input a.s.now a.v.now a.l.now _ _ (sym c.decide-d.ensures.answer ∙ c.in-Refused.is))
 
 pub checked_spec : {M : Type 1} → statement M
 checked_spec =

@@ -9,42 +9,42 @@ use Rattle.build_following.specs.FollowingLaws.{lent_first, refused_first, left_
 use Rattle.build_following.proofs.followed.Statement.{statement}
 use Rattle.build_following.proofs.followed.Tie as tie
 
-outputs-requires : tie.Need-outputs-requires
+outputs-requires : tie.Need-outputs-front-requires
 outputs-requires c κs =
-    let s = c.before.before.before.before.before.before.before.before.before.before.before.before in
+    let s = c in
     let a = s.args in
     (lent_first a.a.now a.z.now a.t.now a.p.now a.u.now a.rank.now a.keep.now a.v.now s.requires.0, s.requires.1)
 
-returns-2 : tie.Need-returns-2
+returns-2 : tie.Need-returns-then-front-ne0
 returns-2 c =
-    let s = c.before.before.before.before.before.before.before.before.before.before.before.before.before.before.before.before.before.before.before.before.before in
+    let s = c in
     let a = s.args in
-    refused_first a.a.now a.z.now a.t.now a.p.now a.u.now a.rank.now a.keep.now a.v.now s.requires.0 a.l.now (length a.l.now - behind a.p.now) (omega (arith, c.before.before.before.before.before.before.before.before.before.before.before.if1.false)) _ _ _ c.before.before.before.before.before.before.before.before.outputs.ensures c.before.before.if2.true _ c.refused.ensures
+    refused_first a.a.now a.z.now a.t.now a.p.now a.u.now a.rank.now a.keep.now a.v.now s.requires.0 a.l.now (length a.l.now - behind a.p.now) (omega (arith, c.if-l-extra.false)) _ _ _ c.outputs-front.ensures c.if-front-ne0.true _ c.refused.ensures
 
-put-behind-requires : tie.Need-put-behind-requires
+put-behind-requires : tie.Need-put_behind-requires
 put-behind-requires c κs =
-    let s = c.before.before.before.before.before.before.before.before.before.before.before.before.before.before.before.before.before.before.before.before.before in
+    let s = c in
     let a = s.args in
-    let r = room_behind a.a.now a.z.now a.t.now a.p.now a.u.now a.rank.now a.keep.now a.v.now s.requires.0 a.l.now (length a.l.now - behind a.p.now) (omega (arith, c.before.before.before.before.before.before.before.before.before.before.before.if1.false)) _ _ _ c.before.before.before.before.before.before.before.before.outputs.ensures c.before.before.if2.false in
+    let r = room_behind a.a.now a.z.now a.t.now a.p.now a.u.now a.rank.now a.keep.now a.v.now s.requires.0 a.l.now (length a.l.now - behind a.p.now) (omega (arith, c.if-l-extra.false)) _ _ _ c.outputs-front.ensures c.if-front-ne0.false in
     (r.0, r.1, s.requires.0.bytes)
 
-add-t15 : tie.Need-overflow-add-t15
+add-t15 : tie.Need-overflow_add-result
 add-t15 c =
-    let s = c.before.before.before.before.before.before.before.before.before.before.before.before.before.before.before.before.before.before.before.before.before.before.before.before.before.before in
-    record { fits = omega (arith, s.requires.0.verdict_room, s.well-formed.1.1.1.1.1.1.1.1.0.1) }
+    let s = c in
+    record { fits = omega (arith, s.requires.0.verdict_room, s.well_formed.1.1.1.1.1.1.1.1.0.1) }
 
-add-t34 : tie.Need-overflow-add-t34
+add-t34 : tie.Need-overflow_add-result-2
 add-t34 c =
-    let s = c.before.before.before.before.before.before.before.before.before.before.before.before.before.before.before.before.before.before.before.before.before.before.before.before.before.before.before in
+    let s = c in
     let a = s.args in
-    record { fits = omega (arith, left_within a.a.now a.z.now a.t.now a.p.now a.u.now a.rank.now a.keep.now a.v.now s.requires.0 a.l.now (length a.l.now - behind a.p.now) (omega (arith, c.before.before.before.before.before.before.before.before.before.before.before.before.before.before.before.before.before.if1.false)) _ _ _ c.before.before.before.before.before.before.before.before.before.before.before.before.before.before.outputs.ensures c.before.before.before.before.before.before.before.before.if2.false, s.well-formed.1.1.1.1.1.1.1.1.1.0.1) }
+    record { fits = omega (arith, left_within a.a.now a.z.now a.t.now a.p.now a.u.now a.rank.now a.keep.now a.v.now s.requires.0 a.l.now (length a.l.now - behind a.p.now) (omega (arith, c.if-l-extra.false)) _ _ _ c.outputs-front.ensures c.if-front-ne0.false, s.well_formed.1.1.1.1.1.1.1.1.1.0.1) }
 
-returns-3 : tie.Need-returns-3
+returns-3 : tie.Need-returns
 returns-3 c =
-    let s = c.before.before.before.before.before.before.before.before.before.before.before.before.before.before.before.before.before.before.before.before.before.before.before.before.before.before.before in
+    let s = c in
     let a = s.args in
-    let e = c.before.before.before.before.before.put-behind.ensures in
-    gives_both a.a.now a.z.now a.t.now a.p.now a.u.now a.rank.now a.keep.now a.v.now s.requires.0 a.l.now (length a.l.now - behind a.p.now) (omega (arith, c.before.before.before.before.before.before.before.before.before.before.before.before.before.before.before.before.before.if1.false)) _ _ _ c.before.before.before.before.before.before.before.before.before.before.before.before.before.before.outputs.ensures c.before.before.before.before.before.before.before.before.if2.false _ _ e.0 e.1
+    let e = c.put_behind.ensures in
+    gives_both a.a.now a.z.now a.t.now a.p.now a.u.now a.rank.now a.keep.now a.v.now s.requires.0 a.l.now (length a.l.now - behind a.p.now) (omega (arith, c.if-l-extra.false)) _ _ _ c.outputs-front.ensures c.if-front-ne0.false _ _ e.0 e.1
 
 pub followed_spec : {M : Type 1} → statement M
 followed_spec =

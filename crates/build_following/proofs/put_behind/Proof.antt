@@ -10,9 +10,9 @@ use Rattle.build_following.proofs.put_behind.Tie as tie
 
 returns : tie.Need-returns
 returns c =
-    let a = c.before.before.before.before.before.before.before.before.before.before.before.before.args in (
-      part_back _ _ _ a.verdict (a.verdict + length a.z.now) (omega arith) c.before.before.before.before.before.before.copy-lines.ensures,
-      part_back _ _ _ a.left (a.left + behind a.p.now) (omega arith) c.before.before.put_lines.ensures,
+    let a = c.args in (
+      part_back _ _ _ a.verdict (a.verdict + length a.z.now) (omega arith) c.copy_lines.ensures,
+      part_back _ _ _ a.left (a.left + behind a.p.now) (omega arith) c.put_lines.ensures,
     )
 
 pub put_behind_spec : {M : Type 1} → statement M

@@ -6,22 +6,22 @@ use Rattle.build_following.specs.FollowingLaws.{short_none, short_some}
 use Rattle.build_following.proofs.short.Statement.{statement}
 use Rattle.build_following.proofs.short.Tie as tie
 
-returns : tie.Need-returns
+returns : tie.Need-returns-then-names-eq0
 returns c =
-    let s = c.before.before.before.before.before.before.before.before.before.before.before.before in
+    let s = c in
     let a = s.args in
-    short_none a.a.now a.z.now a.t.now a.p.now a.u.now a.rank.now a.keep.now a.v.now s.requires.0.0 a.l.now s.requires.0.1 _ (sym c.before.before.names.ensures ∙ c.before.if1.true) c.refused.ensures
+    short_none a.a.now a.z.now a.t.now a.p.now a.u.now a.rank.now a.keep.now a.v.now s.requires.0.0 a.l.now s.requires.0.1 _ (sym c.names.ensures ∙ c.if-names-eq0.true) c.refused.ensures
 
-add-refused : tie.Need-overflow-add-refused
+add-refused : tie.Need-overflow_add-front
 add-refused c =
-    let s = c.before.before.before.before.before.before.before.before.before.before.before.before.before.before.before.before.before.before.before in
-    record { fits = omega (arith, c.before.before.before.before.before.outputs.ensures.small, s.requires.0.0.few) }
+    let s = c in
+    record { fits = omega (arith, c.outputs-front.ensures.small, s.requires.0.0.few) }
 
-returns-2 : tie.Need-returns-2
+returns-2 : tie.Need-returns
 returns-2 c =
-    let s = c.before.before.before.before.before.before.before.before.before.before.before.before.before.before.before.before.before.before.before.before in
+    let s = c in
     let a = s.args in
-    short_some a.a.now a.z.now a.t.now a.p.now a.u.now a.rank.now a.keep.now a.v.now s.requires.0.0 a.l.now s.requires.0.1 _ _ _ _ (omega (arith, c.before.before.before.before.before.before.before.before.before.before.names.ensures, c.before.before.before.before.before.before.before.before.before.if1.false)) c.before.before.before.before.before.before.outputs.ensures c.refused2.ensures
+    short_some a.a.now a.z.now a.t.now a.p.now a.u.now a.rank.now a.keep.now a.v.now s.requires.0.0 a.l.now s.requires.0.1 _ _ _ _ (omega (arith, c.names.ensures, c.if-names-eq0.false)) c.outputs-front.ensures c.refused-2.ensures
 
 pub short_spec : {M : Type 1} → statement M
 short_spec =

@@ -5,16 +5,16 @@ use Rattle.build_patterns.specs.PatternedLaws.{gives_eleven}
 use Rattle.build_patterns.proofs.counted.Statement.{statement}
 use Rattle.build_patterns.proofs.counted.Tie as tie
 
-returns : tie.Need-returns
+returns : tie.Need-returns-then-v-whole
 returns c =
-    let s = c.before.before.before.before.before.before.before.before.before.before.before.before in
+    let s = c in
     let a = s.args in
-    rw c.refused.ensures (gives_eleven a.a.now a.z.now a.t.now a.q.now a.u.now a.rank.now a.keep.now s.requires.0.0 a.v.now a.l.now _ refl c.before.if1.true)
+    rw c.refused.ensures (gives_eleven a.a.now a.z.now a.t.now a.q.now a.u.now a.rank.now a.keep.now s.requires.0.0 a.v.now a.l.now _ refl c.if-v-whole.true)
 
 marked-requires : tie.Need-marked-requires
 marked-requires c κs =
-    let s = c.before.before.before.before.before.before.before.before.before.before.before.before.before in
-    ((record { patterned = s.requires.0.0; room = c.before.before.if1.false }, s.requires.0.1), s.requires.1)
+    let s = c in
+    ((record { patterned = s.requires.0.0; room = c.if-v-whole.false }, s.requires.0.1), s.requires.1)
 
 pub counted_spec : {M : Type 1} → statement M
 counted_spec =

@@ -8,35 +8,35 @@ use Rattle.build_patterns.specs.PatternedLaws.{asked_of, room_of, count_few, fol
 use Rattle.build_patterns.proofs.emitted.Statement.{statement}
 use Rattle.build_patterns.proofs.emitted.Tie as tie
 
-emit-requires : tie.Need-emit-requires
+emit-requires : tie.Need-emit-n-requires
 emit-requires c κs =
-    let s = c.before.before.before.before.before.before.before.before.before.before.before.before in
+    let s = c in
     let a = s.args in (
       (asked_of a.a.now a.z.now a.t.now a.q.now a.u.now a.rank.now a.keep.now a.v.now a.marks.now a.flags.now s.requires.0.0 s.requires.0.1, omega (arith, s.requires.0.0.patterned.some, s.requires.0.0.patterned.tailed.sized)),
       (room_of a.a.now a.z.now a.t.now a.q.now a.u.now a.rank.now a.keep.now a.v.now a.marks.now a.flags.now s.requires.0.0 s.requires.0.1 1536 refl, omega arith),
     )
 
-mul-followed : tie.Need-overflow-mul-followed
+mul-followed : tie.Need-overflow_mul-n
 mul-followed c =
-    let s = c.before.before.before.before.before.before.before.before.before.before.before.before.before.before in
+    let s = c in
     let a = s.args in
-    record { fits = omega (arith, count_few a.a.now a.z.now a.t.now a.q.now a.u.now a.rank.now a.keep.now a.v.now a.marks.now a.flags.now s.requires.0.0 s.requires.0.1 _ _ _ c.before.emit.ensures) }
+    record { fits = omega (arith, count_few a.a.now a.z.now a.t.now a.q.now a.u.now a.rank.now a.keep.now a.v.now a.marks.now a.flags.now s.requires.0.0 s.requires.0.1 _ _ _ c.emit-n.ensures) }
 
-part-followed-end : tie.Need-slice-bounds-followed-end
+part-followed-end : tie.Need-slice_bounds-followed-end
 part-followed-end c =
-    let s = c.before.before.before.before.before.before.before.before.before.before.before.before.before.before.before in
+    let s = c in
     let a = s.args in
-    let e = c.before.before.emit in
-    let h : 6 * e.result ≤ length e.new.1.1.1.0 = omega (arith, e.auto.1.1.1.0, count_few a.a.now a.z.now a.t.now a.q.now a.u.now a.rank.now a.keep.now a.v.now a.marks.now a.flags.now s.requires.0.0 s.requires.0.1 _ _ _ e.ensures) in
+    let e = c.emit-n in
+    let h : 6 * e.result ≤ length e.new.out = omega (arith, e.auto.out, count_few a.a.now a.z.now a.t.now a.q.now a.u.now a.rank.now a.keep.now a.v.now a.marks.now a.flags.now s.requires.0.0 s.requires.0.1 _ _ _ e.ensures) in
     h
 
 followed-requires : tie.Need-followed-requires
 followed-requires c κs =
-    let s = c.before.before.before.before.before.before.before.before.before.before.before.before.before.before.before.before.before.before in
+    let s = c in
     let a = s.args in
-    let e = c.before.before.before.before.before.emit in
+    let e = c.emit-n in
     let k : 6 * e.result - 0 ≡ 6 * e.result = omega arith in
-    (follows_of a.a.now a.z.now a.t.now a.q.now a.u.now a.rank.now a.keep.now a.v.now a.marks.now a.flags.now s.requires.0.0 s.requires.0.1 _ _ e.new.1.1.1.0 e.result e.ensures refl (ap (λ (k : ℕ). take k e.new.1.1.1.0) k), s.requires.1)
+    (follows_of a.a.now a.z.now a.t.now a.q.now a.u.now a.rank.now a.keep.now a.v.now a.marks.now a.flags.now s.requires.0.0 s.requires.0.1 _ _ e.new.out e.result e.ensures refl (ap (λ (k : ℕ). take k e.new.out) k), s.requires.1)
 
 pub emitted_spec : {M : Type 1} → statement M
 emitted_spec =

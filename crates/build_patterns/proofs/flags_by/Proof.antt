@@ -11,25 +11,25 @@ use Rattle.build_patterns.proofs.flags_by.Tie as tie
 
 owners-requires : tie.Need-owners-requires
 owners-requires c κs =
-    let s = c.before.before.before.before.before.before.before.before.before in
+    let s = c in
     ((given_linked s.args.t.now s.args.m.now (lines_of s.args.q.now) s.requires.0.given, s.requires.0.few), s.requires.1.0)
 
 places-requires : tie.Need-places-requires
 places-requires c κs =
-    let s = c.before.before.before.before.before.before.before.before.before.before.before.before.before in
+    let s = c in
     ((given_linked s.args.t.now s.args.m.now (lines_of s.args.q.now) s.requires.0.given, s.requires.0.few), s.requires.1.1)
 
 flags-requires : tie.Need-flags-requires
 flags-requires c κs =
-    let s = c.before.before.before.before.before.before.before.before.before.before.before.before.before.before.before.before.before.before.before in
-    let p = c.before.before.before.before.before.places in
-    ((s.requires.0.given, owners_ready (lines_of s.args.q.now) _ _ c.before.before.before.before.before.before.before.before.before.owners.ensures (p.auto.1.0 ∙ s.requires.1.1)), (s.requires.0.keeps, s.requires.0.room))
+    let s = c in
+    let p = c.places in
+    ((s.requires.0.given, owners_ready (lines_of s.args.q.now) _ _ c.owners.ensures (p.auto.place ∙ s.requires.1.1)), (s.requires.0.keeps, s.requires.0.room))
 
 returns : tie.Need-returns
 returns c =
-    let a = c.before.before.before.before.before.before.before.before.before.before.before.before.before.before.before.before.before.before.before.before.before.before.args in
-    let p = c.before.before.before.before.before.before.before.before.places in
-    flagged_of (lines_in a.t.now) a.keep.now a.u.now a.m.now (lines_of a.q.now) _ p.new.1.0 _ c.before.before.before.before.before.before.before.before.before.before.before.before.owners.ensures p.ensures c.before.before.flags.ensures
+    let a = c.args in
+    let p = c.places in
+    flagged_of (lines_in a.t.now) a.keep.now a.u.now a.m.now (lines_of a.q.now) _ p.new.place _ c.owners.ensures p.ensures c.flags.ensures
 
 pub flags_by_spec : {M : Type 1} → statement M
 flags_by_spec =

@@ -4,9 +4,9 @@ use Rattle.walk_cells.specs.CellsLaws.{length_lines_of}
 use Rattle.build_patterns.proofs.flags_of.Statement.{statement}
 use Rattle.build_patterns.proofs.flags_of.Tie as tie
 
-flags-by-requires : tie.Need-flags-by-requires
+flags-by-requires : tie.Need-flags_by-requires
 flags-by-requires c κs =
-    let s = c.before.before.before.before.before.before.before.before.before in
+    let s = c in
     let n = length_lines_of s.args.q.now in
     (s.requires, (search rules, search rules))
 

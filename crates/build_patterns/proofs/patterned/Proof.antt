@@ -9,22 +9,22 @@ use Rattle.table_access.specs.Tables.{lines_in}
 use Rattle.build_patterns.proofs.patterned.Statement.{statement}
 use Rattle.build_patterns.proofs.patterned.Tie as tie
 
-mul-sited : tie.Need-overflow-mul-sited
+mul-sited : tie.Need-overflow_mul-names
 mul-sited c =
-    let s = c.before.before.before.before.before.before.before.before.before.before in
-    record { fits = omega (arith, c.names.ensures, names_within base (lines_in s.args.t.now) s.requires.0.clear.read.of.bounded) }
+    let s = c in
+    record { fits = omega (arith, c.names-names.ensures, names_within base (lines_in s.args.t.now) s.requires.0.clear.read.of.bounded) }
 
-part-m-end : tie.Need-slice-bounds-m-end
+part-m-end : tie.Need-slice_bounds-m-end
 part-m-end c =
-    let s = c.before.before.before.before.before.before.before.before.before.before in
-    let h : 3 * c.names.result ≤ 768 = omega (arith, c.names.ensures, names_within base (lines_in s.args.t.now) s.requires.0.clear.read.of.bounded) in
+    let s = c in
+    let h : 3 * c.names-names.result ≤ 768 = omega (arith, c.names-names.ensures, names_within base (lines_in s.args.t.now) s.requires.0.clear.read.of.bounded) in
     h
 
 sited-requires : tie.Need-sited-requires
 sited-requires c κs =
-    let s = c.before.before.before.before.before.before.before.before.before.before.before.before.before in
-    let h : 3 * c.before.before.before.names.result ≤ 768 = omega (arith, c.before.before.before.names.ensures, names_within base (lines_in s.args.t.now) s.requires.0.clear.read.of.bounded) in
-    let e = c.before.before.before.names.ensures in
+    let s = c in
+    let h : 3 * c.names-names.result ≤ 768 = omega (arith, c.names-names.ensures, names_within base (lines_in s.args.t.now) s.requires.0.clear.read.of.bounded) in
+    let e = c.names-names.ensures in
     ((s.requires.0, search rules), s.requires.1)
 
 pub patterned_spec : {M : Type 1} → statement M

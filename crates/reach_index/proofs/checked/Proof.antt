@@ -6,27 +6,27 @@ use Rattle.reach_index.specs.IndexingLaws.{tabled_of, finds_all, finds_refused}
 use Rattle.reach_index.proofs.checked.Statement.{statement}
 use Rattle.reach_index.proofs.checked.Tie as tie
 
-part-taken-end : tie.Need-slice-bounds-taken-end
+part-taken-end : tie.Need-slice_bounds-taken-end
 part-taken-end c =
-    let p = (c.before.before.before.before.before.before.before.before.decide.ensures.accepts c.before.enum_told.given.1).parts in
+    let p = (c.decide-d.ensures.accepts c.in-Accepted.is).parts in
     omega (arith, p.table_room, p.inside, p.tail_room)
 
 taken-requires : tie.Need-taken-requires
 taken-requires c κs =
-    let d = c.before.before.before.before.before.before.before.before.before.before.before.decide in
-    (tabled_of _ _ _ _ _ d.result (d.ensures.accepts c.before.before.before.before.enum_told.given.1), c.before.before.before.before.before.before.before.before.before.before.before.before.before.before.before.before.before.before.before.before.requires.2)
+    let d = c.decide-d in
+    (tabled_of _ _ _ _ _ c.decide-d.result (c.decide-d.ensures.accepts c.in-Accepted.is), c.requires.2)
 
-returns : tie.Need-returns
+returns : tie.Need-returns-in-Accepted
 returns c =
-    let a = c.before.before.before.before.before.before.before.before.before.before.before.before.before.before.before.before.before.before.before.before.before.before.before.before.before.args in
-    let d = c.before.before.before.before.before.before.before.before.before.before.before.before.before.before.before.before.decide in
-    let told = c.before.before.before.before.before.before.before.before.before.enum_told.given.1 in
-    finds_all _ _ _ _ _ d.result (d.ensures.accepts told) a.sets.now _ _ (sym told ∙ d.ensures.answer) c.before.before.before.before.taken.ensures
+    let a = c.args in
+    let d = c.decide-d in
+    let told = c.in-Accepted.is in
+    finds_all _ _ _ _ _ c.decide-d.result (c.decide-d.ensures.accepts told) a.sets.now _ _ (sym told ∙ c.decide-d.ensures.answer) c.taken.ensures
 
-returns-2 : tie.Need-returns-2
+returns-2 : tie.Need-returns-in-Refused
 returns-2 c =
-    let a = c.before.before.before.before.before.before.before.before.before.before.before.before.before.before.before.before.before.args in
-    finds_refused a.s.now a.sets.now _ _ _ (sym c.before.before.before.before.before.before.before.before.decide.ensures.answer ∙ c.before.refusal.given.1)
+    let a = c.args in
+    finds_refused a.s.now a.sets.now _ _ _ (sym c.decide-d.ensures.answer ∙ c.in-Refused.is)
 
 pub checked_spec : {M : Type 1} → statement M
 checked_spec =

@@ -11,27 +11,27 @@ use Rattle.reach_index.specs.IndexingLaws.{finds_refused}
 use Rattle.reach_index.proofs.found.Statement.{statement}
 use Rattle.reach_index.proofs.found.Tie as tie
 
-returns : tie.Need-returns
+returns : tie.Need-returns-then-row1
 returns c =
-    let a = c.before.before.before.before.before.args in
-    finds_refused a.s.now a.sets.now _ 1 0 (input_one a.s.now (sym c.before.row1.ensures ∙ c.if1.true))
+    let a = c.args in
+    finds_refused a.s.now a.sets.now _ 1 0 (input_one a.s.now (sym c.row1.ensures ∙ c.if-row1.true))
 
 checked-requires : tie.Need-checked-requires
 checked-requires c κs =
-    let s = c.before.before.before.before.before.before.before.before.before in
-    let h : row1 base s.args.s.now ≡ false = sym c.before.before.before.before.before.row1.ensures ∙ c.before.before.before.before.if1.false in
+    let s = c in
+    let h : row1 base s.args.s.now ≡ false = sym c.row1.ensures ∙ c.if-row1.false in
     (h, omega (arith, short_bytes s.args.s.now h), s.requires)
 
-checked-requires-2 : tie.Need-checked-requires-2
+checked-requires-2 : tie.Need-checked-requires-then-s-le-LARGE
 checked-requires-2 c κs =
-    let s = c.before.before.before.before.before.before.before.before.before.before in
-    let h : row1 base s.args.s.now ≡ false = sym c.before.before.before.before.before.before.row1.ensures ∙ c.before.before.before.before.before.if1.false in
+    let s = c in
+    let h : row1 base s.args.s.now ≡ false = sym c.row1.ensures ∙ c.if-row1.false in
     (h, omega (arith, short_bytes s.args.s.now h), s.requires)
 
-checked-requires-3 : tie.Need-checked-requires-3
+checked-requires-3 : tie.Need-checked-requires-2
 checked-requires-3 c κs =
-    let s = c.before.before.before.before.before.before.before.before.before.before in
-    let h : row1 base s.args.s.now ≡ false = sym c.before.before.before.before.before.before.row1.ensures ∙ c.before.before.before.before.before.if1.false in
+    let s = c in
+    let h : row1 base s.args.s.now ≡ false = sym c.row1.ensures ∙ c.if-row1.false in
     (h, omega (arith, short_bytes s.args.s.now h), s.requires)
 
 pub found_spec : {M : Type 1} → statement M

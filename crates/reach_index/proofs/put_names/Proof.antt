@@ -12,48 +12,48 @@ use Rattle.reach_index.specs.IndexingLaws.{names_more}
 use Rattle.reach_index.proofs.put_names.Statement.{statement}
 use Rattle.reach_index.proofs.put_names.Tie as tie
 
-abbrev invariant-loop : tie.invariant-loop
+abbrev invariant-loop : tie.invariant-loop-d
 invariant-loop t names₀ n d₀ names d = (d ≤ n) × Names (lines_in t) d names₀ names
 
-abbrev decreases-loop : tie.decreases-loop
+abbrev decreases-loop : tie.decreases-loop-d
 decreases-loop t names₀ n d₀ names d = n - d
 
-loop-holds : tie.Need-loop-init invariant-loop decreases-loop
+loop-holds : tie.Need-loop-d-init invariant-loop decreases-loop
 loop-holds c = (omega arith, record { long = refl; each = λ d l. absurd (omega arith) })
 
-decl-number-requires : tie.Need-decl-number-requires invariant-loop decreases-loop
-decl-number-requires c κs = (c.before.before.before.before.before.requires.0.tabled, (omega (arith, c.loop-test.true, c.before.before.decls.ensures), omega arith))
+decl-number-requires : tie.Need-decl_number-requires invariant-loop decreases-loop
+decl-number-requires c κs = (c.requires.0.tabled, (omega (arith, c.loop-d-test.true, c.decls-n.ensures), omega arith))
 
-mul-names : tie.Need-overflow-mul-names invariant-loop decreases-loop
-mul-names c = let s = c.before.before.before.before.before.before in omega (arith, c.before.loop-test.true, c.before.before.before.decls.ensures, decls_within base (lines_in s.args.t.now) s.requires.0.bounded)
+mul-names : tie.Need-offset_bounds-names-d invariant-loop decreases-loop
+mul-names c = let s = c in omega (arith, c.loop-d-test.true, c.decls-n.ensures, decls_within base (lines_in s.args.t.now) s.requires.0.bounded)
 
-slice-write-names : tie.Need-slice-write-names invariant-loop decreases-loop
-slice-write-names c = let s = c.before.before.before.before.before.before in omega (arith, c.before.loop-test.true, c.before.before.before.decls.ensures, s.requires.1, c.before.before.loop.invariant.1.long)
+slice-write-names : tie.Need-bounds-names-d invariant-loop decreases-loop
+slice-write-names c = let s = c in omega (arith, c.loop-d-test.true, c.decls-n.ensures, s.requires.1, c.loop-d.invariant.1.long)
 
-add-d : tie.Need-overflow-add-d invariant-loop decreases-loop
-add-d c = let s = c.before.before.before.before.before.before in omega (arith, c.before.loop-test.true, c.before.before.before.decls.ensures, decls_within base (lines_in s.args.t.now) s.requires.0.bounded)
+add-d : tie.Need-overflow_step-d invariant-loop decreases-loop
+add-d c = let s = c in omega (arith, c.loop-d-test.true, c.decls-n.ensures, decls_within base (lines_in s.args.t.now) s.requires.0.bounded)
 
-loop-again : tie.Need-loop-preserved invariant-loop decreases-loop
+loop-again : tie.Need-loop-d-preserved invariant-loop decreases-loop
 loop-again c =
-    let s = c.before.before.loop in
-    let a = c.before.before.before.before.before.before.args in
-    let p = c.before.before.before.before.before.before.requires in
-    let l = c.before.loop-test.true in
-    let n = c.before.before.before.decls.ensures in (
+    let s = c.loop-d in
+    let a = c.args in
+    let p = c.requires in
+    let l = c.loop-d-test.true in
+    let n = c.decls-n.ensures in (
       omega (arith, l),
       record {
         long = length-set s.names s.d _ ∙ s.invariant.1.long;
-        each = names_more (lines_in a.t.now) s.d a.names.now s.names _ (omega (arith, l, n)) (omega (arith, l, n, p.1)) s.invariant.1.long s.invariant.1.each c.decl-number.ensures;
+        each = names_more (lines_in a.t.now) s.d a.names.now s.names _ (omega (arith, l, n)) (omega (arith, l, n, p.1)) s.invariant.1.long s.invariant.1.each c.decl_number.ensures;
       },
     )
 
-same_length : tie.Need-same-length invariant-loop decreases-loop
-same_length c = c.before.loop.invariant.1.long
+same_length : tie.Need-shape_of-names invariant-loop decreases-loop
+same_length c = c.loop-d.invariant.1.long
 
 returns : tie.Need-returns invariant-loop decreases-loop
 returns c =
-    let s = c.before.loop in
-    let e : s.d ≡ decls_of (lines_in c.before.before.before.before.before.args.t.now) = omega (arith, s.invariant.0, c.before.before.decls.ensures) in
+    let s = c.loop-d in
+    let e : s.d ≡ decls_of (lines_in c.args.t.now) = omega (arith, s.invariant.0, c.decls-n.ensures) in
     rw e at s.invariant.1
 
 pub put_names_spec : {M : Type 1} → statement M

@@ -6,25 +6,25 @@ use Rattle.reach_index.specs.IndexingLaws.{lists_all, lists_refused}
 use Rattle.reach_index.proofs.reach_lines.Statement.{statement}
 use Rattle.reach_index.proofs.reach_lines.Tie as tie
 
-put-lines-requires : tie.Need-put-lines-requires
+put-lines-requires : tie.Need-put_lines-requires
 put-lines-requires c κs =
-    let f = c.before.before.before.before.before.before.before.found in
-    let s = c.before.before.before.before.before.before.before.before.before.before.before.before in
-    record { few = f.ensures.few; words = omega (arith, f.ensures.few, f.auto.1.0); cells = omega (arith, f.ensures.few, f.auto.1.1.0); fits = omega (arith, f.ensures.few, s.requires) }
+    let f = c.found-r in
+    let s = c in
+    record { few = c.found-r.ensures.few; words = omega (arith, c.found-r.ensures.few, c.found-r.auto.sets); cells = omega (arith, c.found-r.ensures.few, c.found-r.auto.names); fits = omega (arith, c.found-r.ensures.few, s.requires) }
 
-mul-t23 : tie.Need-overflow-mul-t23
-mul-t23 c = record { fits = omega (arith, c.before.before.before.before.before.before.before.before.before.before.found.ensures.few) }
+mul-t23 : tie.Need-overflow_mul-result
+mul-t23 c = record { fits = omega (arith, c.found-r.ensures.few) }
 
-returns : tie.Need-returns
+returns : tie.Need-returns-in-Accepted
 returns c =
-    let s = c.before.before.before.before.before.before.before.before.before.before.before.before.before.before.before in
-    let f = c.before.before.before.before.before.before.before.before.before.before.found in
-    lists_all s.args.s.now _ f.result _ _ f.ensures c.before.before.before.before.before.before.enum_told.given.1 s.args.out.now _ _ refl c.before.before.put_lines.ensures
+    let s = c in
+    let f = c.found-r in
+    lists_all s.args.s.now _ c.found-r.result _ _ c.found-r.ensures c.in-Accepted.is s.args.out.now _ _ refl c.put_lines.ensures
 
-returns-2 : tie.Need-returns-2
+returns-2 : tie.Need-returns-in-Refused
 returns-2 c =
-    let a = c.before.before.before.before.before.before.before.before.before.before.args in
-    lists_refused a.s.now a.out.now _ _ (sym c.before.refusal.given.1 ∙ c.before.before.before.before.before.found.ensures.indexes.answer)
+    let a = c.args in
+    lists_refused a.s.now a.out.now _ _ (sym c.in-Refused.is ∙ c.found-r.ensures.indexes.answer)
 
 pub reach_lines_spec : {M : Type 1} → statement M
 reach_lines_spec =

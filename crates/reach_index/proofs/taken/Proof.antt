@@ -7,11 +7,11 @@ use Rattle.table_access.specs.Tables.{lines_in}
 use Rattle.reach_index.proofs.taken.Statement.{statement}
 use Rattle.reach_index.proofs.taken.Tie as tie
 
-put-names-requires : tie.Need-put-names-requires
-put-names-requires c κs = let s = c.before.before.before.before.before.before.before.before in (s.requires.0, omega (arith, decls_within base (lines_in s.args.t.now) s.requires.0.bounded, s.requires.1.cells))
+put-names-requires : tie.Need-put_names-requires
+put-names-requires c κs = let s = c in (s.requires.0, omega (arith, decls_within base (lines_in s.args.t.now) s.requires.0.bounded, s.requires.1.cells))
 
 returns : tie.Need-returns
-returns c = record { index = c.before.before.before.before.before.before.fill.ensures; fit = λ k. (c.before.before.before.before.slice-known3.given k).fits; names_are = c.before.before.put_names.ensures.each }
+returns c = record { index = c.fill.ensures; fit = λ k. (c.slice_known-3-1.given k).fits; names_are = c.put_names.ensures.each }
 
 pub taken_spec : {M : Type 1} → statement M
 taken_spec =

@@ -10,20 +10,20 @@ use Rattle.reach_sets.proofs.closed.Tie as tie
 
 rows-requires : tie.Need-rows-requires
 rows-requires c κs =
-    let s = c.before.before.before.before.before in
+    let s = c in
     (s.requires.0.0.tabled, (s.requires.1, (omega arith, omega (arith, decls_within base (lines_in s.args.t.now) s.requires.0.0.bounded, s.requires.0.1))))
 
 close-requires : tie.Need-close-requires
 close-requires c κs =
-    let s = c.before.before.before.before.before.before.before.before.before in
-    steps_of (lines_in s.args.t.now) s.args.sets.now _ c.before.before.before.rows.ensures _ c.before.before.before.before.before.decls.ensures
+    let s = c in
+    steps_of (lines_in s.args.t.now) s.args.sets.now _ c.rows.ensures _ c.decls-n.ensures
 
 returns : tie.Need-returns
 returns c =
-    let s = c.before.before.before.before.before.before.before.before.before.before.before.before.before.before.before.before in
-    let d = c.before.before.before.before.before.before.before.before.before.before.before.before.decls in
-    rw c.before.before.clear.ensures
-    (index_told (lines_in s.args.t.now) s.args.sets.now _ c.before.before.before.before.before.before.before.before.before.before.rows.ensures d.result d.ensures _ c.before.before.before.before.before.before.close.ensures s.requires.0.1 (omega (arith, d.ensures, decls_within base (lines_in s.args.t.now) s.requires.0.0.bounded)))
+    let s = c in
+    let d = c.decls-n in
+    rw c.clear.ensures
+    (index_told (lines_in s.args.t.now) s.args.sets.now _ c.rows.ensures d.result d.ensures _ c.close.ensures s.requires.0.1 (omega (arith, d.ensures, decls_within base (lines_in s.args.t.now) s.requires.0.0.bounded)))
 
 pub closed_spec : {M : Type 1} → statement M
 closed_spec =

@@ -9,7 +9,7 @@ use Rattle.reach_sets.proofs.fill.Tie as tie
 
 named-requires-2 : tie.Need-named-requires-2
 named-requires-2 c κs =
-    let s = c.before.before.before.before.before.before in
+    let s = c in
     (s.requires, omega (arith, types_within base (lines_in s.args.t.now) s.requires.0.bounded))
 
 pub fill_spec : {M : Type 1} → statement M

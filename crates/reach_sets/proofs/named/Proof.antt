@@ -9,7 +9,7 @@ use Rattle.reach_sets.proofs.named.Tie as tie
 
 mentions-requires : tie.Need-mentions-requires
 mentions-requires c κs =
-    let s = c.before.before.before.before in
+    let s = c in
     (s.requires.0.0.tabled, (omega (arith, decls_within base (lines_in s.args.t.now) s.requires.0.0.bounded), s.requires.1))
 
 pub named_spec : {M : Type 1} → statement M
