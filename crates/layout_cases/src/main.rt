@@ -51,7 +51,7 @@ fn case(rt: &(impl Files + Print + Eprint), path: &[u8], mode: u8) {
         }
     };
     let mut sheet = [0u8; 65569];
-    let n = program_input::read_full(&mut file, &mut sheet);
+    let n = program_input::read_all(&mut file, &mut sheet).length;
     drop(file);
     match mode {
         1 => limits::all(rt, &sheet[..n]),

@@ -2,7 +2,10 @@
 // line that tells what failed. A read that fails is told to the caller.
 #![tactic(auto)]
 
-ghost use Rattle.std.specs.Prelude.{◌≡◌, ◌<◌, ◌≤◌, ◌⊎◌, ◌↔◌, length, take, slice_range, IsSome, IsTrue, IsFalse};
+ghost use Rattle.std.specs.Prelude.{◌≡◌, ◌<◌, ◌≤◌, ◌⊎◌, ◌↔◌, length, take, slice_range, IsSome, IsErrAnd, IsTrue, IsFalse};
+ghost use Rattle.std.specs.Str.{IsUtf8};
+ghost use Rattle.std.specs.IoError.{error_kind};
+ghost use Rattle.std.specs.declared.io.ErrorKind.TheVariants.{InvalidFilename};
 ghost use Rattle.std.specs.Io.KnownBytes.{Consumes, IsAtEnd};
 
 use std::env::{Env, FillError};
@@ -95,22 +98,8 @@ pub fn read_all<R: Read>(from: &mut R, buffer: &mut [u8]) -> Input
     }
 }
 
-// Reads until the buffer is full, the input ends or a read fails, and says how many bytes there are.
-pub fn read_full<R: Read>(from: &mut R, buffer: &mut [u8]) -> usize
-    ensures within { result ≤ length buffer.new }
-    ensures bytes { Consumes (R.remaining from.old) (R.remaining from.new) (take result buffer.new) }
-{
-    let mut done = 0;
-    while done < buffer.len() {
-        match from.read(&mut buffer[done..]) {
-            Ok(n) if n > 0 => done += n,
-            _ => return done,
-        }
-    }
-    done
-}
-
-// How many arguments the program was started with, its own name among them.
+// How many arguments the program was started with, its own name among them. std has no words for which they are, so no clause tells the
+// number.
 pub fn arg_count(rt: &impl Env) -> usize {
     for i in 0..usize::MAX {
         if let Err(FillError::NotPresent) = rt.arg(i, &mut []) {
@@ -120,8 +109,10 @@ pub fn arg_count(rt: &impl Env) -> usize {
     usize::MAX
 }
 
-// The file of this name, opened to be read. A name that is not text names none.
-pub fn open_read<R: Files>(rt: &R, path: &[u8]) -> io::Result<R::File> {
+// The file of this name, opened to be read. A name that is not text names none; std has no words for what another one names.
+pub fn open_read<R: Files>(rt: &R, path: &[u8]) -> io::Result<R::File>
+    ensures text { ¬ (IsUtf8 path.now) → IsErrAnd result (λ e. error_kind e ≡ InvalidFilename) }
+{
     match str::from_utf8(path) {
         Ok(name) => File::open(rt, name),
         Err(_) => Err(io::Error::new(ErrorKind::InvalidFilename, "not text")),
@@ -137,6 +128,7 @@ fn words(text: &str) -> &str {
 }
 
 // Writes a line to standard error: what failed, as the caller names it, a colon and the error's text. A line that cannot be written is lost.
+// std has no words for what standard error was given, so no clause tells the line.
 pub fn fail(rt: &impl Eprint, what: &[u8], error: io::Error) {
     let text = InlineText::<256>::of(error);
     let said = words(text.as_str());

@@ -84,7 +84,7 @@ fn case(rt: &(impl Files + Print + Eprint), path: &[u8]) {
         }
     };
     let mut sheet = [0u8; 65569];
-    let n = program_input::read_full(&mut file, &mut sheet);
+    let n = program_input::read_all(&mut file, &mut sheet).length;
     drop(file);
     let code = put_answer(rt, &sheet[..n]);
     let decls = put_lines(rt, &sheet[..n], code == 0);

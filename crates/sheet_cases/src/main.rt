@@ -107,7 +107,7 @@ fn case(rt: &(impl Env + Files + Print + Eprint), i: usize) {
         }
     };
     let mut sheet = [0u8; 1024];
-    let n = program_input::read_full(&mut file, &mut sheet);
+    let n = program_input::read_all(&mut file, &mut sheet).length;
     drop(file);
     put(rt, b"sheet ");
     put(rt, &path[..length]);
