@@ -21,12 +21,10 @@ fn run_end(t: &[u32], from: usize, letter: u32) -> usize
     ensures { result ≡ runs.run_end letter (lines_of t.now) from }
 {
     let n = t.len() / CELLS;
-    let mut i = from;
-    while i < n {
+    for i in from..n {
         if walk_cells::letter(t, i) != letter {
             return i;
         }
-        i += 1;
     }
     n
 }
