@@ -1,11 +1,9 @@
 -- A number in columns (FORMAT, section 1): decimal digits at the right end, spaces before them; it
 -- begins with `0` only where it is 0. The width is the number of columns, and any width will do.
 -- Assumes nothing.
-use Rattle.std.specs.Prelude.{List, [], ◌∷◌, ◌++◌, Bool, true, false, ◌&&◌, ℕ, zero, suc, ◌+◌, ◌*◌, ◌-◌, ◌/◌, ◌%◌, eqb, leb}
+use Rattle.std.specs.Prelude.{Option, Some, None, List, [], ◌∷◌, ◌++◌, Bool, true, false, ◌&&◌, ℕ, zero, suc, ◌+◌, ◌*◌, ◌-◌, ◌/◌, ◌%◌, eqb, leb}
 use Rattle.number_columns.specs.declared.Scan.{Scan}
 use Rattle.number_columns.specs.declared.Scan.TheVariants.{Blank, Zero, In, Broken}
-use Rattle.number_columns.specs.declared.Number.{Number}
-use Rattle.number_columns.specs.declared.Number.TheVariants.{Value, Bad}
 
 -- the first where the test holds, else the second
 abbrev pub pick {ℓ} : {A : Type ℓ} → Bool → A → A → A
@@ -32,19 +30,19 @@ unfoldable pub scan : Scan → List ℕ → Scan
 scan a [] = a
 scan a (d ∷ s) = scan (step a d) s
 
-abbrev pub told : Scan → Number
-told Blank = Bad
-told Zero = Value 0
-told (In v) = Value v
-told Broken = Bad
+abbrev pub told : Scan → Option ℕ
+told Blank = None
+told Zero = Some 0
+told (In v) = Some v
+told Broken = None
 
 -- whether the columns hold a number
-abbrev pub is_value : Number → Bool
-is_value (Value n) = true
-is_value Bad = false
+abbrev pub is_value : Option ℕ → Bool
+is_value (Some n) = true
+is_value None = false
 
 -- the number in the columns s
-unfoldable pub read : List ℕ → Number
+unfoldable pub read : List ℕ → Option ℕ
 read s = told (scan Blank s)
 
 -- The column of a digit that is not the last: a space where nothing is left of the number.

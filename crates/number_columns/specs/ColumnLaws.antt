@@ -1,13 +1,12 @@
 -- Reading what was written, and writing what was read, for any width.
 -- Assumes nothing.
-use Rattle.std.specs.Prelude.{◌≡◌, refl, List, [], ◌∷◌, ◌++◌, Bool, true, false, ◌&&◌, ℕ, zero, suc, ◌+◌, ◌*◌, ◌-◌, ◌/◌, ◌%◌, ◌^◌, ◌≤◌, ◌<◌, eqb, leb, length, take, drop, set, get_or}
+use Rattle.std.specs.Prelude.{◌≡◌, refl, Some, List, [], ◌∷◌, ◌++◌, Bool, true, false, ◌&&◌, ℕ, zero, suc, ◌+◌, ◌*◌, ◌-◌, ◌/◌, ◌%◌, ◌^◌, ◌≤◌, ◌<◌, eqb, leb, length, take, drop, set, get_or}
 use Rattle.std.proofs.Common.{ap, ap₂, ◌∙◌, append-nil, append_assoc, arith, lt_of_lt_of_le, add-one, drop_of_length-le, take-suc, ne_eqb, le-leb, eqb-true, leb-true}
 use Rattle.std.proofs.Math.Nat.{pow-le-pow_right}
 use Rattle.std.proofs.Math.Seq.{append_snoc}
 use Rattle.std.proofs.lemmas.Bool.{eqb-false}
 use Rattle.number_columns.specs.declared.Scan.{Scan}
 use Rattle.number_columns.specs.declared.Scan.TheVariants.{Blank, Zero, In, Broken}
-use Rattle.number_columns.specs.declared.Number.TheVariants.{Value}
 use Rattle.number_columns.specs.Column.{pick, mark, digit, step, scan, told, read, shown, write}
 
 scan_append : (a : Scan) (s : List ℕ) (d : ℕ) → scan a (s ++ (d ∷ [])) ≡ step (scan a s) d
@@ -40,11 +39,11 @@ scan_shown zero zero h = refl
 scan_shown zero (suc n) h = absurd (omega arith)
 scan_shown (suc w) n h = rw (scan_append, scan_shown w (n / 10) (omega arith)) (step_shown n)
 
-pub read_write : (w n : ℕ) → n < 10 ^ suc w → read (write (suc w) n) ≡ Value n
+pub read_write : (w n : ℕ) → n < 10 ^ suc w → read (write (suc w) n) ≡ Some n
 unfolding read write seen step
 read_write w n h = rw (scan_append, scan_shown w (n / 10) (omega arith)) (last n)
   where
-    last : (n : ℕ) → told (step (seen (n / 10)) (48 + n % 10)) ≡ Value n
+    last : (n : ℕ) → told (step (seen (n / 10)) (48 + n % 10)) ≡ Some n
     last zero = refl
     last (suc n) = ap told (step_digit (suc n / 10) (suc n % 10) (suc n) (omega arith) (omega arith) (omega arith))
 
@@ -125,7 +124,7 @@ holds_scan [] a p h = rw append-nil h
 holds_scan (d ∷ s) a p h = rw (append_snoc p d s) at (holds_scan s (step a d) (p ++ (d ∷ [])) (holds_step a p d h))
 
 -- columns that hold a number are how it is written, and it fits them
-pub write_read : (s : List ℕ) (n : ℕ) → read s ≡ Value n → (s ≡ write (length s) n) × (n < 10 ^ length s)
+pub write_read : (s : List ℕ) (n : ℕ) → read s ≡ Some n → (s ≡ write (length s) n) × (n < 10 ^ length s)
 unfolding read Holds write shown
 write_read s n e = go (scan Blank s) s e (holds_scan s Blank [] refl)
   where
@@ -133,7 +132,7 @@ write_read s n e = go (scan Blank s) s e (holds_scan s Blank [] refl)
     big [] v h k q = refl
     big (x ∷ s) v h k q = q ∙ ap (λ (d : ℕ). shown (length s) (v / 10) ++ (d ∷ [])) (rw (ne_eqb v 0 (λ z. omega arith)) refl)
 
-    go : (a : Scan) (s : List ℕ) → told a ≡ Value n → Holds a s → (s ≡ write (length s) n) × (n < 10 ^ length s)
+    go : (a : Scan) (s : List ℕ) → told a ≡ Some n → Holds a s → (s ≡ write (length s) n) × (n < 10 ^ length s)
     go Blank s k h = let z : ◌≡◌ {A = ℕ} 0 1 = cc in absurd (omega arith)
     go Zero s k h = let z : 0 ≡ n = cc in (h ∙ ap (write (length s)) z, rw (← z) (ten_pos (length s)))
     go (In v) s k h = let z : v ≡ n = cc in (big s v h.0 h.1 h.2 ∙ ap (write (length s)) z, rw (← z) h.1)

@@ -9,10 +9,3 @@ pub enum Scan {
     In(u32),
     Broken,
 }
-
-// The number in a run of columns, or Bad where they hold none.
-#[derive(Clone, Copy)]
-pub enum Number {
-    Value(u32),
-    Bad,
-}

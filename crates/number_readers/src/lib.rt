@@ -6,38 +6,26 @@ ghost use Rattle.number_columns.specs.declared.Scan.TheVariants.{Blank};
 ghost use Rattle.number_columns.specs.Column as col;
 ghost use Rattle.number_columns.specs.ColumnLaws.{Below};
 
-use number_columns::{Number, Scan};
+use number_columns::Scan;
 
 // One column more. Eight columns have been read at most, so that the ninth's digit still fits.
+#[tactic(auto, unfolding(number_columns::specs::Column::step))]
 fn step(st: Scan, b: u8) -> Scan
     requires { Below 8 st }
     ensures { result ≡ col.step st b }
 {
     match st {
-        Scan::Blank => {
-            if b == 32 {
-                return Scan::Blank;
-            }
-            if b == 48 {
-                return Scan::Zero;
-            }
-            if 48 <= b {
-                if b <= 57 {
-                    return Scan::In((b - 48) as u32);
-                }
-            }
-            Scan::Broken
-        }
-        Scan::In(v) => {
-            if 48 <= b {
-                if b <= 57 {
-                    return Scan::In(v * 10 + (b - 48) as u32);
-                }
-            }
-            Scan::Broken
-        }
-        Scan::Zero => Scan::Broken,
-        Scan::Broken => Scan::Broken,
+        Scan::Blank => match b {
+            b' ' => Scan::Blank,
+            b'0' => Scan::Zero,
+            b'1'..=b'9' => Scan::In(u32::from(b - b'0')),
+            _ => Scan::Broken,
+        },
+        Scan::In(v) => match b {
+            b'0'..=b'9' => Scan::In(v * 10 + u32::from(b - b'0')),
+            _ => Scan::Broken,
+        },
+        Scan::Zero | Scan::Broken => Scan::Broken,
     }
 }
 
@@ -47,24 +35,22 @@ fn scanned(s: &[u8]) -> Scan
     ensures { result ≡ col.scan Blank s.now }
 {
     let mut st = Scan::Blank;
-    let mut i = 0;
-    while i < s.len() {
-        st = step(st, s[i]);
-        i += 1;
+    for b in s {
+        st = step(st, *b);
     }
     st
 }
 
-// The number in the columns s.
-pub fn read_number(s: &[u8]) -> Number
+// The number in the columns s, if they hold one.
+#[tactic(auto, unfolding(number_columns::specs::Column::read))]
+pub fn read_number(s: &[u8]) -> Option<u32>
     requires { length s.now < 10 }
     ensures { result ≡ col.read s.now }
 {
     match scanned(s) {
-        Scan::Blank => Number::Bad,
-        Scan::Zero => Number::Value(0),
-        Scan::In(v) => Number::Value(v),
-        Scan::Broken => Number::Bad,
+        Scan::Zero => Some(0),
+        Scan::In(v) => Some(v),
+        Scan::Blank | Scan::Broken => None,
     }
 }
 
@@ -72,12 +58,7 @@ pub fn read_number(s: &[u8]) -> Number
 fn ends(st: Scan) -> bool
     ensures { result ≡ col.is_value (col.told st) }
 {
-    match st {
-        Scan::Blank => false,
-        Scan::Zero => true,
-        Scan::In(_) => true,
-        Scan::Broken => false,
-    }
+    matches!(st, Scan::Zero | Scan::In(_))
 }
 
 // Whether the columns s hold a number. Four spaces are passed at once.
@@ -85,10 +66,8 @@ pub fn is_number(s: &[u8]) -> bool
     requires { length s.now < 10 }
     ensures { result ≡ col.is_value (col.read s.now) }
 {
-    if s.len() >= 4 {
-        if number_words::four_spaces(s[0], s[1], s[2], s[3]) {
-            return ends(scanned(&s[4..]));
-        }
+    if s.len() >= 4 && number_words::four_spaces(s[0], s[1], s[2], s[3]) {
+        return ends(scanned(&s[4..]));
     }
     ends(scanned(s))
 }

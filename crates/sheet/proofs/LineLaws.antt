@@ -1,22 +1,19 @@
 -- A line whose numbers and text fit their columns is what its bytes decode to, bytes that decode to a line are its encoding, and
 -- what a line is by its bytes: for any number of columns. Assumes nothing.
-use Rattle.std.specs.Prelude.{◌≡◌, ◌&&◌, ltb, leb, replicate}
+use Rattle.std.specs.Prelude.{◌≡◌, Option, Some, None, ◌&&◌, leb, replicate}
 use Rattle.std.proofs.Math.Path.{refl, ap, ap₂, sym}
-use Rattle.std.proofs.Common.{◌∙◌, suc-mul, mul-le-mul_right, lt_of_lt_of_le, length-append, length-take, take-append-drop, drop_of_length-le, take_at, drop_at, drop-drop, drop-cons, le-leb, eqb-true, ltb-true, ltb-false, leb-true, leb-false}
+use Rattle.std.proofs.Common.{◌∙◌, suc-mul, mul-le-mul_right, length-append, take-append-drop, drop_of_length-le, take_at, drop_at, drop-drop, drop-cons, le-leb, eqb-true, leb-true, leb-false}
 use mathlib.Core.List.{List, [], ◌∷◌, ◌++◌, append_assoc, append-nil}
 use Rattle.std.proofs.Math.Bool.{Bool, true, false}
 use Prim.Native.Nat.{ℕ, zero, suc, ◌+◌, ◌*◌, ◌-◌, ◌^◌, ◌≤◌, ◌<◌}
 use native.Mathlib.Omega.{arith}
-use Rattle.std.proofs.Math.Nat.{pow-le-pow_right}
 use Rattle.std.proofs.Math.Dec.{eqb}
 use Rattle.std.proofs.Math.ListN.{length, take, drop, get_or, length-drop, get_or-eq_default}
 use Rattle.std.proofs.lemmas.List.{length-replicate, get_or_at}
 use Rattle.std.proofs.Math.Seq.{drop-append_seam, length-take-le}
 use Rattle.std.proofs.lemmas.Bool.{eqb-false}
-use Rattle.number_columns.specs.declared.Number.{Number}
-use Rattle.number_columns.specs.declared.Number.TheVariants.{Value, Bad}
 use Rattle.number_columns.specs.Column.{pick, read, write}
-use Rattle.number_columns.specs.ColumnLaws.{read_write, write_read, write_length, ten_pos}
+use Rattle.number_columns.specs.ColumnLaws.{read_write, write_read, write_length}
 use Rattle.sheet.specs.Format.{line_bytes, text_bytes}
 use Rattle.sheet.specs.Line.{Line, named, row, bad, graphic, spelling, spaces, proper, padded, lettered, cell, is_value, value, decode_named, decode_row, decode, writes, encode, letter, number, is_bad}
 pub use Rattle.sheet.proofs.ListLaws.{both}
@@ -44,9 +41,9 @@ picked : (c : Bool) (l : Line) → is_bad (pick c l bad) ≡ false → c ≡ tru
 picked true l e = refl
 picked false l e = false_true (sym e)
 
-pub value_of : (m : Number) → is_value m ≡ true → m ≡ Value (value m)
-value_of (Value n) e = refl
-value_of Bad e = false_true e
+pub value_of : (m : Option ℕ) → is_value m ≡ true → m ≡ Some (value m)
+value_of (Some n) e = refl
+value_of None e = false_true e
 
 -- ---- names
 spelling_graphic : (t : List ℕ) → Graphic (spelling t)
@@ -153,18 +150,18 @@ writes_at w (n ∷ ns) r (suc k) h =
     let e : suc k * w ≡ w + k * w = suc-mul k w ∙ omega arith in
     rw (e, ← drop-drop, append_assoc, drop_at (write w n) (writes w ns ++ r) w (write_length w n)) (writes_at w ns r k (omega arith))
 
-read_written : (w n : ℕ) → 0 < w → n < 10 ^ w → read (write w n) ≡ Value n
+read_written : (w n : ℕ) → 0 < w → n < 10 ^ w → read (write w n) ≡ Some n
 read_written zero n z h = absurd (omega arith)
 read_written (suc w) n z h = read_write w n h
 
 -- the cell of the first number after a letter, and of number k of several
-cell_first : (w x n : ℕ) (r : List ℕ) → 0 < w → n < 10 ^ w → cell w (x ∷ (write w n ++ r)) 0 ≡ Value n
+cell_first : (w x n : ℕ) (r : List ℕ) → 0 < w → n < 10 ^ w → cell w (x ∷ (write w n ++ r)) 0 ≡ Some n
 unfolding cell
 cell_first w x n r z h =
     let e : 1 + 0 * w ≡ 1 = omega arith in
     rw (e, take_at (write w n) r w (write_length w n)) (read_written w n z h)
 
-cell_writes : (w x : ℕ) (ns r : List ℕ) (k : ℕ) → 0 < w → AllBelow (10 ^ w) ns → k < length ns → cell w (x ∷ (writes w ns ++ r)) k ≡ Value (get_or ns k 0)
+cell_writes : (w x : ℕ) (ns r : List ℕ) (k : ℕ) → 0 < w → AllBelow (10 ^ w) ns → k < length ns → cell w (x ∷ (writes w ns ++ r)) k ≡ Some (get_or ns k 0)
 unfolding cell
 cell_writes w x ns r k z h l =
     let e : 1 + k * w ≡ suc (k * w) = omega arith in
@@ -193,13 +190,13 @@ encode_length w (row x ns) h = row_length w x ns h.1
 encode_length w bad h = absurd h
 
 -- what the parts of the bytes b make of them
-decoded_named : (w : ℕ) (b u : List ℕ) (n : ℕ) → get_or b (5 * w + 1) 0 ≡ 10 → get_or b 0 0 ≡ 78 → cell w b 0 ≡ Value n → take (text_bytes w) (drop (1 + w) b) ≡ u →
+decoded_named : (w : ℕ) (b u : List ℕ) (n : ℕ) → get_or b (5 * w + 1) 0 ≡ 10 → get_or b 0 0 ≡ 78 → cell w b 0 ≡ Some n → take (text_bytes w) (drop (1 + w) b) ≡ u →
     proper u ≡ true → decode w b ≡ named n (spelling u)
 unfolding decode decode_named
 decoded_named w b u n e x c t p = rw (e, x, c, t, p)
 
 decoded_row : (w : ℕ) (b ns : List ℕ) → get_or b (5 * w + 1) 0 ≡ 10 → lettered (get_or b 0 0) ≡ true → length ns ≡ 5 →
-    ((k : ℕ) → k < 5 → cell w b k ≡ Value (get_or ns k 0)) → decode w b ≡ row (get_or b 0 0) ns
+    ((k : ℕ) → k < 5 → cell w b k ≡ Some (get_or ns k 0)) → decode w b ≡ row (get_or b 0 0) ns
 unfolding decode decode_row
 decoded_row w b ns e x l c =
     rw
@@ -343,9 +340,9 @@ decode_fits w b n = (round_long w b (decode_long w b n) n).0
 -- ---- what a line is, by its bytes
 -- An N line, a line of five numbers each of which its columns hold, or no line.
 pub data Decoded (w : ℕ) (b : List ℕ) : Line → Type 0 where
-  as_named : (n : ℕ) → get_or b 0 0 ≡ 78 → cell w b 0 ≡ Value n → proper (take (text_bytes w) (drop (1 + w) b)) ≡ true
+  as_named : (n : ℕ) → get_or b 0 0 ≡ 78 → cell w b 0 ≡ Some n → proper (take (text_bytes w) (drop (1 + w) b)) ≡ true
       → Decoded w b (named n (spelling (take (text_bytes w) (drop (1 + w) b))))
-  as_row : (ns : List ℕ) → (get_or b 0 0 ≡ 78 → ⊥) → lettered (get_or b 0 0) ≡ true → length ns ≡ 5 → ((k : ℕ) → k < 5 → cell w b k ≡ Value (get_or ns k 0))
+  as_row : (ns : List ℕ) → (get_or b 0 0 ≡ 78 → ⊥) → lettered (get_or b 0 0) ≡ true → length ns ≡ 5 → ((k : ℕ) → k < 5 → cell w b k ≡ Some (get_or ns k 0))
       → Decoded w b (row (get_or b 0 0) ns)
   as_bad : Decoded w b bad
 
@@ -359,7 +356,7 @@ row_decoded w b z l = go (v 0 && v 1 && v 2 && v 3 && v 4) refl
     ns : List ℕ
     ns = value (cell w b 0) ∷ value (cell w b 1) ∷ value (cell w b 2) ∷ value (cell w b 3) ∷ value (cell w b 4) ∷ []
 
-    each : v 0 && v 1 && v 2 && v 3 && v 4 ≡ true → (k : ℕ) → k < 5 → cell w b k ≡ Value (get_or ns k 0)
+    each : v 0 && v 1 && v 2 && v 3 && v 4 ≡ true → (k : ℕ) → k < 5 → cell w b k ≡ Some (get_or ns k 0)
     each h zero k = value_of _ (both _ _ (both _ _ (both _ _ (both _ _ h).0).0).0).0
     each h (suc zero) k = value_of _ (both (v 0) (v 1) (both _ _ (both _ _ (both _ _ h).0).0).0).1
     each h (suc (suc zero)) k = value_of _ (both (v 0 && v 1) (v 2) (both _ _ (both _ _ h).0).0).1
@@ -378,10 +375,10 @@ named_decoded w b z = go (cell w b 0) refl (proper t) refl
     t : List ℕ
     t = take (text_bytes w) (drop (1 + w) b)
 
-    go : (c : Number) → cell w b 0 ≡ c → (q : Bool) → proper t ≡ q → Decoded w b (pick (is_value c && q) (named (value c) (spelling t)) bad)
-    go (Value n) e true p = as_named n z e p
-    go (Value n) e false p = as_bad
-    go Bad e q p = as_bad
+    go : (c : Option ℕ) → cell w b 0 ≡ c → (q : Bool) → proper t ≡ q → Decoded w b (pick (is_value c && q) (named (value c) (spelling t)) bad)
+    go (Some n) e true p = as_named n z e p
+    go (Some n) e false p = as_bad
+    go None e q p = as_bad
 
 pub decoded : (w : ℕ) (b : List ℕ) → Decoded w b (decode w b)
 unfolding decode
@@ -409,10 +406,10 @@ letter_decode w b = go (decoded w b)
     go as_bad h = false_true (sym h)
 
 -- a number by its columns; of an N line only the first is one
-pub number_decode : (w : ℕ) (b : List ℕ) (k : ℕ) → is_bad (decode w b) ≡ false → k < 5 → (get_or b 0 0 ≡ 78 → k ≡ 0) → cell w b k ≡ Value (number (decode w b) k)
+pub number_decode : (w : ℕ) (b : List ℕ) (k : ℕ) → is_bad (decode w b) ≡ false → k < 5 → (get_or b 0 0 ≡ 78 → k ≡ 0) → cell w b k ≡ Some (number (decode w b) k)
 number_decode w b k = go (decoded w b)
   where
-    go : {l : Line} → Decoded w b l → is_bad l ≡ false → k < 5 → (get_or b 0 0 ≡ 78 → k ≡ 0) → cell w b k ≡ Value (number l k)
+    go : {l : Line} → Decoded w b l → is_bad l ≡ false → k < 5 → (get_or b 0 0 ≡ 78 → k ≡ 0) → cell w b k ≡ Some (number l k)
     go (as_named n z e p) h q o = rw (o z) e
     go (as_row ns z l g e) h q o = e k q
     go as_bad h q o = false_true (sym h)

@@ -10,7 +10,7 @@ use Rattle.sheet.specs.Format.{line_bytes}
 use Rattle.sheet.specs.Line.{Line, decode, encode}
 use Rattle.sheet.proofs.LineLaws.{Fits, decode_encode, encode_length}
 use Rattle.sheet.specs.Sheet.{encodes, lines, count}
-use Rattle.sheet.proofs.SheetLaws.{AllFit, encodes_append, encodes_one, within_count, length_lines, lines_cons, lines_append}
+use Rattle.sheet.proofs.SheetLaws.{encodes_append, encodes_one, within_count, length_lines, lines_cons, lines_append}
 use Rattle.sheet.proofs.ListLaws.{Every}
 use Rattle.sheet.specs.Output.{put_at, puts}
 

@@ -1,6 +1,6 @@
 -- The lines of a run of lines, and the run of the lines of a sheet, for any number of columns. Assumes nothing.
 use Rattle.std.specs.Prelude.{◌≡◌, refl, List, [], ◌∷◌, ◌++◌, Bool, true, false, ℕ, zero, suc, ◌+◌, ◌*◌, ◌/◌, ◌%◌, ◌≤◌, ◌<◌, eqb, ltb, length, take, drop, get_or}
-use Rattle.std.proofs.Common.{ap, ap₂, ◌∙◌, subst, append_assoc, append-nil, arith, add-one, mul-suc, mul-add, mul_comm, div-lt_iff_lt-mul, mul-le-mul_left, le_trans, length-append, length-take, length-drop, take-append-drop, take_at, take-take, drop-drop, length-take-le, eq-eqb, eqb-true, ltb-true, ltb-false}
+use Rattle.std.proofs.Common.{ap, ap₂, ◌∙◌, subst, append_assoc, append-nil, arith, add-one, mul-suc, mul-add, mul_comm, div-lt_iff_lt-mul, mul-le-mul_left, le_trans, length-append, length-take, length-drop, take-append-drop, take_at, take-take, drop-drop, length-take-le, eqb-true, ltb-true, ltb-false}
 use Rattle.std.proofs.Math.Path.{sym}
 use Rattle.std.proofs.Math.Nat.{zero-div, add-div_left, div-add-mod, mul-div-le}
 use Rattle.std.proofs.Math.ListN.{get_or-eq_default}
@@ -12,7 +12,7 @@ use Rattle.sheet.specs.Line.{Line, named, row, bad, spelling, decode, encode, le
 use Rattle.sheet.specs.Sheet.{line_at, count, line, lines_from, lines, encodes, row2, text_of, name_text}
 use Rattle.sheet.proofs.FirstLaws.{none_first}
 use Rattle.sheet.proofs.LineLaws.{Fits, spelling_take, spelling_le, decode_encode, encode_decode, encode_length, decode_fits, decode_short, letter_decode, Decoded, as_named, as_row, as_bad, decoded}
-use Rattle.sheet.proofs.ListLaws.{length_nil, Every, every_append}
+use Rattle.sheet.proofs.ListLaws.{length_nil, Every}
 
 -- every line fits
 abbrev pub AllFit : ℕ → List Line → Type 0

@@ -1,8 +1,6 @@
 -- One line of a sheet whose numbers have w columns (FORMAT, section 1), its decoding and its
 -- encoding. Assumes nothing.
-use Rattle.std.specs.Prelude.{List, [], ◌∷◌, ◌++◌, Bool, true, false, ◌&&◌, ℕ, ◌+◌, ◌*◌, ◌-◌, eqb, leb, length, take, drop, get_or, replicate}
-use Rattle.number_columns.specs.declared.Number.{Number}
-use Rattle.number_columns.specs.declared.Number.TheVariants.{Value, Bad}
+use Rattle.std.specs.Prelude.{Option, Some, None, List, [], ◌∷◌, ◌++◌, Bool, true, false, ◌&&◌, ℕ, ◌+◌, ◌*◌, ◌-◌, eqb, leb, length, take, drop, get_or, replicate}
 use Rattle.number_columns.specs.Column.{pick, read, write}
 pub use Rattle.number_columns.specs.Column.{is_value}
 use Rattle.sheet.specs.Format.{text_bytes}
@@ -43,12 +41,12 @@ lettered x = pick (eqb x 65) true (pick (eqb x 67) true (pick (eqb x 68) true (p
     (pick (eqb x 73) true (pick (eqb x 80) true (pick (eqb x 81) true (pick (eqb x 86) true (eqb x 89))))))))
 
 -- the columns of number k
-unfoldable pub cell : ℕ → List ℕ → ℕ → Number
+unfoldable pub cell : ℕ → List ℕ → ℕ → Option ℕ
 cell w b k = read (take w (drop (1 + k * w) b))
 
-abbrev pub value : Number → ℕ
-value (Value n) = n
-value Bad = 0
+abbrev pub value : Option ℕ → ℕ
+value (Some n) = n
+value None = 0
 
 -- ---- the line
 -- Row 2 for one line: bad is the answer for a letter, a number, a name's text or a last byte that is not right.

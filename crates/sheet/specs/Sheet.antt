@@ -1,6 +1,6 @@
 -- A sheet: a run of lines, the name leaf (FORMAT, section 1), and rows 1 and 2 (section 5).
 -- Assumes nothing.
-use Rattle.std.specs.Prelude.{List, [], ◌∷◌, ◌++◌, Bool, true, false, ◌||◌, not, ℕ, zero, suc, ◌+◌, ◌*◌, ◌/◌, ◌%◌, eqb, ltb, length, take, drop}
+use Rattle.std.specs.Prelude.{List, [], ◌∷◌, ◌++◌, Bool, true, false, ◌||◌, not, ℕ, zero, suc, ◌*◌, ◌/◌, ◌%◌, eqb, ltb, length, take, drop}
 use Rattle.number_columns.specs.Column.{pick}
 use Rattle.sheet.specs.Format.{Format, line_bytes}
 use Rattle.sheet.specs.Line.{Line, named, row, bad, decode, encode, is_bad}

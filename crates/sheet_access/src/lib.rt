@@ -5,60 +5,46 @@ ghost use Rattle.std.specs.Prelude.{◌≡◌};
 ghost use Rattle.sheet_lines.specs.Shape.{text_in};
 ghost use Rattle.sheet_access.specs.Access.{letter_at, cell_at, text_at};
 
-use number_columns::Number;
 use sheet_lines::Shape;
 use sheet_parts::{LINE, NUMBERS, TEXT};
 
-// The letter of a line, or that the line is past the end.
+// Why no number is read: its columns hold none, or there are no such columns.
 #[derive(Clone, Copy)]
-pub enum Letter {
-    Byte(u8),
-    Past,
-}
-
-// A number of a line, or that its columns hold none, or that there are no such columns.
-#[derive(Clone, Copy)]
-pub enum Cell {
-    Value(u32),
+pub enum NoNumber {
     Bad,
     Past,
 }
 
-// The letter of line i, of any bytes.
-pub fn letter_at(s: &[u8], i: usize) -> Letter
+// The letter of line i, of any bytes, or None past the end.
+#[tactic(auto, unfolding(crate::specs::Access::letter_at))]
+pub fn letter_at(s: &[u8], i: usize) -> Option<u8>
     ensures { result ≡ letter_at 6 s.now i }
 {
     if i >= s.len() / LINE {
-        return Letter::Past;
+        return None;
     }
     let l = sheet_parts::line_bytes(s, i);
-    Letter::Byte(l[0])
+    Some(l[0])
 }
 
 // Number k of line i, of any bytes, by its columns alone.
-pub fn number_at(s: &[u8], i: usize, k: usize) -> Cell
+#[tactic(auto, unfolding(crate::specs::Access::cell_at))]
+pub fn number_at(s: &[u8], i: usize, k: usize) -> Result<u32, NoNumber>
     ensures { result ≡ cell_at 6 s.now i k }
 {
-    if i >= s.len() / LINE {
-        return Cell::Past;
+    if i >= s.len() / LINE || k >= NUMBERS {
+        return Err(NoNumber::Past);
     }
-    if k >= NUMBERS {
-        return Cell::Past;
-    }
-    match sheet_lines::cell(sheet_parts::line_bytes(s, i), k) {
-        Number::Value(v) => Cell::Value(v),
-        Number::Bad => Cell::Bad,
-    }
+    sheet_lines::cell(sheet_parts::line_bytes(s, i), k).ok_or(NoNumber::Bad)
 }
 
 // The length of a line's text.
-fn text_in(l: Shape) -> usize
+fn text_in(l: Option<Shape>) -> usize
     ensures { result ≡ text_in l }
 {
     match l {
-        Shape::Named(_, k) => k,
-        Shape::Row => 0,
-        Shape::Bad => 0,
+        Some(Shape::Named(_, k)) => k,
+        Some(Shape::Row) | None => 0,
     }
 }
 

@@ -3,7 +3,7 @@
 
 ghost use Rattle.std.specs.Prelude.{◌≤◌, length};
 
-use sheet_access::{Cell, Letter};
+use sheet_access::NoNumber;
 use sheet_parts::LINE;
 use std::env::Env;
 use std::rt::Files;
@@ -35,18 +35,18 @@ fn put_place(rt: &impl Print, n: usize) {
     }
 }
 
-fn put_letter(rt: &impl Print, x: Letter) {
+fn put_letter(rt: &impl Print, x: Option<u8>) {
     match x {
-        Letter::Byte(b) => put(rt, &[b]),
-        Letter::Past => put(rt, b"past"),
+        Some(b) => put(rt, &[b]),
+        None => put(rt, b"past"),
     }
 }
 
-fn put_cell(rt: &impl Print, c: Cell) {
+fn put_cell(rt: &impl Print, c: Result<u32, NoNumber>) {
     match c {
-        Cell::Value(n) => put_number(rt, n),
-        Cell::Bad => put(rt, b"    bad"),
-        Cell::Past => put(rt, b"   past"),
+        Ok(n) => put_number(rt, n),
+        Err(NoNumber::Bad) => put(rt, b"    bad"),
+        Err(NoNumber::Past) => put(rt, b"   past"),
     }
 }
 

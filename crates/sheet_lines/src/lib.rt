@@ -7,19 +7,18 @@ ghost use Rattle.std.specs.Prelude.{◌≡◌, ◌≤◌, ◌<◌, length};
 ghost use Rattle.sheet.specs.Line as line;
 ghost use Rattle.sheet_lines.specs.Shape as shape;
 
-use number_columns::Number;
 use sheet_parts::{LAST, LINE, NUMBERS, TEXT, has_numbers};
 
-// What a line is: an N line with its number and the length of its text, a line of five numbers, or no line.
+// What a line is: an N line with its number and the length of its text, or a line of five numbers.
 #[derive(Clone, Copy)]
 pub enum Shape {
     Named(u32, usize),
     Row,
-    Bad,
 }
 
-// Number k of a line.
-pub fn cell(l: &[u8], k: usize) -> Number
+// Number k of a line, if its columns hold one.
+#[tactic(auto, unfolding(sheet::specs::Line::cell))]
+pub fn cell(l: &[u8], k: usize) -> Option<u32>
     requires { (32 ≤ length l.now) × (k < 5) }
     ensures { result ≡ line.cell 6 l.now k }
 {
@@ -27,6 +26,7 @@ pub fn cell(l: &[u8], k: usize) -> Number
 }
 
 // Whether the columns of number k of a line hold one.
+#[tactic(auto, unfolding(sheet::specs::Line::cell))]
 fn has_number(l: &[u8], k: usize) -> bool
     requires { (32 ≤ length l.now) × (k < 5) }
     ensures { result ≡ line.is_value (line.cell 6 l.now k) }
@@ -34,37 +34,32 @@ fn has_number(l: &[u8], k: usize) -> bool
     number_readers::is_number(sheet_parts::number_part(l, k))
 }
 
-fn named_shape(n: Number, k: usize) -> Shape
+// An N line with the number n and a text of k bytes. Both have to be there.
+fn named_shape(n: Option<u32>, k: usize) -> Option<Shape>
     ensures { result ≡ shape.named_shape n k }
 {
-    match n {
-        Number::Value(v) => {
-            if k == 0 {
-                return Shape::Bad;
-            }
-            Shape::Named(v, k)
-        }
-        Number::Bad => Shape::Bad,
+    let v = n?;
+    if k == 0 {
+        return None;
     }
+    Some(Shape::Named(v, k))
 }
 
 // A line of five numbers.
-fn read_row(l: &[u8]) -> Shape
+fn read_row(l: &[u8]) -> Option<Shape>
     requires { 32 ≤ length l.now }
     ensures { result ≡ shape.shape_of (line.decode_row 6 l.now) }
 {
-    let mut k = 0;
-    while k < NUMBERS {
+    for k in 0..NUMBERS {
         if !has_number(l, k) {
-            return Shape::Bad;
+            return None;
         }
-        k += 1;
     }
-    Shape::Row
+    Some(Shape::Row)
 }
 
 // An N line.
-fn read_named(l: &[u8]) -> Shape
+fn read_named(l: &[u8]) -> Option<Shape>
     requires { 32 ≤ length l.now }
     ensures { result ≡ shape.shape_of (line.decode_named 6 l.now) }
 {
@@ -72,15 +67,15 @@ fn read_named(l: &[u8]) -> Shape
     named_shape(cell(l, 0), n)
 }
 
-// The line at the front of any bytes: its letter decides what else it must hold.
-pub fn read_line(l: &[u8]) -> Shape
+// The line at the front of any bytes, if one stands there: its letter decides what else it must hold.
+pub fn read_line(l: &[u8]) -> Option<Shape>
     ensures { result ≡ shape.shape_of (line.decode 6 l.now) }
 {
     if l.len() < LINE {
-        return Shape::Bad;
+        return None;
     }
     if l[LAST] != 10 {
-        return Shape::Bad;
+        return None;
     }
     if l[0] == b'N' {
         return read_named(l);
@@ -88,5 +83,5 @@ pub fn read_line(l: &[u8]) -> Shape
     if has_numbers(l[0]) {
         return read_row(l);
     }
-    Shape::Bad
+    None
 }

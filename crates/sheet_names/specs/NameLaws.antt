@@ -1,29 +1,27 @@
 -- The spelling of a name is the text of its line, where the line has its number. For any width. Assumes nothing.
-use Rattle.std.specs.Prelude.{◌≡◌, refl, List, [], Bool, true, false, ℕ, eqb, ltb}
+use Rattle.std.specs.Prelude.{◌≡◌, refl, Result, Ok, Err, List, [], Bool, true, false, ℕ, eqb, ltb}
 use Rattle.std.proofs.Common.{ap, ltb-false}
 use Rattle.number_columns.specs.Column.{pick}
 use Rattle.sheet.specs.Line.{Line, decode, cell, text}
 use Rattle.sheet.specs.Sheet.{count, line_at, line, text_of, name_text}
 use Rattle.sheet.proofs.LineLaws.{Decoded, as_named, as_row, as_bad, decoded}
 use Rattle.sheet.proofs.SheetLaws.{line_past}
-use Rattle.sheet_access.specs.declared.Cell.{Cell}
-use Rattle.sheet_access.specs.declared.Cell.TheVariants.{Value, Bad, Past}
+use Rattle.sheet_access.specs.declared.NoNumber.{NoNumber}
+use Rattle.sheet_access.specs.declared.NoNumber.TheVariants.{Past}
 use Rattle.sheet_access.specs.Access.{cell_of, cell_at, text_at}
 
 -- the text t of a line with number c, where that is n
-abbrev pub spelled : ℕ → Cell → List ℕ → List ℕ
-spelled n (Value m) t = pick (eqb m n) t []
-spelled n Bad t = []
-spelled n Past t = []
+abbrev pub spelled : ℕ → Result ℕ NoNumber → List ℕ → List ℕ
+spelled n (Ok m) t = pick (eqb m n) t []
+spelled n (Err e) t = []
 
-spelled_none : (n : ℕ) (c : Cell) → [] ≡ spelled n c []
-spelled_none n (Value m) = go (eqb m n)
+spelled_none : (n : ℕ) (c : Result ℕ NoNumber) → [] ≡ spelled n c []
+spelled_none n (Ok m) = go (eqb m n)
   where
     go : (b : Bool) → ◌≡◌ {A = List ℕ} [] (pick b [] [])
     go true = refl
     go false = refl
-spelled_none n Bad = refl
-spelled_none n Past = refl
+spelled_none n (Err e) = refl
 
 spelled_line : (w n : ℕ) (b : List ℕ) → text_of n (decode w b) ≡ spelled n (cell_of (cell w b 0)) (text (decode w b))
 spelled_line w n b = go (decoded w b)
@@ -37,6 +35,6 @@ pub name_at : (w : ℕ) (b : List ℕ) (n : ℕ) → name_text w b n ≡ spelled
 unfolding name_text cell_at text_at line
 name_at w b n = go (ltb n (count w b)) refl
   where
-    go : (q : Bool) → ltb n (count w b) ≡ q → text_of n (line w b n) ≡ spelled n (pick q (cell_of (cell w (line_at w b n) 0)) Past) (text (line w b n))
+    go : (q : Bool) → ltb n (count w b) ≡ q → text_of n (line w b n) ≡ spelled n (pick q (cell_of (cell w (line_at w b n) 0)) (Err Past)) (text (line w b n))
     go true e = spelled_line w n (line_at w b n)
     go false e = ap (text_of n) (line_past w b n (ltb-false n (count w b) e))

@@ -1,15 +1,13 @@
 -- What is promised of decoding lines into cells. Assumes nothing.
-use Rattle.std.specs.Prelude.{◌≡◌, List, ◌++◌, Bool, true, not, ℕ, ◌*◌, set, drop}
-use Rattle.number_columns.specs.declared.Number.{Number}
-use Rattle.number_columns.specs.declared.Number.TheVariants.{Value, Bad}
+use Rattle.std.specs.Prelude.{◌≡◌, Option, Some, None, List, ◌++◌, Bool, true, not, ℕ, ◌*◌, set, drop}
 use Rattle.sheet.specs.Line.{Line, is_bad}
 use Rattle.sheet.specs.Sheet.{count, lines, row2}
 use Rattle.walk_cells.specs.Cells.{line_cells, cells}
 
 -- cell k set to the number, where there is one
-abbrev pub stored : Number → List ℕ → ℕ → List ℕ
-stored (Value n) c k = set c k n
-stored Bad c k = c
+abbrev pub stored : Option ℕ → List ℕ → ℕ → List ℕ
+stored (Some n) c k = set c k n
+stored None c k = c
 
 -- one line: whether it is one, and its cells then
 pub record Put (l : Line) (r : Bool) (c : List ℕ) : Type 0 where

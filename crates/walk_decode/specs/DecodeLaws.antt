@@ -2,16 +2,14 @@
 use Rattle.std.proofs.Math.Path.{◌≡◌, refl}
 use Rattle.std.proofs.Common.{ap, sym, ◌∙◌, arith, suc-mul, mul-suc, mul-le-mul_right, add-one, length-set, drop_of_length-le, get_or-set_same, get_or-set_other, leb-true, eqb-true}
 use mathlib.Core.List.{List, [], ◌∷◌, ◌++◌, map, append-nil}
-use Rattle.std.specs.Prelude.{Bool, ◌&&◌, eqb, leb, length, get_or, set, drop}
+use Rattle.std.specs.Prelude.{Option, Some, None, Bool, ◌&&◌, eqb, leb, length, get_or, set, drop, replicate}
 use Rattle.std.proofs.Math.Bool.{true, false, and-false}
 use Prim.Native.Nat.{ℕ, zero, suc, ◌+◌, ◌*◌, ◌-◌, ◌≤◌, ◌<◌}
 use Rattle.std.proofs.Math.Nat.{add-sub_cancel_left}
 use Rattle.std.proofs.Math.ListN.{take}
 use borrow.Rule.Slice.PartMut.{put_mid}
 use Rattle.std.proofs.lemmas.Bool.{eqb-false}
-use Rattle.number_columns.specs.declared.Number.{Number}
-use Rattle.number_columns.specs.declared.Number.TheVariants.{Value, Bad}
-use Rattle.number_columns.specs.Column.{pick}
+use Rattle.number_columns.specs.Column.{pick, read}
 use Rattle.sheet.specs.Format.{line_bytes, text_bytes}
 use Rattle.sheet.specs.Line.{Line, named, bad, proper, spelling, spaces, cell, is_value, value, decode_named, decode_row, is_bad}
 use Rattle.sheet.specs.Sheet.{count, line, line_at, lines, lines_from}
@@ -27,7 +25,7 @@ use Rattle.walk_decode.specs.Decode.{stored, Put}
 pub record Filled (w : ℕ) (l c : List ℕ) (k : ℕ) : Type 0 where
   pub six : length c ≡ 6
   pub begins : get_or c 0 0 ≡ get_or l 0 0
-  pub holds : (j : ℕ) → j < k → cell w l j ≡ Value (get_or c (1 + j) 0)
+  pub holds : (j : ℕ) → j < k → cell w l j ≡ Some (get_or c (1 + j) 0)
 
 -- the first two numbers: where both are such they stand in their cells, and else the line is bad
 pub record Begun (w : ℕ) (l : List ℕ) (r : Bool) (c : List ℕ) : Type 0 where
@@ -45,13 +43,13 @@ six_members (x ∷ a ∷ b ∷ c ∷ d ∷ []) h = absurd (omega arith)
 six_members (x ∷ a ∷ b ∷ c ∷ d ∷ e ∷ []) h = refl
 six_members (x ∷ a ∷ b ∷ c ∷ d ∷ e ∷ f ∷ t) h = absurd (omega arith)
 
-pub length_stored : (n : Number) (c : List ℕ) (k : ℕ) → length (stored n c k) ≡ length c
-length_stored (Value v) c k = length-set c k v
-length_stored Bad c k = refl
+pub length_stored : (n : Option ℕ) (c : List ℕ) (k : ℕ) → length (stored n c k) ≡ length c
+length_stored (Some v) c k = length-set c k v
+length_stored None c k = refl
 
-pub stored_value : (n : Number) (c : List ℕ) (k : ℕ) → k < length c → is_value n ≡ true → n ≡ Value (get_or (stored n c k) k 0)
-stored_value (Value v) c k h t = ap Value (sym (get_or-set_same c k v 0 h))
-stored_value Bad c k h t = let z : ◌≡◌ {A = ℕ} 0 1 = cc in absurd (omega arith)
+pub stored_value : (n : Option ℕ) (c : List ℕ) (k : ℕ) → k < length c → is_value n ≡ true → n ≡ Some (get_or (stored n c k) k 0)
+stored_value (Some v) c k h t = ap Some (sym (get_or-set_same c k v 0 h))
+stored_value None c k h t = let z : ◌≡◌ {A = ℕ} 0 1 = cc in absurd (omega arith)
 
 pub put_bad : (l : Line) (c : List ℕ) → l ≡ bad → Put l false c
 put_bad l c e = rw e (record { told = refl; holds = λ e. let z : ◌≡◌ {A = ℕ} 0 1 = cc in absurd (omega arith) })
@@ -67,6 +65,28 @@ named_set (x ∷ a ∷ b ∷ c ∷ d ∷ []) h = absurd (omega arith)
 named_set (x ∷ a ∷ b ∷ c ∷ d ∷ e ∷ []) h = refl
 named_set (x ∷ a ∷ b ∷ c ∷ d ∷ e ∷ f ∷ t) h = absurd (omega arith)
 
+-- the same by two stores and zeros behind them
+pub named_filled : (c q : List ℕ) (x n : ℕ) → length c ≡ 6 → x ≡ 78
+    → q ≡ replicate (length (take (length (set (set c 0 x) 1 n) - 2) (drop 2 (set (set c 0 x) 1 n)))) 0
+    → put_mid 2 (length (set (set c 0 x) 1 n) - 2) (set (set c 0 x) 1 n) q ≡ 78 ∷ n ∷ 0 ∷ 0 ∷ 0 ∷ 0 ∷ []
+named_filled [] q x n h p r = absurd (omega arith)
+named_filled (y ∷ []) q x n h p r = absurd (omega arith)
+named_filled (y ∷ a ∷ []) q x n h p r = absurd (omega arith)
+named_filled (y ∷ a ∷ b ∷ []) q x n h p r = absurd (omega arith)
+named_filled (y ∷ a ∷ b ∷ c ∷ []) q x n h p r = absurd (omega arith)
+named_filled (y ∷ a ∷ b ∷ c ∷ d ∷ []) q x n h p r = absurd (omega arith)
+named_filled (y ∷ a ∷ b ∷ c ∷ d ∷ e ∷ []) q x n h p r = rw (p, r)
+named_filled (y ∷ a ∷ b ∷ c ∷ d ∷ e ∷ f ∷ t) q x n h p r = absurd (omega arith)
+
+-- the columns of the first number and of number k
+pub cell_first : (w : ℕ) (l : List ℕ) → read (take (1 + w - 1) (drop 1 l)) ≡ cell w l 0
+unfolding cell
+cell_first w l = let e : 1 + 0 * w ≡ 1 = omega arith in rw (add-sub_cancel_left, e)
+
+pub cell_part : (w : ℕ) (l : List ℕ) (k : ℕ) → read (take (1 + k * w + w - (1 + k * w)) (drop (1 + k * w) l)) ≡ cell w l k
+unfolding cell
+cell_part w l k = rw add-sub_cancel_left
+
 -- number k of five lies within the line
 pub within : (w k : ℕ) → k < 5 → 1 + k * w + w ≤ 5 * w + 1
 within w k h = omega (arith, suc-mul k w, mul-le-mul_right w h)
@@ -76,20 +96,20 @@ filled_begin w l c h = record { six = length-set c 0 (get_or l 0 0) ∙ h; begin
 
 module _ (w : ℕ) (l c : List ℕ) where
   -- one number more
-  pub filled_more : (k : ℕ) (n : Number) → k < 5 → Filled w l c k → n ≡ cell w l k → is_value n ≡ true → Filled w l (stored n c (1 + k)) (k + 1)
-  filled_more k (Value v) h f e t =
+  pub filled_more : (k : ℕ) (n : Option ℕ) → k < 5 → Filled w l c k → n ≡ cell w l k → is_value n ≡ true → Filled w l (stored n c (1 + k)) (k + 1)
+  filled_more k (Some v) h f e t =
       record {
         six = length-set c (1 + k) v ∙ f.six;
         begins = get_or-set_other c (1 + k) 0 v 0 (λ q. omega arith) ∙ f.begins;
         holds = λ j q. go j (eqb j k) refl q;
       }
     where
-      go : (j : ℕ) (s : Bool) → eqb j k ≡ s → j < k + 1 → cell w l j ≡ Value (get_or (set c (1 + k) v) (1 + j) 0)
+      go : (j : ℕ) (s : Bool) → eqb j k ≡ s → j < k + 1 → cell w l j ≡ Some (get_or (set c (1 + k) v) (1 + j) 0)
       go j true q r = rw (eqb-true j k q, get_or-set_same c (1 + k) v 0 (omega (arith, f.six))) (sym e)
       go j false q r =
           let d : j < k = omega (arith, eqb-false j k q) in
-          f.holds j d ∙ ap Value (sym (get_or-set_other c (1 + k) (1 + j) v 0 (λ z. omega arith)))
-  filled_more k Bad h f e t = let z : ◌≡◌ {A = ℕ} 0 1 = cc in absurd (omega arith)
+          f.holds j d ∙ ap Some (sym (get_or-set_other c (1 + k) (1 + j) v 0 (λ z. omega arith)))
+  filled_more k None h f e t = let z : ◌≡◌ {A = ℕ} 0 1 = cc in absurd (omega arith)
 
   -- all five
   pub filled_row : Filled w l c 5 → Put (decode_row w l) true c
@@ -124,7 +144,7 @@ module _ (w : ℕ) (l c : List ℕ) where
   none_begun r e b = record { told = b.none e; holds = λ e. let z : ◌≡◌ {A = ℕ} 0 1 = cc in absurd (omega arith) }
 
   -- ---- a name
-  pub named_put : (n : ℕ) → cell w l 0 ≡ Value n → 0 < text_length (take (text_bytes w) (drop (1 + w) l)) → c ≡ 78 ∷ n ∷ 0 ∷ 0 ∷ 0 ∷ 0 ∷ [] → Put (decode_named w l) true c
+  pub named_put : (n : ℕ) → cell w l 0 ≡ Some n → 0 < text_length (take (text_bytes w) (drop (1 + w) l)) → c ≡ 78 ∷ n ∷ 0 ∷ 0 ∷ 0 ∷ 0 ∷ [] → Put (decode_named w l) true c
   unfolding decode_named text_length
   named_put n e h q = rw e (go (proper (take (text_bytes w) (drop (1 + w) l))) h)
     where

@@ -1,5 +1,5 @@
 -- A number of three digits at most, by its last columns. Assumes nothing.
-use Rattle.std.specs.Prelude.{◌≡◌, Bool, ◌&&◌, leb, take}
+use Rattle.std.specs.Prelude.{◌≡◌, Some, None, Bool, ◌&&◌, leb, take}
 use Rattle.std.proofs.Math.Path.{refl, ap}
 use Rattle.std.proofs.Common.{◌∙◌, add-one, length-drop, take_all}
 use mathlib.Core.List.{List, [], ◌∷◌}
@@ -12,7 +12,6 @@ use Rattle.std.proofs.Math.Seq.{drop-cons}
 use borrow.Author.Tests.{eq-eqb, ne_eqb, le-leb, eqb-true, eqb-false, leb-true}
 use Rattle.number_columns.specs.declared.Scan.{Scan}
 use Rattle.number_columns.specs.declared.Scan.TheVariants.{Blank, Zero, In, Broken}
-use Rattle.number_columns.specs.declared.Number.TheVariants.{Value, Bad}
 use Rattle.number_columns.specs.Column.{pick, digit, step, scan, told, read}
 use Rattle.sheet.proofs.ListLaws.{both}
 
@@ -29,15 +28,15 @@ no_digit d h = go (leb 48 d) (leb d 57) refl refl
     go false b e f = refl
 
 -- what is no digit ends no number
-last_bad : (a : Scan) (d : ℕ) → (48 ≤ d → d ≤ 57 → ⊥) → told (step a d) ≡ Bad
+last_bad : (a : Scan) (d : ℕ) → (48 ≤ d → d ≤ 57 → ⊥) → told (step a d) ≡ None
 unfolding step
 last_bad Blank d h = go (eqb d 32) refl
   where
-    zero_not : (c : Bool) → eqb d 48 ≡ c → told (pick c Zero (pick (digit d) (In (d - 48)) Broken)) ≡ Bad
+    zero_not : (c : Bool) → eqb d 48 ≡ c → told (pick c Zero (pick (digit d) (In (d - 48)) Broken)) ≡ None
     zero_not true e = let k : d ≡ 48 = eqb-true d 48 e in absurd (h (omega arith) (omega arith))
     zero_not false e = rw (no_digit d h)
 
-    go : (c : Bool) → eqb d 32 ≡ c → told (pick c Blank (pick (eqb d 48) Zero (pick (digit d) (In (d - 48)) Broken))) ≡ Bad
+    go : (c : Bool) → eqb d 32 ≡ c → told (pick c Blank (pick (eqb d 48) Zero (pick (digit d) (In (d - 48)) Broken))) ≡ None
     go true e = refl
     go false e = zero_not (eqb d 48) refl
 last_bad Zero d h = refl
@@ -45,44 +44,44 @@ last_bad (In v) d h = rw (no_digit d h)
 last_bad Broken d h = refl
 
 module _ (a b : ℕ) where
-  pub pair_last : (48 ≤ b → b ≤ 57 → ⊥) → read (a ∷ b ∷ []) ≡ Bad
+  pub pair_last : (48 ≤ b → b ≤ 57 → ⊥) → read (a ∷ b ∷ []) ≡ None
   unfolding read scan
   pair_last h = last_bad (step Blank a) b h
 
-  pub pair_one : a ≡ 32 → 48 ≤ b → b ≤ 57 → read (a ∷ b ∷ []) ≡ Value (b - 48)
+  pub pair_one : a ≡ 32 → 48 ≤ b → b ≤ 57 → read (a ∷ b ∷ []) ≡ Some (b - 48)
   unfolding read scan step
   pair_one e h k = rw (eq-eqb a 32 e, ne_eqb b 32 (λ q. omega arith), is_digit b h k) (go (eqb b 48) refl)
     where
-      go : (c : Bool) → eqb b 48 ≡ c → told (pick c Zero (In (b - 48))) ≡ Value (b - 48)
-      go true q = ap Value (omega (arith, eqb-true b 48 q))
+      go : (c : Bool) → eqb b 48 ≡ c → told (pick c Zero (In (b - 48))) ≡ Some (b - 48)
+      go true q = ap Some (omega (arith, eqb-true b 48 q))
       go false q = refl
 
-  pub pair_two : 49 ≤ a → a ≤ 57 → 48 ≤ b → b ≤ 57 → read (a ∷ b ∷ []) ≡ Value ((a - 48) * 10 + (b - 48))
+  pub pair_two : 49 ≤ a → a ≤ 57 → 48 ≤ b → b ≤ 57 → read (a ∷ b ∷ []) ≡ Some ((a - 48) * 10 + (b - 48))
   unfolding read scan step
   pair_two h k m n = rw (ne_eqb a 32 (λ q. omega arith), ne_eqb a 48 (λ q. omega arith), is_digit a (omega arith) k, is_digit b m n)
 
-  pub pair_first : (a ≡ 32 → ⊥) → (49 ≤ a → a ≤ 57 → ⊥) → read (a ∷ b ∷ []) ≡ Bad
+  pub pair_first : (a ≡ 32 → ⊥) → (49 ≤ a → a ≤ 57 → ⊥) → read (a ∷ b ∷ []) ≡ None
   unfolding read scan step
   pair_first h k = rw (ne_eqb a 32 h) (go (eqb a 48) refl)
     where
-      go : (c : Bool) → eqb a 48 ≡ c → told (step (pick c Zero (pick (digit a) (In (a - 48)) Broken)) b) ≡ Bad
+      go : (c : Bool) → eqb a 48 ≡ c → told (step (pick c Zero (pick (digit a) (In (a - 48)) Broken)) b) ≡ None
       go true e = refl
       go false e = let n : a ≡ 48 → ⊥ = eqb-false a 48 e in rw (no_digit a (λ p q. k (omega arith) q))
 
   -- a space counts as 0
-  pub pair_space : a ≡ 32 → 48 ≤ b → b ≤ 57 → read (a ∷ b ∷ []) ≡ Value (a % 16 * 10 + (b - 48))
-  pair_space e h k = pair_one e h k ∙ ap Value (omega arith)
+  pub pair_space : a ≡ 32 → 48 ≤ b → b ≤ 57 → read (a ∷ b ∷ []) ≡ Some (a % 16 * 10 + (b - 48))
+  pair_space e h k = pair_one e h k ∙ ap Some (omega arith)
 
-  pub pair_digit : 49 ≤ a → a ≤ 57 → 48 ≤ b → b ≤ 57 → read (a ∷ b ∷ []) ≡ Value (a % 16 * 10 + (b - 48))
-  pair_digit h k m n = pair_two h k m n ∙ ap Value (omega arith)
+  pub pair_digit : 49 ≤ a → a ≤ 57 → 48 ≤ b → b ≤ 57 → read (a ∷ b ∷ []) ≡ Some (a % 16 * 10 + (b - 48))
+  pair_digit h k m n = pair_two h k m n ∙ ap Some (omega arith)
 
 -- ---- three columns
 module _ (a b c : ℕ) where
-  pub three_digits : 49 ≤ a → a ≤ 57 → 48 ≤ b → b ≤ 57 → 48 ≤ c → c ≤ 57 → read (a ∷ b ∷ c ∷ []) ≡ Value ((a - 48) * 100 + (b - 48) * 10 + (c - 48))
+  pub three_digits : 49 ≤ a → a ≤ 57 → 48 ≤ b → b ≤ 57 → 48 ≤ c → c ≤ 57 → read (a ∷ b ∷ c ∷ []) ≡ Some ((a - 48) * 100 + (b - 48) * 10 + (c - 48))
   unfolding read scan step
   three_digits h k m n p q =
       rw (ne_eqb a 32 (λ e. omega arith), ne_eqb a 48 (λ e. omega arith), is_digit a (omega arith) k, is_digit b m n, is_digit c p q)
-      (ap Value (omega arith))
+      (ap Some (omega arith))
 
 -- ---- spaces before them
 pub scan_blank : (s : List ℕ) (k : ℕ) → k ≤ length s → ((j : ℕ) → j < k → get_or s j 0 ≡ 32) → scan Blank (drop k s) ≡ scan Blank s
@@ -206,15 +205,15 @@ module _ (s : List ℕ) (i : ℕ) (f : Front s i) where
   behind_front : scan Blank (drop i s) ≡ scan Blank s
   behind_front = scan_blank s i f.end f.blank
 
-  pub front_all : i ≡ length s → read s ≡ Bad
+  pub front_all : i ≡ length s → read s ≡ None
   unfolding read scan
   front_all e = rw (← behind_front, drop_of_length-le s {i = i} (omega arith))
 
-  pub front_zero : i + 1 ≡ length s → get_or s i 0 ≡ 48 → read s ≡ Value 0
+  pub front_zero : i + 1 ≡ length s → get_or s i 0 ≡ 48 → read s ≡ Some 0
   unfolding read scan step
   front_zero e z = rw (← behind_front, drop-cons s i 0 (omega arith), z, drop_of_length-le s {i = suc i} (omega arith))
 
-  pub front_zeros : i < length s → (i + 1 ≡ length s → ⊥) → get_or s i 0 ≡ 48 → read s ≡ Bad
+  pub front_zeros : i < length s → (i + 1 ≡ length s → ⊥) → get_or s i 0 ≡ 48 → read s ≡ None
   unfolding read scan step
   front_zeros h e z =
       let k : suc i < length s = omega arith in
@@ -230,9 +229,9 @@ module _ (s : List ℕ) (i v : ℕ) (h : i < length s) where
   pub digit_more : 48 ≤ get_or s i 0 → get_or s i 0 ≤ 57 → scan (In v) (drop i s) ≡ scan (In (v * 10 + (get_or s i 0 - 48))) (drop (i + 1) s)
   digit_more a b = rw (add-one, drop-cons s i 0 h, scan_cons, step_digit v (get_or s i 0) a b)
 
-  pub digit_none : (48 ≤ get_or s i 0 → get_or s i 0 ≤ 57 → ⊥) → told (scan (In v) (drop i s)) ≡ Bad
+  pub digit_none : (48 ≤ get_or s i 0 → get_or s i 0 ≤ 57 → ⊥) → told (scan (In v) (drop i s)) ≡ None
   digit_none n = rw (drop-cons s i 0 h, scan_cons, step_none v (get_or s i 0) n, scan_broken)
 
-pub digits_end : (s : List ℕ) (i v : ℕ) → length s ≤ i → told (scan (In v) (drop i s)) ≡ Value v
+pub digits_end : (s : List ℕ) (i v : ℕ) → length s ≤ i → told (scan (In v) (drop i s)) ≡ Some v
 unfolding scan
 digits_end s i v h = rw (drop_of_length-le s {i = i} h)

@@ -11,36 +11,19 @@ ghost use Rattle.sheet.specs.Sheet as sheet;
 ghost use Rattle.walk_decode.specs.Decode as decode;
 ghost use Rattle.walk_decode.specs.DecodeLaws.{Begun};
 
-use number_columns::Number;
 use sheet_parts::{NUMBERS, has_numbers};
 use walk_cells::CELLS;
 
-// Puts the number in some columns into cell k, where they hold one. It has one caller, so that it is compiled into its loop.
-fn put_number(s: &[u8], c: &mut [u32], k: usize) -> bool
-    requires { (6 ≤ length s.now) × (length s.now < 10) × (k < length c.old) }
-    ensures { (result ≡ col.is_value (col.read s.now)) × (c.new ≡ decode.stored (col.read s.now) c.old k) }
+// Puts a number into cell k, where there is one. It is compiled into the loops that call it.
+fn put(n: Option<u32>, c: &mut [u32], k: usize) -> bool
+    requires { k < length c.old }
+    ensures { (result ≡ col.is_value n) × (c.new ≡ decode.stored n c.old k) }
 {
-    match numbers::number(s) {
-        Number::Value(v) => {
-            c[k] = v;
-            true
-        }
-        Number::Bad => false,
-    }
-}
-
-// The same for a number whose digits can be foreseen: nearly always one, or as many as in the line before.
-fn put_short(s: &[u8], c: &mut [u32], k: usize) -> bool
-    requires { (6 ≤ length s.now) × (length s.now < 10) × (k < length c.old) }
-    ensures { (result ≡ col.is_value (col.read s.now)) × (c.new ≡ decode.stored (col.read s.now) c.old k) }
-{
-    match numbers::short_number(s) {
-        Number::Value(v) => {
-            c[k] = v;
-            true
-        }
-        Number::Bad => false,
-    }
+    let Some(v) = n else {
+        return false;
+    };
+    c[k] = v;
+    true
 }
 
 // The letter and the first two numbers of a line, which have one digit, two or three.
@@ -48,16 +31,12 @@ fn put_front(l: &[u8], w: usize, c: &mut [u32]) -> bool
     requires { (length l.now ≡ line_bytes w) × (6 ≤ w) × (w < 10) × (length c.old ≡ 6) }
     ensures { Begun w l.now result c.new }
 {
-    c[0] = l[0] as u32;
-    let mut at = 1;
-    let mut k = 0;
-    while k < 2 {
-        let end = at + w;
-        if !put_number(&l[at..end], c, 1 + k) {
+    c[0] = u32::from(l[0]);
+    for k in 0..2 {
+        let at = 1 + k * w;
+        if !put(numbers::number(&l[at..at + w]), c, 1 + k) {
             return false;
         }
-        at = end;
-        k += 1;
     }
     true
 }
@@ -70,29 +49,13 @@ fn put_row(l: &[u8], w: usize, c: &mut [u32]) -> bool
     if !put_front(l, w, c) {
         return false;
     }
-    let mut at = 1 + 2 * w;
-    let mut k = 2;
-    while k < NUMBERS {
-        let end = at + w;
-        if !put_short(&l[at..end], c, 1 + k) {
+    for k in 2..NUMBERS {
+        let at = 1 + k * w;
+        if !put(numbers::short_number(&l[at..at + w]), c, 1 + k) {
             return false;
         }
-        at = end;
-        k += 1;
     }
     true
-}
-
-// The cells of an N line around its number.
-fn put_name(c: &mut [u32])
-    requires { length c.old ≡ 6 }
-    ensures { c.new ≡ 78 ∷ get_or c.old 1 0 ∷ 0 ∷ 0 ∷ 0 ∷ 0 ∷ [] }
-{
-    c[0] = 78;
-    c[2] = 0;
-    c[3] = 0;
-    c[4] = 0;
-    c[5] = 0;
 }
 
 // An N line: the number of the name, and a text.
@@ -102,13 +65,15 @@ fn put_named(l: &[u8], w: usize, c: &mut [u32]) -> bool
 {
     let text = 1 + w;
     let end = 5 * w + 1;
-    if !put_short(&l[1..text], c, 1) {
+    let Some(n) = numbers::short_number(&l[1..text]) else {
         return false;
-    }
+    };
     if sheet_lines::texts::text_length(&l[text..end]) == 0 {
         return false;
     }
-    put_name(c);
+    c[0] = u32::from(b'N');
+    c[1] = n;
+    c[2..].fill(0);
     true
 }
 
@@ -136,17 +101,12 @@ pub fn decode_lines(s: &[u8], w: usize, t: &mut [u32]) -> usize
 {
     let bytes = 5 * w + 2;
     let n = s.len() / bytes;
-    let mut at = 0;
-    let mut i = 0;
-    while i < n {
-        let end = at + bytes;
+    for i in 0..n {
+        let at = i * bytes;
         let first = i * CELLS;
-        let last = first + CELLS;
-        if !put_line(&s[at..end], w, &mut t[first..last]) {
+        if !put_line(&s[at..at + bytes], w, &mut t[first..first + CELLS]) {
             return i;
         }
-        at = end;
-        i += 1;
     }
     n
 }

@@ -1,6 +1,6 @@
 -- `sheet_lines::read_line` meets its contract: the last byte and the letter lead to the case of `decode` that they pick.
 -- Assumes nothing.
-use mathlib.Core.Path.{◌≡◌, ◌∙◌, ap, sym}
+use mathlib.Core.Path.{◌∙◌, ap, sym}
 use borrow.Author.Rules.{rules}
 use Rattle.sheet_lines.specs.Shape.{shape_of}
 use Rattle.sheet.proofs.LineLaws.{decode_short}
