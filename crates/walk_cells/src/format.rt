@@ -9,11 +9,9 @@ use sheet_parts::LINE;
 const LINES: usize = 2048;
 
 // Row 1: too many bytes, or not whole lines.
+#[tactic(auto, unfolding(sheet::specs::Sheet::row1))]
 pub fn row1(s: &[u8]) -> bool
     ensures { result ≡ sheet.row1 base s.now }
 {
-    if s.len() > LINE * LINES {
-        return true;
-    }
-    s.len() % LINE != 0
+    s.len() > LINE * LINES || s.len() % LINE != 0
 }

@@ -11,6 +11,7 @@ ghost use Rattle.walk_cells.specs.Cells as cells;
 pub const CELLS: usize = 6;
 
 // The letter of line i.
+#[tactic(auto, using(crate::specs::CellsLaws::letter_cell))]
 pub fn letter(t: &[u32], i: usize) -> u32
     requires { i < length t.now / 6 }
     ensures { result ≡ line.letter (get_or (cells.lines_of t.now) i line.bad) }
@@ -19,6 +20,7 @@ pub fn letter(t: &[u32], i: usize) -> u32
 }
 
 // Number k of line i.
+#[tactic(auto, using(crate::specs::CellsLaws::number_cell))]
 pub fn number(t: &[u32], i: usize, k: usize) -> u32
     requires { (i < length t.now / 6) × (k < 5) }
     ensures { result ≡ line.number (get_or (cells.lines_of t.now) i line.bad) k }
