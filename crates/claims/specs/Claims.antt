@@ -7,7 +7,7 @@
 -- and the left sheet. f is the format; `base` is the one of FORMAT, and `Ample f` says that its limits do
 -- not outgrow its columns and the fuel, which `base_ample` of `FormatLaws` shows of it.
 -- Assumes nothing.
-use Rattle.std.specs.Prelude.{◌↔◌, ◌⊎◌, ◌≡◌, refl, Bool, true, false, not, ◌+◌, ◌*◌, ◌^◌, ◌-◌, ℕ, suc, ◌≤◌, ◌<◌, T, eqb, length, get_or, take, drop}
+use Rattle.std.specs.Prelude.{Some, ◌↔◌, ◌⊎◌, ◌≡◌, refl, Bool, true, false, not, ◌+◌, ◌*◌, ◌^◌, ◌-◌, ℕ, suc, ◌≤◌, ◌<◌, T, eqb, length, get_or, take, drop}
 use Rattle.std.proofs.Common.{⊎_elim, sym, ◌∙◌, ap, subst, arith, get_or-append-add, eqb-true, ne_eqb}
 use mathlib.Core.List.Memᴰ
 use mathlib.Core.List.{List, [], ◌∷◌, ◌++◌, map, append-nil, append_assoc, Memᴰ}
@@ -57,7 +57,6 @@ use Rattle.model_patterns.proofs.Laws.Accounted as accounted
 use Rattle.model_patterns.proofs.Laws.Fields as fields
 use Rattle.meaning.specs.Program.{name_line, type_line, ctor_line, is, trees, program}
 use Rattle.meaning.specs.declared.Iwidth.{Iwidth}
-use Rattle.meaning.specs.declared.Width.TheVariants.{Known}
 use Rattle.meaning.specs.Rows.{nth_line, count_of, heads_before, width_number, iwidth_of, is_width, head_of, ctors_after}
 use Rattle.meaning.specs.Output.{verdict_lines, verdict_line_of, left_lines}
 use Rattle.meaning_laws.specs.Verdict.{verdict_line_at}
@@ -643,10 +642,10 @@ reach_transitive n words ds s x i j k h l m o a b =
 
 -- ---- the widths of integer types
 -- WIDTH READ, WIDTH NUMBER OF. The number of a width stands for that width, and a number that stands for a width is that width's.
-pub width_read : (w : Iwidth) → iwidth_of (width_number w) ≡ Known w
+pub width_read : (w : Iwidth) → iwidth_of (width_number w) ≡ Some w
 width_read = widths.width_read
 
-pub width_number_of : (n : ℕ) (w : Iwidth) → iwidth_of n ≡ Known w → n ≡ width_number w
+pub width_number_of : (n : ℕ) (w : Iwidth) → iwidth_of n ≡ Some w → n ≡ width_number w
 width_number_of = widths.width_number_of
 
 -- WIDTHS APART. No two widths have one number.
@@ -654,7 +653,7 @@ pub widths_apart : (v w : Iwidth) → width_number v ≡ width_number w → v �
 widths_apart = widths.widths_apart
 
 -- WIDTH TAKEN, SIX. Row 5 takes a number for a width exactly if it stands for one, and exactly if it is one of the six of FORMAT.
-pub width_taken : (n : ℕ) → (is_width n ≡ true) ↔ ((w : Iwidth) × (iwidth_of n ≡ Known w))
+pub width_taken : (n : ℕ) → (is_width n ≡ true) ↔ ((w : Iwidth) × (iwidth_of n ≡ Some w))
 width_taken = widths.width_taken
 
 pub six : (n : ℕ) → (is_width n ≡ true) ↔ Memᴰ n (8 ∷ 16 ∷ 32 ∷ 64 ∷ 128 ∷ 1 ∷ [])

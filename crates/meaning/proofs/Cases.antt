@@ -1,6 +1,6 @@
 -- The tests of a sheet's meaning: a few lines each, written as data, and the program that they declare,
 -- the place that each of rows 3 to 7 gives, and the lines that are written. Assumes nothing.
-use Rattle.std.specs.Prelude.{refl, List, [], ◌∷◌, ◌++◌, map, Bool, true, false, ℕ, suc, ◌+◌, eqb, length}
+use Rattle.std.specs.Prelude.{refl, Option, Some, None, List, [], ◌∷◌, ◌++◌, map, Bool, true, false, ℕ, suc, ◌+◌, eqb, length}
 use Rattle.number_columns.specs.Column.{step, scan, read}
 use Rattle.sheet.specs.Format.{Format}
 use Rattle.sheet.specs.Line.{Line, bad, named, row, cell}
@@ -10,9 +10,8 @@ use Rattle.model.specs.Decl.{TAbstract, TAbbrev, TRecord, TVariant, Dtype, ctors
 use Rattle.model.specs.Erasure.{cty_erased}
 use Rattle.model.specs.Layout.{kept, ctor_layout, first_kept, newtype_of_ctor, newtype_of, collapse}
 use Rattle.model.proofs.Cases.{Case, ◌gives◌, Passed, list, app, tuple, field, ctor, decl, import, laid, tagged, newt, verdict}
+use Rattle.meaning.specs.declared.Iwidth.{Iwidth}
 use Rattle.meaning.specs.declared.Iwidth.TheVariants.{W8, W16, W32, W64, W128, WSizet}
-use Rattle.meaning.specs.declared.Width.{Width}
-use Rattle.meaning.specs.declared.Width.TheVariants.{Known, Unknown}
 use Rattle.meaning.specs.Program.{select, before, groups, list_of, tree, trees_after, trees, field_of, ctor_of, body_of, dtype_of, keeps, keeps_of, ctor_layouts_by, layout_by, info_of, decl_of, program}
 use Rattle.meaning.specs.Rows.{raw, raws, announced, due_header, due, due_after, row3, params_after, row4, zeros_from, width_number, iwidth_of, is_width, is_list, good_type, good_head, good_numbers, row5, equal, repeats, row6, last_head, kept_after, ctors_after, good_verdict, good_verdicts, row7}
 use Rattle.meaning.specs.Output.{fill_third, fill_verdict, all_slots, fill, fill_all, verdict_lines, verdict_line_of, put, emit, field_lines, ctor_lines, decl_frame, decl_lines, program_lines, left_lines}
@@ -310,11 +309,11 @@ unfolding row4_cases
 limits_tested = refl
 
 -- a width by its number: the widths in the order of the source's `iwidth`, and the numbers beside theirs
-unfoldable pub width_cases : List (Case (List Width))
+unfoldable pub width_cases : List (Case (List (Option Iwidth)))
 unfolding iwidth_of
 width_cases =
-    map iwidth_of (8 ∷ 16 ∷ 32 ∷ 64 ∷ 128 ∷ 1 ∷ []) gives (Known W8 ∷ Known W16 ∷ Known W32 ∷ Known W64 ∷ Known W128 ∷ Known WSizet ∷ [])
-    ∷ map iwidth_of (0 ∷ 2 ∷ 7 ∷ 63 ∷ 127 ∷ 129 ∷ 256 ∷ []) gives (Unknown ∷ Unknown ∷ Unknown ∷ Unknown ∷ Unknown ∷ Unknown ∷ Unknown ∷ [])
+    map iwidth_of (8 ∷ 16 ∷ 32 ∷ 64 ∷ 128 ∷ 1 ∷ []) gives (Some W8 ∷ Some W16 ∷ Some W32 ∷ Some W64 ∷ Some W128 ∷ Some WSizet ∷ [])
+    ∷ map iwidth_of (0 ∷ 2 ∷ 7 ∷ 63 ∷ 127 ∷ 129 ∷ 256 ∷ []) gives (None ∷ None ∷ None ∷ None ∷ None ∷ None ∷ None ∷ [])
     ∷ []
 
 pub widths_tested : Passed width_cases

@@ -1,6 +1,6 @@
 -- Rows 3 to 7 (FORMAT, section 5), each a test on the lines of a sheet: a row's place is the first
 -- line at which its test holds. Assumes nothing.
-use Rattle.std.specs.Prelude.{List, [], ◌∷◌, map, Bool, true, false, ◌&&◌, ◌||◌, not, ℕ, zero, suc, ◌+◌, ◌-◌, eqb, leb, ltb, length, get_or, take}
+use Rattle.std.specs.Prelude.{Option, Some, None, List, [], ◌∷◌, map, Bool, true, false, ◌&&◌, ◌||◌, not, ℕ, zero, suc, ◌+◌, ◌-◌, eqb, leb, ltb, length, get_or, take}
 use Rattle.number_columns.specs.Column.{pick, ◌⇒◌∥◌}
 use Rattle.sheet.specs.Format.{Format}
 use Rattle.sheet.specs.Line.{Line, row, bad, cell, value, number, text}
@@ -11,8 +11,6 @@ use Rattle.meaning.specs.declared.Due.{Due}
 use Rattle.meaning.specs.declared.Due.TheVariants.{Header, Within, Broken}
 use Rattle.meaning.specs.declared.Iwidth.{Iwidth}
 use Rattle.meaning.specs.declared.Iwidth.TheVariants.{W8, W16, W32, W64, W128, WSizet}
-use Rattle.meaning.specs.declared.Width.{Width}
-use Rattle.meaning.specs.declared.Width.TheVariants.{Known, Unknown}
 use Rattle.meaning.specs.Program.{
   name_line,
   arg_line,
@@ -135,15 +133,15 @@ width_number W128 = 128
 width_number WSizet = 1
 
 -- and the width of each number
-unfoldable pub iwidth_of : ℕ → Width
+unfoldable pub iwidth_of : ℕ → Option Iwidth
 iwidth_of n =
-    eqb n 8 ⇒ Known W8 ∥
-    eqb n 16 ⇒ Known W16 ∥
-    eqb n 32 ⇒ Known W32 ∥
-    eqb n 64 ⇒ Known W64 ∥
-    eqb n 128 ⇒ Known W128 ∥
-    eqb n 1 ⇒ Known WSizet ∥
-    Unknown
+    eqb n 8 ⇒ Some W8 ∥
+    eqb n 16 ⇒ Some W16 ∥
+    eqb n 32 ⇒ Some W32 ∥
+    eqb n 64 ⇒ Some W64 ∥
+    eqb n 128 ⇒ Some W128 ∥
+    eqb n 1 ⇒ Some WSizet ∥
+    None
 
 -- row 5's test of a width: one of these six
 unfoldable pub is_width : ℕ → Bool

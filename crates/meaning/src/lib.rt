@@ -25,10 +25,3 @@ pub enum Iwidth {
     W128,
     WSizet,
 }
-
-// The width that a number stands for, if there is one.
-#[derive(Clone, Copy)]
-pub enum Width {
-    Known(Iwidth),
-    Unknown,
-}

@@ -4,20 +4,21 @@
 ghost use Rattle.std.specs.Prelude.{◌≡◌};
 ghost use Rattle.meaning.specs.Rows as rows;
 
-use meaning::{Iwidth, Width};
+use meaning::Iwidth;
 
 // The width that a number stands for: the cases of the source's `iwidth`, in its order.
-pub fn iwidth_of(n: usize) -> Width
+#[tactic(auto, unfolding(meaning::specs::Rows::iwidth_of))]
+pub fn iwidth_of(n: usize) -> Option<Iwidth>
     ensures { result ≡ rows.iwidth_of n }
 {
     match n {
-        8 => Width::Known(Iwidth::W8),
-        16 => Width::Known(Iwidth::W16),
-        32 => Width::Known(Iwidth::W32),
-        64 => Width::Known(Iwidth::W64),
-        128 => Width::Known(Iwidth::W128),
-        1 => Width::Known(Iwidth::WSizet),
-        _ => Width::Unknown,
+        8 => Some(Iwidth::W8),
+        16 => Some(Iwidth::W16),
+        32 => Some(Iwidth::W32),
+        64 => Some(Iwidth::W64),
+        128 => Some(Iwidth::W128),
+        1 => Some(Iwidth::WSizet),
+        _ => None,
     }
 }
 
@@ -25,9 +26,5 @@ pub fn iwidth_of(n: usize) -> Width
 pub fn is_width(n: usize) -> bool
     ensures { result ≡ rows.is_width n }
 {
-    let width = iwidth_of(n);
-    match width {
-        Width::Known(_) => true,
-        Width::Unknown => false,
-    }
+    iwidth_of(n).is_some()
 }
