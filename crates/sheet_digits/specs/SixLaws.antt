@@ -1,5 +1,5 @@
 -- Numbers of one and of two digits in six columns. Assumes nothing.
-use Rattle.std.specs.Prelude.{◌≡◌, refl, List, [], ◌∷◌, ℕ, ◌+◌, ◌/◌, ◌%◌, ◌<◌, ◌≤◌, eqb, length, set}
+use Rattle.std.specs.Prelude.{◌≡◌, refl, List, [], ◌∷◌, ℕ, ◌+◌, ◌/◌, ◌%◌, ◌<◌, ◌≤◌, length, set}
 use Rattle.std.proofs.Common.{arith, ne_eqb}
 use Rattle.number_columns.specs.Column.{shown, write}
 

@@ -15,15 +15,13 @@ fn column(m: u32) -> u8
 pub fn write_number(out: &mut [u8], n: u32)
     ensures { out.new ≡ col.write (length out.old) n }
 {
-    let mut i = out.len();
-    if i == 0 {
+    if out.is_empty() {
         return;
     }
-    i -= 1;
-    out[i] = 48 + (n % 10) as u8;
+    let last = out.len() - 1;
+    out[last] = 48 + (n % 10) as u8;
     let mut m = n / 10;
-    while 0 < i {
-        i -= 1;
+    for i in (0..last).rev() {
         out[i] = column(m);
         m = m / 10;
     }
