@@ -8,7 +8,5 @@ pub fn copy_lines(out: &mut [u8], lines: &[u8])
     requires { length out.old ≡ length lines.now }
     ensures { out.new ≡ lines.now }
 {
-    for i in 0..lines.len() {
-        out[i] = lines[i];
-    }
+    out.copy_from_slice(lines);
 }
