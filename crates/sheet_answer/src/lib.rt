@@ -6,13 +6,11 @@ ghost use Rattle.sheet.specs.Line.{row, encode};
 ghost use Rattle.sheet_answer.specs.Shown.{shown};
 
 // A place as it is written.
+#[tactic(auto, unfolding(crate::specs::Shown::shown))]
 fn shown_place(place: usize) -> u32
     ensures { result ≡ shown place }
 {
-    if place > 999999 {
-        return 999999;
-    }
-    place as u32
+    place.min(999999) as u32
 }
 
 // Line R, into the 32 bytes that hold it.
