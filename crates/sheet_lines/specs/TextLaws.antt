@@ -1,8 +1,9 @@
 -- The text of a name at each of its bytes, and its length by what stands after it. Assumes nothing.
-use Rattle.std.specs.Prelude.{◌≡◌, refl, List, [], ◌∷◌, Bool, true, false, ◌&&◌, ℕ, suc, ◌+◌, ◌≤◌, ◌<◌, eqb, leb, length, get_or, drop}
+use Rattle.std.specs.Prelude.{◌≡◌, ◌↔◌, refl, List, [], ◌∷◌, Bool, true, false, IsTrue, EachIndex, ◌&&◌, ℕ, zero, suc, ◌+◌, ◌≤◌, ◌<◌, eqb, leb, length, get_or, drop}
 use Rattle.std.proofs.Math.Bool.{and-false}
-use Rattle.std.proofs.Common.{arith, drop-cons, leb-false}
+use Rattle.std.proofs.Common.{arith, drop-cons, eqb-true, leb-false}
 use Rattle.number_columns.specs.Column.{pick}
+use Rattle.sheet.proofs.ListLaws.{both, same_test}
 use Rattle.sheet.specs.Line.{graphic, spelling, spaces, proper}
 use Rattle.sheet_lines.specs.Text.{text_length}
 
@@ -18,6 +19,21 @@ spelling_here t i h = rw (drop-cons t i 0 h) (go (graphic (get_or t i 0)))
 pub spaces_here : (t : List ℕ) (i : ℕ) → i < length t → spaces (drop i t) ≡ eqb (get_or t i 0) 32 && spaces (drop (suc i) t)
 unfolding spaces
 spaces_here t i h = rw (drop-cons t i 0 h)
+
+-- all bytes at once, by index
+spaces_at : (t : List ℕ) → spaces t ≡ true → (i : ℕ) → i < length t → get_or t i 0 ≡ 32
+unfolding spaces
+spaces_at [] e i h = absurd (omega arith)
+spaces_at (b ∷ t) e zero h = eqb-true b 32 (both (eqb b 32) (spaces t) e).0
+spaces_at (b ∷ t) e (suc i) h = spaces_at t (both (eqb b 32) (spaces t) e).1 i (omega arith)
+
+at_spaces : (t : List ℕ) → ((i : ℕ) → i < length t → get_or t i 0 ≡ 32) → spaces t ≡ true
+unfolding spaces
+at_spaces [] f = refl
+at_spaces (b ∷ t) f = rw (f 0 (omega arith)) (at_spaces t (λ i h. f (suc i) (omega arith)))
+
+pub spaces_each : (t : List ℕ) (r : Bool) → (IsTrue r ↔ EachIndex t (λ i. get_or t i 0 ≡ 32)) → r ≡ spaces t
+spaces_each t r e = same_test r (spaces t) (λ h. at_spaces t (e.0 h)) (λ h. e.1 (spaces_at t h))
 
 -- at four bytes at a time
 spaces_four : (t : List ℕ) (i : ℕ) → i + 4 ≤ length t

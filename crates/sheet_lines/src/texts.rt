@@ -7,46 +7,38 @@ ghost use Rattle.sheet_lines.specs.Text.{text_length};
 fn graphic(b: u8) -> bool
     ensures { result ≡ line.graphic b }
 {
-    if b < 33 { false } else { b <= 126 }
+    (33..=126).contains(&b)
 }
 
 // How many bytes of text come first.
 fn spelled(t: &[u8]) -> usize
     ensures { result ≡ length (line.spelling t.now) }
 {
-    let mut i = 0;
-    while i < t.len() {
-        if !graphic(t[i]) {
+    for (i, b) in t.iter().enumerate() {
+        if !graphic(*b) {
             return i;
         }
-        i += 1;
     }
-    i
+    t.len()
 }
 
-// Whether spaces alone stand from a place on, byte by byte.
-fn blank_rest(t: &[u8], from: usize) -> bool
-    ensures { result ≡ line.spaces (drop from t.now) }
+// Whether all bytes are spaces, byte by byte.
+fn blank_rest(t: &[u8]) -> bool
+    ensures { result ≡ line.spaces t.now }
 {
-    let mut i = from;
-    while i < t.len() {
-        if t[i] != 32 {
-            return false;
-        }
-        i += 1;
-    }
-    true
+    t.iter().all(|b| *b == 32)
 }
 
-// The same, four bytes at a time.
+// The same from a place on, four bytes at a time.
 fn blank(t: &[u8], from: usize) -> bool
     ensures { result ≡ line.spaces (drop from t.now) }
 {
     let n = t.len();
     let mut i = from;
+    // A while and no for: the step is not one, and the last step is not whole.
     while i < n {
         if n - i < 4 {
-            return blank_rest(t, i);
+            return blank_rest(&t[i..]);
         }
         if !number_words::four_spaces(t[i], t[i + 1], t[i + 2], t[i + 3]) {
             return false;
