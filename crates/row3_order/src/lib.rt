@@ -18,29 +18,13 @@ use walk_cells::CELLS;
 fn is_broken(q: Due) -> bool
     ensures { result ≡ rows.is_broken q }
 {
-    match q {
-        Due::Header(_) => false,
-        Due::Within {
-            params: _,
-            fields: _,
-            ctors: _,
-        } => false,
-        Due::Broken => true,
-    }
+    matches!(q, Due::Broken)
 }
 
 fn is_within(q: Due) -> bool
     ensures { result ≡ rows.is_within q }
 {
-    match q {
-        Due::Header(_) => false,
-        Due::Within {
-            params: _,
-            fields: _,
-            ctors: _,
-        } => true,
-        Due::Broken => false,
-    }
+    matches!(q, Due::Within { .. })
 }
 
 // What is due after the runs: a later part of the header, or a declaration.
@@ -63,13 +47,11 @@ pub fn row3(t: &[u32], r: Runs) -> usize
 {
     let n = t.len() / CELLS;
     let mut q = due_after(r);
-    let mut i = r.types;
-    while i < n {
+    for i in r.types..n {
         q = steps::due(t, i, q);
         if is_broken(q) {
             return i;
         }
-        i += 1;
     }
     if is_within(q) {
         return n;

@@ -7,6 +7,7 @@ ghost use Rattle.meaning.specs.Rows as rows;
 use meaning::Due;
 
 // What a D or I line announces, by its body kind, count of parameters and last number.
+#[tactic(auto, unfolding(meaning::specs::Rows::announced))]
 fn announced(kind: u32, params: u32, last: u32) -> Due
     ensures { result ≡ rows.announced kind params last }
 {
@@ -41,6 +42,7 @@ fn later(place: u32, next: u32) -> Due
 }
 
 // Line i, outside a declaration.
+#[tactic(auto, unfolding(meaning::specs::Rows::due_header))]
 fn header(t: &[u32], i: usize, place: u32) -> Due
     requires { i < length t.now / 6 }
     ensures { result ≡ rows.due_header place (rows.nth_line (lines_of t.now) i) }
@@ -60,6 +62,7 @@ fn header(t: &[u32], i: usize, place: u32) -> Due
 }
 
 // Line i, in a declaration.
+#[tactic(auto, unfolding(meaning::specs::Rows::due))]
 fn within(t: &[u32], i: usize, params: u32, fields: u32, ctors: u32) -> Due
     requires { i < length t.now / 6 }
     ensures { result ≡ rows.due (Due.Within params fields ctors) (rows.nth_line (lines_of t.now) i) }
@@ -122,6 +125,7 @@ fn within(t: &[u32], i: usize, params: u32, fields: u32, ctors: u32) -> Due
 }
 
 // What is due after line i, where q was due.
+#[tactic(auto, unfolding(meaning::specs::Rows::due))]
 pub fn due(t: &[u32], i: usize, q: Due) -> Due
     requires { i < length t.now / 6 }
     ensures { result ≡ rows.due q (rows.nth_line (lines_of t.now) i) }
