@@ -44,6 +44,7 @@ pub struct Counts {
 }
 
 // After a line of this letter.
+#[tactic(auto, unfolding(crate::specs::Limits::counted))]
 pub fn counted(t: Tally, letter: u32) -> Tally
     requires { limits.Small t }
     ensures { result ≡ limits.counted t letter }
@@ -84,6 +85,7 @@ pub fn counted(t: Tally, letter: u32) -> Tally
 }
 
 // A line of this letter is past the limit of its kind.
+#[tactic(auto, unfolding(crate::specs::Limits::past))]
 pub fn past(t: Tally, letter: u32) -> bool
     ensures { result ≡ limits.past base t letter }
 {
