@@ -2,8 +2,7 @@
 // them are looked at one by one. A first walk only counts, and hardly jumps; where some line may be past a limit a second one finds it.
 #![tactic(auto)]
 
-ghost use Rattle.std.specs.Prelude.{◌≡◌, true, ◌&&◌, ◌+◌, ◌≤◌, ◌<◌, length};
-ghost use Rattle.number_columns.specs.Column.{pick};
+ghost use Rattle.std.specs.Prelude.{◌≡◌, true, ◌+◌, ◌≤◌, ◌<◌, length};
 ghost use Rattle.walk_cells.specs.Cells.{lines_of};
 ghost use Rattle.sheet.specs.Format.{base};
 ghost use Rattle.sheet.specs.Sheet as sheet;
@@ -39,6 +38,7 @@ fn no_runs() -> Runs
 }
 
 // The runs where they are within their limits; else none, and the walk finds the line past its limit.
+#[tactic(auto, unfolding(crate::specs::Walk::kept))]
 fn kept(r: Runs) -> Runs
     requires { (r.names ≤ r.args) × (r.args ≤ r.types) }
     ensures { result ≡ walk.kept base r }
@@ -93,25 +93,13 @@ pub struct Quick {
     pub tally: Tally,
 }
 
-fn one(b: bool) -> usize
-    ensures { result ≡ pick b 1 0 }
-{
-    if b { 1 } else { 0 }
-}
-
-fn both(a: bool, b: bool) -> bool
-    ensures { result ≡ (a && b) }
-{
-    if a { b } else { false }
-}
-
 // After a D, I or P line.
 fn exact(q: Quick, letter: u32) -> Quick
     requires { quickly.sum q.tally < 1152921504606846976 }
     ensures { result ≡ quickly.exact q letter }
 {
     let before = q.tally;
-    let known = both(q.known, !row4_limits::past(before, letter));
+    let known = q.known & !row4_limits::past(before, letter);
     let tally = row4_limits::counted(before, letter);
     Quick {
         known,
@@ -127,8 +115,8 @@ fn member(q: Quick, letter: u32) -> Quick
     ensures { result ≡ quickly.member q letter }
 {
     let mut tally = q.tally;
-    tally.ctors += one(letter < 68);
-    tally.fields += one(letter > 67);
+    tally.ctors += usize::from(letter < 68);
+    tally.fields += usize::from(letter > 67);
     Quick {
         known: q.known,
         letters: q.letters + letter as usize,
@@ -137,6 +125,7 @@ fn member(q: Quick, letter: u32) -> Quick
 }
 
 // After a line of this letter.
+#[tactic(auto, unfolding(crate::specs::Quickly::stepped))]
 fn stepped(q: Quick, letter: u32) -> Quick
     requires { (quickly.sum q.tally < 1152921504606846976) × (q.letters < 1152921504606846976) }
     ensures { result ≡ quickly.stepped q letter }
@@ -184,10 +173,8 @@ fn quickly(t: &[u32], front: Runs) -> Quick
         letters: 0,
         tally,
     };
-    let mut i = front.types;
-    while i < n {
+    for i in front.types..n {
         q = stepped(q, walk_cells::letter(t, i));
-        i += 1;
     }
     q
 }
@@ -219,15 +206,13 @@ fn searched(t: &[u32], front: Runs) -> Walked
 {
     let n = t.len() / CELLS;
     let mut tally = headed(front);
-    let mut i = front.types;
-    while i < n {
+    for i in front.types..n {
         let letter = walk_cells::letter(t, i);
         if row4_limits::past(tally, letter) {
             let counts = declared(tally);
             return Walked { past: i, counts };
         }
         tally = row4_limits::counted(tally, letter);
-        i += 1;
     }
     let counts = declared(tally);
     Walked { past: n, counts }
