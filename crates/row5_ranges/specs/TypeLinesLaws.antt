@@ -1,5 +1,5 @@
 -- The kinds of Y lines. Assumes nothing.
-use Rattle.std.specs.Prelude.{◌≡◌, List, false, ℕ, suc, ◌-◌, ◌≤◌, ◌<◌, eqb}
+use Rattle.std.specs.Prelude.{◌≡◌, List, false, ℕ, suc, ◌≤◌, ◌<◌, eqb}
 use Rattle.std.proofs.Common.{arith, ne_eqb}
 use Rattle.std.proofs.lemmas.Bool.{lt-leb}
 use Rattle.sheet.specs.Line.{Line, number}

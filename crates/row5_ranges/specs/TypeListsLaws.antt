@@ -1,5 +1,5 @@
 -- What the loop over a list of types keeps, and what its ends give. Assumes nothing.
-use Rattle.std.specs.Prelude.{◌≡◌, List, Bool, true, false, ◌&&◌, not, ℕ, ◌+◌, ◌-◌, ◌≤◌, ◌<◌, eqb, leb, ltb, length, get_or}
+use Rattle.std.specs.Prelude.{◌≡◌, List, Bool, true, false, ◌&&◌, not, ℕ, ◌+◌, ◌≤◌, ◌<◌, eqb, leb, ltb, length, get_or}
 use Rattle.std.proofs.Common.{sym, ap, ◌∙◌, arith, eq-eqb, ne_eqb, lt-ltb, le-ltb, le-leb}
 use Rattle.std.proofs.lemmas.List.{length-map}
 use Rattle.std.proofs.Math.ListN.{get_or-map}
@@ -7,7 +7,7 @@ use Rattle.std.proofs.lemmas.Bool.{lt-leb}
 use Rattle.sheet.specs.Line.{Line, bad, number}
 use Rattle.sheet.specs.Sheet.{first}
 use Rattle.sheet.proofs.FirstLaws.{first_more}
-use Rattle.meaning.specs.Program.{name_line, arg_line, select}
+use Rattle.meaning.specs.Program.{arg_line, select}
 use Rattle.meaning.specs.Rows.{some_below, is_list, nth_line}
 use Rattle.rows_header.specs.Header.{Counted}
 use Rattle.row5_ranges.specs.UnusedLaws.{some_at, some_none}

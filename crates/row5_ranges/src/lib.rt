@@ -21,12 +21,10 @@ fn names_good(t: &[u32], names: usize, args: usize, types: usize) -> usize
     requires { Counted (lines_of t.now) names args types }
     ensures { result ≡ sheet.first (rows.row5 (lines_of t.now)) names }
 {
-    let mut i = 0;
-    while i < names {
+    for i in 0..names {
         if walk_cells::number(t, i, 0) as usize != i {
             return i;
         }
-        i += 1;
     }
     names
 }
@@ -49,12 +47,10 @@ fn args_good(t: &[u32], names: usize, args: usize, types: usize) -> usize
     ensures { result ≡ sheet.first (rows.row5 (lines_of t.now)) (names + args) }
 {
     let end = names + args;
-    let mut i = names;
-    while i < end {
+    for i in names..end {
         if !good_arg(t, i, types) {
             return i;
         }
-        i += 1;
     }
     end
 }
@@ -67,12 +63,10 @@ fn types_good(t: &[u32], names: usize, args: usize, types: usize) -> usize
 {
     let from = names + args;
     let end = from + types;
-    let mut i = from;
-    while i < end {
+    for i in from..end {
         if !types::good_type(t, i, names, args, types, i - from) {
             return i;
         }
-        i += 1;
     }
     end
 }
@@ -84,12 +78,10 @@ fn parts_good(t: &[u32], names: usize, args: usize, types: usize) -> usize
     ensures { result ≡ sheet.first (rows.row5 (lines_of t.now)) (length (lines_of t.now)) }
 {
     let n = t.len() / CELLS;
-    let mut i = names + args + types;
-    while i < n {
+    for i in names + args + types..n {
         if !decl_lines::good_part(t, i, names, args, types) {
             return i;
         }
-        i += 1;
     }
     n
 }

@@ -11,12 +11,10 @@ pub fn zeros_from(t: &[u32], i: usize, k: usize) -> bool
     requires { i < length t.now / 6 }
     ensures { result ≡ rows.zeros_from k (rows.nth_line (lines_of t.now) i) }
 {
-    let mut j = k;
-    while j < NUMBERS {
+    for j in k..NUMBERS {
         if walk_cells::number(t, i, j) != 0 {
             return false;
         }
-        j += 1;
     }
     true
 }
