@@ -1,6 +1,6 @@
 -- What stands in the runs at the front of a sheet. Assumes nothing.
 use Rattle.std.proofs.Math.Path.{◌≡◌, refl}
-use Rattle.std.proofs.Common.{sym, ◌∙◌, arith}
+use Rattle.std.proofs.Common.{arith}
 use Rattle.std.specs.Prelude.{List, Bool, ◌&&◌, not, ℕ, zero, suc, ◌≤◌, ◌<◌, eqb}
 use Rattle.std.proofs.Math.Bool.{true, false}
 use Rattle.std.proofs.Math.Dec.{leb}
@@ -8,7 +8,7 @@ use Rattle.std.proofs.Math.ListN.{length}
 use borrow.Author.Tests.{eqb-true, eqb-false, ne_eqb, eq-eqb, le-leb, leb-true, leb-false}
 use Rattle.sheet.specs.Line.{Line, letter}
 use Rattle.sheet.specs.Sheet.{first}
-use Rattle.sheet.proofs.FirstLaws.{first_le, first_holds, first_before, first_none, first_more, first_found}
+use Rattle.sheet.proofs.FirstLaws.{first_le, first_holds, first_before, first_none}
 use Rattle.meaning.specs.Program.{name_line, arg_line, type_line, is}
 use Rattle.meaning.specs.Rows.{nth_line}
 use Rattle.rows_runs.specs.declared.Runs.{Runs}

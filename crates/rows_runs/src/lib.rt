@@ -30,6 +30,7 @@ fn run_end(t: &[u32], from: usize, letter: u32) -> usize
 }
 
 // The runs at the front.
+#[tactic(auto, using(crate::specs::RunsLaws::run_le), unfolding(crate::specs::Runs::runs_of))]
 pub fn runs_of(t: &[u32]) -> Runs
     ensures { result ≡ runs.runs_of (lines_of t.now) }
 {

@@ -1,5 +1,5 @@
 -- The lines passed have the letter.
-use Rattle.std.proofs.Common.{◌≡◌, ◌≤◌}
+use Rattle.std.proofs.Common.{◌≡◌}
 use Rattle.sheet.specs.Sheet.{first}
 use Rattle.walk_cells.specs.Cells.{lines_of}
 use Rattle.rows_runs.specs.RunsLaws.{ends}
