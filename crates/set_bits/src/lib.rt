@@ -34,9 +34,7 @@ pub fn clear(s: &mut [u64], at: usize, words: usize)
     requires { at + words ≤ length s.old }
     ensures { s.new ≡ bits.cleared s.old at words }
 {
-    for w in 0..words {
-        s[at + w] = 0;
-    }
+    s[at..at + words].fill(0);
 }
 
 // The first member of the set of s at `at` that the set of t at `to` has not, or the number of bits where there is none.
