@@ -1,17 +1,15 @@
 -- Which starts reach themselves, and how many nodes each node reaches. Assumes nothing.
-use Rattle.std.specs.Prelude.{◌≡◌, List, ℕ, ◌<◌, eqb, length, get_or}
+use Rattle.std.specs.Prelude.{◌≡◌, List, Option, None, Some, ℕ, ◌<◌, eqb, length, get_or}
 use Rattle.number_columns.specs.Column.{pick}
 use Rattle.sheet.specs.Sheet.{first}
 use Rattle.model.specs.Decl.{bit}
 use Rattle.model.specs.Reach.{cyclic}
 use Rattle.model_laws.specs.Reach.{rank}
-use Rattle.set_search.specs.declared.Found.{Found}
-use Rattle.set_search.specs.declared.Found.TheVariants.{Start, Reached}
 
--- 1 for the start
-abbrev pub start : Found → ℕ
-start Start = 1
-start (Reached c) = 0
+-- 1 where the start reaches itself
+abbrev pub start : Option ℕ → ℕ
+start None = 1
+start (Some c) = 0
 
 -- the mark of node i: 1 where it is a start, its entry not `none`, and reaches itself
 unfoldable pub mark : (ℕ → List ℕ) → List ℕ → ℕ → ℕ → ℕ

@@ -1,5 +1,5 @@
 -- One node more, and what a table of steps says of the steps that it holds. Assumes nothing.
-use Rattle.std.specs.Prelude.{◌≡◌, Bool, ℕ, ◌+◌, ◌≤◌, ◌<◌, eqb, length, get_or, set}
+use Rattle.std.specs.Prelude.{◌≡◌, Bool, Option, None, Some, ℕ, ◌+◌, ◌≤◌, ◌<◌, eqb, length, get_or, set}
 use Rattle.std.proofs.Common.{ap, ◌∙◌, arith, length-set, get_or-set_same, get_or-set_other, eq-eqb, ne_eqb}
 use mathlib.Core.List.{List, Memᴰ}
 use Rattle.std.proofs.Math.Decide.{ℕ_discrete}
@@ -9,8 +9,6 @@ use Rattle.sheet.proofs.FirstLaws.{first_before, first_congr}
 use Rattle.model.specs.Decl.{bit}
 use Rattle.model.specs.Reach.{Reach, cyclic}
 use Rattle.model_laws.specs.Reach.{rank_less, rank_bound, cyclic_complete}
-use Rattle.set_search.specs.declared.Found.{Found}
-use Rattle.set_search.specs.declared.Found.TheVariants.{Start, Reached}
 use Rattle.set_search.specs.Search.{steps, Searched}
 use Rattle.set_search.specs.SearchLaws.{Holds, start_found, reached_all, holds_cyclic, holds_rank}
 use Rattle.set_search.specs.Loops.{start, mark, Looped, Ranked, First}
@@ -33,10 +31,10 @@ module _ (next : ℕ → List ℕ) (starts : List ℕ) (none : ℕ) where
   mark_none k e = rw (eq-eqb (get_or starts k 0) none e)
 
   -- a start, by what the search from it answers
-  pub mark_start : (k : ℕ) → (get_or starts k 0 ≡ none → ⊥) → (r : Found) (s : List ℕ) → Searched next (length starts) k r s → start r ≡ mark next starts none k
+  pub mark_start : (k : ℕ) → (get_or starts k 0 ≡ none → ⊥) → (r : Option ℕ) (s : List ℕ) → Searched next (length starts) k r s → start r ≡ mark next starts none k
   unfolding mark
-  mark_start k e Start s d = rw (ne_eqb (get_or starts k 0) none e, start_found next (length starts) k s d)
-  mark_start k e (Reached c) s d = rw (ne_eqb (get_or starts k 0) none e, (reached_all next (length starts) k s c d).0)
+  mark_start k e None s d = rw (ne_eqb (get_or starts k 0) none e, start_found next (length starts) k s d)
+  mark_start k e (Some c) s d = rw (ne_eqb (get_or starts k 0) none e, (reached_all next (length starts) k s c d).0)
 
 -- ---- of the steps that a table holds
 pub looped_as : (next : ℕ → List ℕ) (starts : List ℕ) (none words : ℕ) (t : List ℕ) → Holds next (length starts) words t → (s s' : List ℕ)

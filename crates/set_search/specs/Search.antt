@@ -1,13 +1,11 @@
 -- What the search answers on a table of steps: n nodes, and for each a row of so many words, whose
 -- bits are the nodes that are one step away. Assumes nothing.
-use Rattle.std.specs.Prelude.{◌≡◌, List, [], ◌∷◌, Bool, true, false, ℕ, zero, suc, ◌*◌, ◌≤◌, ◌<◌, length}
+use Rattle.std.specs.Prelude.{◌≡◌, List, [], ◌∷◌, Bool, true, false, Option, None, Some, ℕ, zero, suc, ◌*◌, ◌≤◌, ◌<◌, length}
 use Rattle.number_columns.specs.Column.{pick}
 use Rattle.model.specs.Decl.{table}
 use Rattle.model.specs.Reach.{cyclic}
 use Rattle.model_laws.specs.Reach.{reached, rank}
 use Rattle.set_bits.specs.Bits.{has}
-use Rattle.set_search.specs.declared.Found.{Found}
-use Rattle.set_search.specs.declared.Found.TheVariants.{Start, Reached}
 
 -- a table of rows, no bit of which is that of a node past the last
 pub record Steps (n words : ℕ) (t : List ℕ) : Type 0 where
@@ -29,11 +27,11 @@ steps n words t a = those (has t (a * words)) n
 unfoldable pub marks : ℕ → List ℕ → List Bool
 marks n s = table (has s 0) n
 
--- the start where it reaches itself, else how many it reaches
-unfoldable pub answer : (ℕ → List ℕ) → ℕ → ℕ → Found
-answer next n k = pick (cyclic next n k) Start (Reached (rank next n k))
+-- none where the start reaches itself, else how many it reaches
+unfoldable pub answer : (ℕ → List ℕ) → ℕ → ℕ → Option ℕ
+answer next n k = pick (cyclic next n k) None (Some (rank next n k))
 
 -- The answer, and marked is what is reached, unless the start is.
-pub record Searched (next : ℕ → List ℕ) (n k : ℕ) (r : Found) (s : List ℕ) : Type 0 where
+pub record Searched (next : ℕ → List ℕ) (n k : ℕ) (r : Option ℕ) (s : List ℕ) : Type 0 where
   pub answered : r ≡ answer next n k
   pub marked : cyclic next n k ≡ false → marks n s ≡ reached next n k

@@ -1,7 +1,7 @@
 -- Laws of the search: what a row holds, and what answer a table gives for the steps that its rows hold. Assumes nothing.
 use Rattle.std.proofs.Math.Path.{◌≡◌, refl, ap}
 use Rattle.std.proofs.Common.{sym, ◌∙◌, ⊎_elim, arith}
-use Rattle.std.specs.Prelude.{◌↔◌, Bool, ℕ, zero, suc, ◌*◌, ◌≤◌, ◌<◌, length}
+use Rattle.std.specs.Prelude.{◌↔◌, Bool, Option, None, Some, ℕ, zero, suc, ◌*◌, ◌≤◌, ◌<◌, length}
 use mathlib.Core.List.Memᴰ
 use mathlib.Core.List.{List, ◌∷◌, Memᴰ}
 use Rattle.std.proofs.Math.Bool.{true, false}
@@ -14,8 +14,6 @@ use Rattle.model_laws.specs.Rounds.{le_antisym}
 use Rattle.model_laws.specs.Reach.{cyclic_sound, cyclic_complete, reached, rank, length_reached, reached_iff}
 use Rattle.set_bits.specs.Bits.{has}
 use Rattle.set_search.specs.Search.{Steps, those, steps, marks, answer, Searched}
-use Rattle.set_search.specs.declared.Found.{Found}
-use Rattle.set_search.specs.declared.Found.TheVariants.{Start, Reached}
 
 -- ---- those that pass a test
 pub mem_those : (p : ℕ → Bool) (n m : ℕ) → m < n → p m ≡ true → Memᴰ m (those p n)
@@ -93,19 +91,19 @@ module _ (next next' : ℕ → List ℕ) (n : ℕ) (within : (a b : ℕ) → Mem
 
 -- ---- by the case of the answer
 module _ (next : ℕ → List ℕ) (n k : ℕ) (s : List ℕ) where
-  pub start_found : Searched next n k Start s → cyclic next n k ≡ true
+  pub start_found : Searched next n k None s → cyclic next n k ≡ true
   unfolding answer
   start_found d = go (cyclic next n k) d.answered
     where
-      go : (c : Bool) → Start ≡ pick c Start (Reached (rank next n k)) → c ≡ true
+      go : (c : Bool) → None ≡ pick c None (Some (rank next n k)) → c ≡ true
       go true e = refl
       go false e = let z : ◌≡◌ {A = ℕ} 0 1 = cc in absurd (omega arith)
 
-  pub reached_all : (c : ℕ) → Searched next n k (Reached c) s → (cyclic next n k ≡ false) × (c ≡ rank next n k) × (marks n s ≡ reached next n k)
+  pub reached_all : (c : ℕ) → Searched next n k (Some c) s → (cyclic next n k ≡ false) × (c ≡ rank next n k) × (marks n s ≡ reached next n k)
   unfolding answer
   reached_all c d = go (cyclic next n k) refl d.answered
     where
-      go : (b : Bool) → cyclic next n k ≡ b → Reached c ≡ pick b Start (Reached (rank next n k)) → (cyclic next n k ≡ false) × (c ≡ rank next n k) × (marks n s ≡ reached next n k)
+      go : (b : Bool) → cyclic next n k ≡ b → Some c ≡ pick b None (Some (rank next n k)) → (cyclic next n k ≡ false) × (c ≡ rank next n k) × (marks n s ≡ reached next n k)
       go true q e = let z : ◌≡◌ {A = ℕ} 0 1 = cc in absurd (omega arith)
       go false q e = (q, cc, d.marked q)
 
@@ -136,7 +134,7 @@ module _ (next : ℕ → List ℕ) (n words : ℕ) (t : List ℕ) (h : Holds nex
   holds_rank k l = rank_same (steps n words t) next n (steps_within n words t) h.within held k l
 
   -- and what is found in it is what there is in `next`.
-  pub searched_as : (k : ℕ) (r : Found) (s : List ℕ) → k < n → Searched (steps n words t) n k r s → Searched next n k r s
+  pub searched_as : (k : ℕ) (r : Option ℕ) (s : List ℕ) → k < n → Searched (steps n words t) n k r s → Searched next n k r s
   searched_as k r s l d =
       record {
         answered = d.answered ∙ answer_same (steps n words t) next n (steps_within n words t) h.within held k l;

@@ -1,5 +1,5 @@
 -- What holds in the loops of the search, and what a turn of each makes of it. Assumes nothing.
-use Rattle.std.specs.Prelude.{◌≡◌, refl, ◌≢◌, Bool, ◌&&◌, ℕ, suc, ◌+◌, ◌-◌, ◌*◌, ◌/◌, ◌^◌, ◌≤◌, ◌<◌, length, get_or, set}
+use Rattle.std.specs.Prelude.{◌≡◌, refl, ◌≢◌, Bool, ◌&&◌, None, Some, ℕ, suc, ◌+◌, ◌-◌, ◌*◌, ◌/◌, ◌^◌, ◌≤◌, ◌<◌, length, get_or, set}
 use Rattle.std.proofs.Common.{sym, ◌∙◌, inl, mul-le-mul_right, arith, length-set, get_or-set_same, get_or-set_other, ext_get_or}
 use mathlib.Core.List.{List, [], ◌∷◌, Memᴰ}
 use Rattle.std.proofs.Math.Bool.{true, false, not}
@@ -13,7 +13,6 @@ use Rattle.model_laws.specs.Rounds.{At, at_lt, cases_eq}
 use Rattle.model_laws.specs.Reach.{cyclic_sound, cyclic_complete}
 use Rattle.set_bits.specs.Bits.{has, inserted, cleared}
 use Rattle.set_bits.specs.BitsLaws.{row_room, length_inserted, inserted_same, inserted_other, length_cleared, cleared_none}
-use Rattle.set_search.specs.declared.Found.TheVariants.{Start, Reached}
 use Rattle.set_bits.specs.Outside.{outside}
 use Rattle.set_search.specs.Search.{Steps, steps, marks, answer, Searched}
 use Rattle.set_search.specs.SearchLaws.{mem_steps, steps_mem, steps_within}
@@ -107,7 +106,7 @@ module _ (t : List ℕ) (words n k : ℕ) where
           contrary (has (cleared ms 0 words) 0 i) (sym (marks_at n (cleared ms 0 words) i j) ∙ true_of (get_or (marks n (cleared ms 0 words)) i false) a) (cleared_none ms 0 words (omega arith) i (omega (arith, s.wide)))
 
   -- all entries are done
-  pub outer_end : (ms qs : List ℕ) (head last : ℕ) → Outer t words n k ms qs head last → last < head → Searched (steps n words t) n k (Reached last) ms
+  pub outer_end : (ms qs : List ℕ) (head last : ℕ) → Outer t words n k ms qs head last → last < head → Searched (steps n words t) n k (Some last) ms
   unfolding answer
   outer_end ms qs head last o d =
       let f : cyclic (steps n words t) n k ≡ false =
@@ -176,7 +175,7 @@ module _ (t : List ℕ) (words n k : ℕ) where
     inner_name h = (new h).inside
 
     -- it is the start
-    pub inner_found : name < 64 * words → name ≡ k → Searched (steps n words t) n k Start ms
+    pub inner_found : name < 64 * words → name ≡ k → Searched (steps n words t) n k None ms
     unfolding answer
     inner_found h e =
         let c : cyclic (steps n words t) n k ≡ true = cyclic_complete (steps n words t) n k (steps_within n words t) (rw e at (reaches h)) in

@@ -9,15 +9,8 @@ ghost use Rattle.set_search.specs.Search as spec;
 
 use set_bits::WORD;
 
-// The start, which reaches itself, or how many nodes are reached from it.
-#[derive(Clone, Copy)]
-pub enum Found {
-    Start,
-    Reached(usize),
-}
-
-// Whether start reaches itself by the steps of a table of n rows, or how many nodes it reaches; these are
-// marked then. The queue holds the start and each node that is marked, in the order in which they are met.
+// How many nodes start reaches by the steps of a table of n rows, which are marked then; none where it reaches itself.
+// The queue holds the start and each node that is marked, in the order in which they are met.
 pub fn search(
     steps: &[u64],
     words: usize,
@@ -25,7 +18,7 @@ pub fn search(
     start: usize,
     marks: &mut [u64],
     queue: &mut [u16],
-) -> Found
+) -> Option<usize>
     requires steps { Steps n words steps.now }
     requires start_lt_n { start < n }
     requires words_in_bounds { words ≤ length marks.old }
@@ -37,15 +30,14 @@ pub fn search(
     let none = WORD * words;
     let mut head = 0;
     let mut last = 0;
-    let mut found = false;
-    'search: while head <= last {
+    // A while and no for: the queue grows while it is read.
+    while head <= last {
         let node = queue[head] as usize;
         let row = node * words;
         let mut name = set_bits::first_outside(steps, row, marks, 0, words);
         while name < none {
             if name == start {
-                found = true;
-                break 'search;
+                return None;
             }
             set_bits::insert(marks, 0, name);
             last += 1;
@@ -54,8 +46,5 @@ pub fn search(
         }
         head += 1;
     }
-    if found {
-        return Found::Start;
-    }
-    Found::Reached(last)
+    Some(last)
 }

@@ -5,17 +5,6 @@ ghost use Rattle.set_search.specs.Search as spec;
 ghost use Rattle.set_search.specs.Loops.{Looped};
 ghost use Rattle.set_search.specs.Loops as loops;
 
-use crate::Found;
-
-fn is_start(r: Found) -> u8
-    ensures { result ≡ loops.start r }
-{
-    match r {
-        Found::Start => 1,
-        Found::Reached(_) => 0,
-    }
-}
-
 // The mark of node k. From one that is no start nothing is searched.
 fn mark(
     steps: &[u64],
@@ -36,7 +25,7 @@ fn mark(
         return 0;
     }
     let r = crate::search(steps, words, starts.len(), k, marks, queue);
-    is_start(r)
+    u8::from(r.is_none())
 }
 
 // Marks each node that is a start, its entry not `none`, by 1 if it reaches itself, and every other by 0.
