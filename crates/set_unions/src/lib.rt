@@ -1,4 +1,4 @@
-// Unions of sets as bits in words (`set_bits`).
+// Unions of sets as bits in words (`set_bits`). By index in both: no plainer by zip, since both sets may lie in one slice.
 #![tactic(auto)]
 
 ghost use Rattle.std.specs.Prelude.{◌⊎◌, ◌≡◌, ◌+◌, ◌≤◌, length};
