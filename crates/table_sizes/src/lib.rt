@@ -75,9 +75,5 @@ pub fn put_all(at: usize, n: usize, v: u32, t: &mut [u32])
     requires { at + n ≤ length t.old }
     ensures { filling.Put t.old t.new at n (filling.all v) }
 {
-    let mut k = 0;
-    while k < n {
-        t[at + k] = v;
-        k += 1;
-    }
+    t[at..at + n].fill(v);
 }
