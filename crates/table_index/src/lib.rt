@@ -56,16 +56,8 @@ fn put_decl(i: usize, c: Seen, t: &mut [u32]) -> Seen
     t[at + name] = c.decls as u32;
     Seen {
         decls: c.decls + 1,
-        params: c.params,
-        ctors: c.ctors,
-        fields: c.fields,
+        ..c
     }
-}
-
-fn picked(b: bool, x: usize, y: usize) -> usize
-    ensures { result ≡ pick b x y }
-{
-    if b { x } else { y }
 }
 
 // Line i, an F or a C line. Its section is picked, and not jumped to: which of the two comes next cannot be foreseen.
@@ -74,17 +66,12 @@ fn put_member(field: bool, i: usize, c: Seen, t: &mut [u32]) -> Seen
     requires i_in_bounds { (i < length (tables.lines_in t.old)) × (letter (rows.nth_line (tables.lines_in t.old) i) ≡ pick field 70 67) }
     ensures { index.Reached (tables.lines_in t.old) t.new (suc i) result }
 {
-    let section = picked(field, AT_FIELDS, AT_CTORS);
-    let place = picked(field, c.fields, c.ctors);
-    let ctors = c.ctors + picked(field, 0, 1);
-    let fields = c.fields + picked(field, 1, 0);
+    let section = choices::pick(field, AT_FIELDS, AT_CTORS);
+    let place = choices::pick(field, c.fields, c.ctors);
+    let ctors = c.ctors + choices::pick(field, 0, 1);
+    let fields = c.fields + choices::pick(field, 1, 0);
     put_place(section, place, i, t);
-    Seen {
-        decls: c.decls,
-        params: c.params,
-        ctors,
-        fields,
-    }
+    Seen { ctors, fields, ..c }
 }
 
 // Line i, whose letter is after F.
@@ -99,10 +86,8 @@ fn put_later(i: usize, c: Seen, t: &mut [u32]) -> Seen
         80 => {
             put_place(AT_PARAMS, c.params, i, t);
             Seen {
-                decls: c.decls,
                 params: c.params + 1,
-                ctors: c.ctors,
-                fields: c.fields,
+                ..c
             }
         }
         _ => c,
@@ -137,10 +122,8 @@ fn put_lines(from: usize, n: usize, t: &mut [u32])
         ctors: 0,
         fields: 0,
     };
-    let mut i = from;
-    while i < n {
+    for i in from..n {
         c = put_line(i, c, t);
-        i += 1;
     }
     put_begin(n, c, t);
 }
