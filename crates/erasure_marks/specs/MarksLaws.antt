@@ -3,6 +3,7 @@ use Rattle.std.specs.Prelude.{◌≡◌, List, Bool, ◌&&◌, eqb, length, get_
 use Rattle.std.proofs.Math.Path.{refl, ap}
 use Rattle.std.proofs.Common.{ap₂, sym, ◌∙◌, length-set, get_or-set_same, get_or-set_other, eqb-true}
 use Rattle.std.proofs.Math.Bool.{true, false}
+use mir.Val.{bool_byte}
 use Prim.Native.Nat.{ℕ, zero, suc, ◌+◌, ◌≤◌, ◌<◌}
 use native.Mathlib.Omega.{arith}
 use Rattle.std.proofs.lemmas.List.{length-map}
@@ -24,6 +25,11 @@ use Rattle.table_declared.specs.PassedLaws.{args_few}
 use Rattle.table_access.specs.Tables.{nth}
 use Rattle.table_declared.specs.TypeLaws.{good_kind, good_arrow, good_app, good_tuple, good_inline, good_type_at, type_tree}
 use Rattle.erasure_marks.specs.Marks.{part, arg_of, marks_of, type_erased, Before, Found, Tuple, Tupled, Placed, Marks, Marked}
+
+-- a test as a byte is a mark
+pub byte_bit : (b : Bool) → bool_byte b ≡ bit b
+byte_bit true = refl
+byte_bit false = refl
 
 -- ---- lists of types
 module _ (er : ℕ → Bool) (ts : List Cty) (xs : List ℕ) where

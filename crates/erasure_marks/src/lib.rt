@@ -6,21 +6,8 @@ ghost use Rattle.std.specs.Prelude.{◌≡◌, ◌&&◌, not, ◌+◌, ◌≤◌
 ghost use Rattle.model.specs.Erasure as model;
 ghost use Rattle.meaning.specs.Program as program;
 ghost use Rattle.meaning.specs.Rows as rows;
-ghost use Rattle.model.specs.Decl as decls;
 ghost use Rattle.table_access.specs.Tables as tables;
 ghost use Rattle.erasure_marks.specs.Marks as marks;
-
-fn bit(b: bool) -> u8
-    ensures { result ≡ decls.bit b }
-{
-    if b { 1 } else { 0 }
-}
-
-fn both(a: bool, b: bool) -> bool
-    ensures { result ≡ (a && b) }
-{
-    if a { b } else { false }
-}
 
 // The first member of a list from member `from` on whose mark is 0, or the count of members.
 fn first_kept(t: &[u32], node: &[u8], first: usize, count: usize, from: usize) -> usize
@@ -28,15 +15,13 @@ fn first_kept(t: &[u32], node: &[u8], first: usize, count: usize, from: usize) -
     requires listed { marks.Listed (tables.lines_in t.now) node.now first count × (from ≤ count) }
     ensures { marks.Found (tables.lines_in t.now) node.now first count from result }
 {
-    let mut j = from;
-    while j < count {
+    for j in from..count {
         let y = table_access::arg(t, first + j);
         if node[y] == 0 {
             return j;
         }
-        j += 1;
     }
-    j
+    count
 }
 
 // A tuple of erased members.
@@ -74,7 +59,7 @@ fn arrow_erased(t: &[u32], node: &[u8], y: usize) -> bool
 {
     let effect = table_access::type_number(t, y, 2);
     let result = table_access::type_number(t, y, 3) as usize;
-    both(effect != 2, node[result] == 1)
+    (effect != 2) & (node[result] == 1)
 }
 
 // Layout's `cty_erased` of type y, by the marks of lower types and of declarations.
@@ -110,10 +95,8 @@ pub fn mark_types(
     requires marks { marks.Marks (tables.lines_in t.now) (marks.marks_of decl.now) node.old member.old right }
     ensures { marks.Marks (tables.lines_in t.now) (marks.marks_of decl.now) node.new member.new result × (end ≤ result) }
 {
-    let mut y = right;
-    while y < end {
-        node[y] = bit(cty_erased(t, decl, node, member, y));
-        y += 1;
+    for y in right..end {
+        node[y] = u8::from(cty_erased(t, decl, node, member, y));
     }
-    y
+    right.max(end)
 }
