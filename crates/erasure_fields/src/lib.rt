@@ -9,12 +9,6 @@ ghost use Rattle.erasure_laws.specs.Bodies as bodies;
 
 use erasure_laws::{Field, Ruled};
 
-fn higher(a: usize, b: usize) -> usize
-    ensures { bodies.Higher a b result }
-{
-    if a < b { b } else { a }
-}
-
 // The first field from field `from` on that is kept, or `end`.
 fn first_kept(
     t: &[u32],
@@ -31,9 +25,8 @@ fn first_kept(
     requires marks { marks.Marks (tables.lines_in t.now) (marks.marks_of decl.now) node.old member.old right }
     ensures { bodies.Found (tables.lines_in t.now) (marks.marks_of decl.now) node.new member.new from end result }
 {
-    let mut f = from;
     let mut low = right;
-    while f < end {
+    for f in from..end {
         let y = table_access::field_number(t, f, 1) as usize;
         low = erasure_marks::mark_types(t, decl, node, member, low, y + 1);
         if node[y] == 0 {
@@ -42,10 +35,9 @@ fn first_kept(
                 right: low,
             };
         }
-        f += 1;
     }
     Field {
-        number: f,
+        number: end,
         right: low,
     }
 }
@@ -68,7 +60,7 @@ pub fn fields_erased(
 {
     let first = table_access::first_field(t, d);
     let end = table_access::first_field(t, d + 1);
-    let from = higher(first, field[d] as usize);
+    let from = first.max(field[d] as usize);
     let r = first_kept(t, decl, node, member, from, end, right);
     let f = r.number;
     let low = r.right;
