@@ -9,6 +9,8 @@ use Rattle.table_access.specs.Tables.{nth, group, head_line, decls_of, first_of}
 use Rattle.erasure_marks.specs.Marks.{marks_of, type_erased, Marks}
 use Rattle.erasure_laws.specs.declared.Ruled.{Ruled}
 use Rattle.erasure_laws.specs.declared.Field.{Field}
+use Rattle.erasure_laws.specs.declared.Way as ways
+use Rattle.erasure_laws.specs.declared.Way.TheVariants as by
 
 pub record Higher (a b r : ℕ) : Type 0 where
   pub left : a ≤ r
@@ -53,15 +55,14 @@ pub record ByBody (ls : List Line) (d : ℕ) : Type 0 where
   pub by : (m : List Bool)
       → decl_erased ls m d ≡ body_erased (marked (program ls) m) (close_body (map (λ l. number l 0) (select param_line (group ls d).rest)) (body_of (trees ls) (number (head_line ls d) 2) (number (head_line ls d) 4) (group ls d).rest))
 
--- by what the rules judge declaration d: it is erased (0) or kept (1) whatever is marked, or erased as the type of its last
--- number (2) or its fields (3) are
-pub record Way (ls : List Line) (d r : ℕ) : Type 0 where
-  pub least : r ≤ 3
-  pub erased : r ≡ 0 → (m : List Bool) → decl_erased ls m d ≡ true
-  pub kept : r ≡ 1 → (m : List Bool) → decl_erased ls m d ≡ false
-  pub type : r ≡ 2 → ByType ls d
-  pub typed : r ≡ 2 → last_of ls d < count_of type_line ls
-  pub fields : r ≡ 3 → ByFields ls d
+-- by what the rules judge declaration d: it is erased or kept whatever is marked, or erased as the type of its last number or
+-- its fields are
+pub record Way (ls : List Line) (d : ℕ) (r : ways.Way) : Type 0 where
+  pub erased : r ≡ by.Erased → (m : List Bool) → decl_erased ls m d ≡ true
+  pub kept : r ≡ by.Kept → (m : List Bool) → decl_erased ls m d ≡ false
+  pub type : r ≡ by.AsType → ByType ls d
+  pub typed : r ≡ by.AsType → last_of ls d < count_of type_line ls
+  pub fields : r ≡ by.AsFields → ByFields ls d
 
 -- the first field from field `from` on that is kept, or `end`; and the marks of types after the search
 pub record Found (ls : List Line) (m : List Bool) (node member : List ℕ) (from end : ℕ) (r : Field) : Type 0 where

@@ -27,6 +27,8 @@ use Rattle.table_declared.specs.BodyLaws.{close_erased, closed, fields_all, fiel
 use Rattle.erasure_marks.specs.Marks.{marks_of, type_erased, Marks}
 use Rattle.erasure_marks.specs.MarksLaws.{bit_zero, bit_set}
 use Rattle.erasure_laws.specs.declared.Field.{Field}
+use Rattle.erasure_laws.specs.declared.Way as ways
+use Rattle.erasure_laws.specs.declared.Way.TheVariants as by
 use Rattle.erasure_laws.specs.Bodies.{Higher, kind_of, last_of, field_type, Below, decl_erased, Erased, ByFields, ByType, ByBody, Way, Found, Places, State, Ruling}
 
 -- ---- fields
@@ -181,20 +183,23 @@ module _ (ls : List Line) (p : Passed ls) (d : ℕ) (h : d < decls_of ls) where
 
 -- ---- the ways
 module _ (ls : List Line) (d : ℕ) where
-  pub way_erased : ((m : List Bool) → decl_erased ls m d ≡ true) → Way ls d 0
-  way_erased e = record { least = omega arith; erased = λ q. e; kept = λ q. absurd (omega arith); type = λ q. absurd (omega arith); typed = λ q. absurd (omega arith); fields = λ q. absurd (omega arith) }
+  pub way_erased : ((m : List Bool) → decl_erased ls m d ≡ true) → Way ls d by.Erased
+  way_erased e = record { erased = λ q. e; kept = λ q. absurd (cc); type = λ q. absurd (cc); typed = λ q. absurd (cc); fields = λ q. absurd (cc) }
 
-  pub way_kept : ((m : List Bool) → decl_erased ls m d ≡ false) → Way ls d 1
-  way_kept e = record { least = omega arith; erased = λ q. absurd (omega arith); kept = λ q. e; type = λ q. absurd (omega arith); typed = λ q. absurd (omega arith); fields = λ q. absurd (omega arith) }
+  pub way_kept : ((m : List Bool) → decl_erased ls m d ≡ false) → Way ls d by.Kept
+  way_kept e = record { erased = λ q. absurd (cc); kept = λ q. e; type = λ q. absurd (cc); typed = λ q. absurd (cc); fields = λ q. absurd (cc) }
 
-  pub way_type : ByType ls d → last_of ls d < count_of type_line ls → Way ls d 2
-  way_type y h = record { least = omega arith; erased = λ q. absurd (omega arith); kept = λ q. absurd (omega arith); type = λ q. y; typed = λ q. h; fields = λ q. absurd (omega arith) }
+  pub way_type : ByType ls d → last_of ls d < count_of type_line ls → Way ls d by.AsType
+  way_type y h = record { erased = λ q. absurd (cc); kept = λ q. absurd (cc); type = λ q. y; typed = λ q. h; fields = λ q. absurd (cc) }
 
-  pub way_fields : ByFields ls d → Way ls d 3
-  way_fields y = record { least = omega arith; erased = λ q. absurd (omega arith); kept = λ q. absurd (omega arith); type = λ q. absurd (omega arith); typed = λ q. absurd (omega arith); fields = λ q. y }
+  pub way_fields : ByFields ls d → Way ls d by.AsFields
+  way_fields y = record { erased = λ q. absurd (cc); kept = λ q. absurd (cc); type = λ q. absurd (cc); typed = λ q. absurd (cc); fields = λ q. y }
 
-  pub way_rest : (r : ℕ) → Way ls d r → (r ≡ 0 → ⊥) → (r ≡ 1 → ⊥) → (r ≡ 2 → ⊥) → ByFields ls d
-  way_rest r w n0 n1 n2 = w.fields (omega (arith, w.least))
+  pub way_rest : (r : ways.Way) → Way ls d r → (r ≡ by.Erased → ⊥) → (r ≡ by.Kept → ⊥) → (r ≡ by.AsType → ⊥) → ByFields ls d
+  way_rest by.Erased w n0 n1 n2 = absurd (n0 refl)
+  way_rest by.Kept w n0 n1 n2 = absurd (n1 refl)
+  way_rest by.AsType w n0 n1 n2 = absurd (n2 refl)
+  way_rest by.AsFields w n0 n1 n2 = w.fields refl
 
 -- ---- marks
 module _ (ls : List Line) (m : List Bool) (node member : List ℕ) (n y : ℕ) (k : Marks ls m node member n) (h : y < n) where

@@ -5,6 +5,15 @@
 
 pub mod erasure;
 
+// By what the rules judge a declaration: it is erased, or kept, whatever is marked; or it is erased as its type is, or as its fields are.
+#[derive(Clone, Copy)]
+pub enum Way {
+    Erased,
+    Kept,
+    AsType,
+    AsFields,
+}
+
 // Whether a declaration is erased, and below which type the marks of types are right.
 #[derive(Clone, Copy)]
 pub struct Ruled {

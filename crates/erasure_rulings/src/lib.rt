@@ -9,7 +9,7 @@ ghost use Rattle.meaning.specs.Rows as rows;
 ghost use Rattle.table_access.specs.Tables as tables;
 ghost use Rattle.erasure_laws.specs.Bodies as bodies;
 
-use erasure_laws::Ruled;
+use erasure_laws::{Ruled, Way};
 
 // The type that declaration d abbreviates is erased.
 fn abbrev_erased(
@@ -58,17 +58,18 @@ pub fn dtype_erased(
     requires state { bodies.State (tables.lines_in t.now) decl.now node.old member.old field.old wait.old right }
     ensures { bodies.Ruling (tables.lines_in t.now) decl.now node.new member.new field.new wait.new d result }
 {
-    let by = ways::way(t, d);
-    match by {
-        0 => Ruled {
+    match ways::way(t, d) {
+        Way::Erased => Ruled {
             erased: true,
             right,
         },
-        1 => Ruled {
+        Way::Kept => Ruled {
             erased: false,
             right,
         },
-        2 => abbrev_erased(t, decl, node, member, field, wait, d, right),
-        _ => erasure_fields::fields_erased(t, decl, node, member, field, wait, d, right),
+        Way::AsType => abbrev_erased(t, decl, node, member, field, wait, d, right),
+        Way::AsFields => {
+            erasure_fields::fields_erased(t, decl, node, member, field, wait, d, right)
+        }
     }
 }

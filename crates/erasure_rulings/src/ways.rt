@@ -4,56 +4,49 @@ ghost use Rattle.meaning.specs.Program as program;
 ghost use Rattle.table_access.specs.Tables as tables;
 ghost use Rattle.erasure_laws.specs.Bodies as bodies;
 
-// It is erased, or kept, whatever is marked; it is erased as its type is, or as its fields are.
-const ERASED: usize = 0;
-
-const KEPT: usize = 1;
-
-const TYPE: usize = 2;
-
-const FIELDS: usize = 3;
+use erasure_laws::Way;
 
 // A variant: of no constructor erased, of one as its fields, of several kept.
-fn variant_way(t: &[u32], d: usize) -> usize
+fn variant_way(t: &[u32], d: usize) -> Way
     requires tabled { tables.Tabled t.now }
     requires d_bound { (d < tables.decls_of (tables.lines_in t.now)) × bodies.ByBody (tables.lines_in t.now) d × (bodies.kind_of (tables.lines_in t.now) d ≡ 3) }
     ensures { bodies.Way (tables.lines_in t.now) d result }
 {
     let last = table_access::decl_number(t, d, 4);
     match last {
-        0 => ERASED,
-        1 => FIELDS,
-        _ => KEPT,
+        0 => Way::Erased,
+        1 => Way::AsFields,
+        _ => Way::Kept,
     }
 }
 
 // By the body.
-fn body_way(t: &[u32], d: usize) -> usize
+fn body_way(t: &[u32], d: usize) -> Way
     requires tabled { tables.Tabled t.now }
     requires d_bound { (d < tables.decls_of (tables.lines_in t.now)) × bodies.ByBody (tables.lines_in t.now) d }
     ensures { bodies.Way (tables.lines_in t.now) d result }
 {
     let kind = table_access::decl_number(t, d, 2);
     match kind {
-        1 => TYPE,
-        2 => FIELDS,
+        1 => Way::AsType,
+        2 => Way::AsFields,
         3 => variant_way(t, d),
-        _ => KEPT,
+        _ => Way::Kept,
     }
 }
 
 // By the flags, and then by the body.
-pub fn way(t: &[u32], d: usize) -> usize
+pub fn way(t: &[u32], d: usize) -> Way
     requires tabled { tables.Tabled t.now }
     requires d_bound { (d < tables.decls_of (tables.lines_in t.now)) × (program.is program.import_line (tables.head_line (tables.lines_in t.now) d) ≡ false) }
     ensures { bodies.Way (tables.lines_in t.now) d result }
 {
     let flags = table_access::decl_number(t, d, 1);
     if flags % 2 == 1 {
-        return ERASED;
+        return Way::Erased;
     }
     if flags / 2 % 2 == 1 {
-        return KEPT;
+        return Way::Kept;
     }
     body_way(t, d)
 }
