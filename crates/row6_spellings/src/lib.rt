@@ -14,17 +14,7 @@ const TEXT_BYTES: usize = 24;
 pub fn same(a: &[u8], b: &[u8]) -> bool
     ensures { result ≡ rows.equal a.now b.now }
 {
-    if a.len() != b.len() {
-        return false;
-    }
-    let mut i = 0;
-    while i < a.len() {
-        if a[i] != b[i] {
-            return false;
-        }
-        i += 1;
-    }
-    true
+    a == b
 }
 
 // The part of line i where an N line has its text and the spaces after it. Row 2 checked it, so nothing is checked here.
