@@ -4,7 +4,7 @@
 mod repeats;
 mod respellings;
 
-ghost use Rattle.std.specs.Prelude.{◌≡◌, map, min, length};
+ghost use Rattle.std.specs.Prelude.{◌≡◌, map, length};
 ghost use Rattle.walk_cells.specs.Cells.{lines_of, bare};
 ghost use Rattle.sheet.specs.Sheet as sheet;
 ghost use Rattle.meaning.specs.Program.{name_line};
@@ -33,24 +33,13 @@ fn repeated(t: &[u32], from: usize) -> usize
         params: 1,
         fields: 1,
     };
-    let mut i = from;
-    while i < n {
+    for i in from..n {
         if repeats::repeats(t, i, g, &mut declared, &mut params, &mut members) {
             return i;
         }
         g = repeats::groups_after(t, i, g);
-        i += 1;
     }
     n
-}
-
-fn least(a: usize, b: usize) -> usize
-    ensures { result ≡ min a b }
-{
-    if a < b {
-        return a;
-    }
-    b
 }
 
 // Row 6: the first line that repeats an earlier one, or the count of lines; names is the count of N
@@ -64,5 +53,5 @@ pub fn row6(s: &[u8], t: &[u32], names: usize, from: usize) -> usize
 {
     let spelled = respellings::respelled(s, names);
     let named = repeated(t, from);
-    least(spelled, named)
+    spelled.min(named)
 }

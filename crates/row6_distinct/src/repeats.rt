@@ -2,14 +2,14 @@
 // are four ways: the names of all declarations are to differ, of the parameters of one declaration,
 // of the fields of one constructor or record, and of all constructors and record types. For each way
 // the last group is kept in which each name was seen: those of constructors and of fields in one array.
-ghost use Rattle.std.specs.Prelude.{◌≡◌, ◌⊎◌, ◌||◌, ◌/◌, ◌<◌, eqb, length, get_or, set};
-ghost use Rattle.number_columns.specs.Column.{pick};
+ghost use Rattle.std.specs.Prelude.{◌≡◌, ◌⊎◌, ◌/◌, ◌<◌, eqb, length, get_or, set};
 ghost use Rattle.sheet.specs.Line.{letter};
 ghost use Rattle.walk_cells.specs.Cells.{lines_of};
 ghost use Rattle.meaning.specs.Rows as rows;
 ghost use Rattle.rows_header.specs.Header.{Lettered};
 ghost use Rattle.row6_distinct.specs.Ways as ways;
 
+use choices::pick;
 use row4_limits::NAMES;
 
 // Room for constructors, and behind them for fields.
@@ -23,44 +23,15 @@ pub struct Groups {
     pub fields: u16,
 }
 
-fn either(a: bool, b: bool) -> bool
-    ensures { result ≡ (a || b) }
-{
-    if a { true } else { b }
-}
-
-// Whether name x was seen in this group, and it is from now on.
-fn seen(last: &mut [u16; NAMES], x: usize, group: u16) -> bool
-    requires { x < 256 }
+// Whether the name at place x was seen in this group, and it is from now on.
+fn seen<const N: usize>(last: &mut [u16; N], x: usize, group: u16) -> bool
+    requires { x < N }
     ensures value { result ≡ eqb (get_or last.old x 0) group }
     ensures last_after { last.new ≡ set last.old x group }
 {
     let before = last[x];
     last[x] = group;
     before == group
-}
-
-// The same, of a constructor or, from place 256 on, a field.
-fn seen_member(last: &mut [u16; MEMBERS], x: usize, group: u16) -> bool
-    requires { x < 512 }
-    ensures value { result ≡ eqb (get_or last.old x 0) group }
-    ensures last_after { last.new ≡ set last.old x group }
-{
-    let before = last[x];
-    last[x] = group;
-    before == group
-}
-
-fn picked(b: bool, x: usize, y: usize) -> usize
-    ensures { result ≡ pick b x y }
-{
-    if b { x } else { y }
-}
-
-fn picked_group(b: bool, x: u16, y: u16) -> u16
-    ensures { result ≡ pick b x y }
-{
-    if b { x } else { y }
 }
 
 // Line i, a D or I line.
@@ -77,7 +48,7 @@ fn head_repeats(
     let x = walk_cells::number(t, i, 0) as usize;
     let again = seen(declared, x, 1);
     if walk_cells::number(t, i, 2) == 2 {
-        return either(again, seen_member(members, x, 1));
+        return again | seen(members, x, 1);
     }
     again
 }
@@ -128,9 +99,9 @@ pub fn repeats(
         return head_repeats(t, i, declared, members);
     }
     let x = walk_cells::number(t, i, 0) as usize;
-    let place = picked(letter == 70, NAMES, 0) + x;
-    let group = picked_group(letter == 70, g.fields, 1);
-    seen_member(members, place, group)
+    let place = pick(letter == 70, NAMES, 0) + x;
+    let group = pick(letter == 70, g.fields, 1);
+    seen(members, place, group)
 }
 
 // The groups after line i: a declaration begins one for its parameters, and one for its fields, and
@@ -158,6 +129,6 @@ pub fn groups_after(t: &[u32], i: usize, g: Groups) -> Groups
     }
     Groups {
         params: g.params,
-        fields: g.fields + picked_group(letter < 68, 1, 0),
+        fields: g.fields + u16::from(letter < 68),
     }
 }

@@ -10,14 +10,9 @@ ghost use Rattle.row6_distinct.specs.Keys.{Last, Befores};
 
 use sheet_parts::LINE;
 
-fn wide(x: u16) -> usize
-    ensures { result ≡ x }
-{
-    x as usize
-}
-
 // A line before line i has its text. Of these lines only those of its key are looked at: line last - 1,
 // then line before[last - 1] - 1 and so on, up to 0.
+// A while and no for: the step is a link, and not one.
 fn spelled_before(s: &[u8], i: usize, last: usize, before: &[u16; 256]) -> bool
     requires i_bound { (i < sheet.count 6 s.now) × (i < 256) }
     requires last { Last s.now (key_of (text_at 6 s.now i)) i last }
@@ -31,7 +26,7 @@ fn spelled_before(s: &[u8], i: usize, last: usize, before: &[u16; 256]) -> bool
         if row6_spellings::same(row6_spellings::text(s, j), own) {
             return true;
         }
-        c = wide(before[j]);
+        c = usize::from(before[j]);
     }
     false
 }
@@ -45,16 +40,14 @@ pub fn respelled(s: &[u8], names: usize) -> usize
 {
     let mut lasts = [0u16; 1000];
     let mut before = [0u16; 256];
-    let mut i = 0;
-    while i < names {
+    for i in 0..names {
         let k = number_words::key(row6_spellings::text(s, i));
         let last = lasts[k];
-        if spelled_before(s, i, wide(last), &before) {
+        if spelled_before(s, i, usize::from(last), &before) {
             return i;
         }
         before[i] = last;
         lasts[k] = (i + 1) as u16;
-        i += 1;
     }
     s.len() / LINE
 }
