@@ -4,13 +4,13 @@
 mod verdict_lines;
 
 ghost use Rattle.std.specs.Prelude.{◌≡◌, ◌/◌, ◌≤◌, ◌<◌, length};
-ghost use Rattle.number_columns.specs.Column.{pick};
 ghost use Rattle.walk_cells.specs.Cells.{lines_of};
 ghost use Rattle.sheet.specs.Sheet as sheet;
 ghost use Rattle.meaning.specs.Rows as rows;
 ghost use Rattle.rows_header.specs.Header.{Headed, Lettered};
 ghost use Rattle.row7_verdicts.specs.Verdicts as verdicts;
 
+use choices::pick;
 use walk_cells::CELLS;
 
 // The declaration that a line is in: the line at which it begins, the largest keep number in it, how many of its fields up to that
@@ -22,12 +22,6 @@ pub struct Decl {
     pub kept: usize,
     pub tag: usize,
     pub step: usize,
-}
-
-fn picked(b: bool, x: usize, y: usize) -> usize
-    ensures { result ≡ pick b x y }
-{
-    if b { x } else { y }
 }
 
 // The V line i of the declaration that begins at line `head`, of whose fields so many are kept.
@@ -62,7 +56,7 @@ fn good_line(t: &[u32], d: Decl, i: usize) -> bool
         return true;
     }
     let third = walk_cells::number(t, i, 2) as usize;
-    third == picked(letter == 70, third & d.most, d.tag)
+    third == pick(letter == 70, third & d.most, d.tag)
 }
 
 // The declaration that line i is in, where the line before it is in d, and line i is as it should be. The keep number of an F line
@@ -75,7 +69,7 @@ fn decl_at(t: &[u32], d: Decl, i: usize) -> Decl
     let letter = walk_cells::letter(t, i);
     if letter > 70 {
         if letter == 73 {
-            let step = picked(walk_cells::number(t, i, 4) == 1, 0, 1);
+            let step = pick(walk_cells::number(t, i, 4) == 1, 0, 1);
             return Decl {
                 head: i,
                 most: 1,
@@ -96,8 +90,8 @@ fn decl_at(t: &[u32], d: Decl, i: usize) -> Decl
         };
     }
     let third = walk_cells::number(t, i, 2) as usize;
-    let keep = picked(letter == 70, third, 0);
-    let tag = picked(letter == 70, d.tag, third + d.step);
+    let keep = pick(letter == 70, third, 0);
+    let tag = pick(letter == 70, d.tag, third + d.step);
     Decl {
         head: d.head,
         most: d.most,
@@ -120,13 +114,11 @@ pub fn row7(t: &[u32], from: usize) -> usize
         tag: 0,
         step: 0,
     };
-    let mut i = from;
-    while i < n {
+    for i in from..n {
         if !good_line(t, d, i) {
             return i;
         }
         d = decl_at(t, d, i);
-        i += 1;
     }
     n
 }

@@ -1,14 +1,8 @@
 // The V lines of row 7: of an import, by its declaration's first line and kept fields, and of a local declaration.
-ghost use Rattle.std.specs.Prelude.{◌≡◌, ◌&&◌, ◌/◌, ◌<◌, length};
+ghost use Rattle.std.specs.Prelude.{◌≡◌, ◌/◌, ◌<◌, length};
 ghost use Rattle.walk_cells.specs.Cells.{lines_of};
 ghost use Rattle.meaning.specs.Rows as rows;
 ghost use Rattle.row7_verdicts.specs.VerdictLines as lines;
-
-fn both(a: bool, b: bool) -> bool
-    ensures { result ≡ (a && b) }
-{
-    if a { b } else { false }
-}
 
 // A record, or a variant of one constructor.
 fn one_ctor(kind: u32, last: u32) -> bool
@@ -25,10 +19,7 @@ fn one_ctor(kind: u32, last: u32) -> bool
 fn has_ctors(kind: u32) -> bool
     ensures { result ≡ lines.has_ctors kind }
 {
-    match kind {
-        2..=3 => true,
-        _ => false,
-    }
+    matches!(&kind, 2..=3)
 }
 
 // An import's layout that is not erased, by its declaration's body kind and last number and its kept fields.
@@ -36,7 +27,7 @@ fn good_layout(layout: u32, kind: u32, last: u32, kept: usize) -> bool
     ensures { result ≡ lines.good_layout layout kind last kept }
 {
     match layout {
-        1 => both(one_ctor(kind, last), kept == 1),
+        1 => one_ctor(kind, last) & (kept == 1),
         2 => has_ctors(kind),
         3 => kind == 1,
         4 => kind == 0,
@@ -59,7 +50,7 @@ pub fn good_verdict(t: &[u32], head: usize, kept: usize, i: usize) -> bool
     }
     match layout {
         0 => erased == 1,
-        _ => both(erased == 0, good_layout(layout, kind, last, kept)),
+        _ => (erased == 0) & good_layout(layout, kind, last, kept),
     }
 }
 
@@ -71,5 +62,5 @@ pub fn no_verdict(t: &[u32], i: usize) -> bool
     let erased = walk_cells::number(t, i, 0);
     let layout = walk_cells::number(t, i, 1);
     let as_record = walk_cells::number(t, i, 2);
-    both(both(erased == 0, layout == 0), as_record == 0)
+    (erased == 0) & (layout == 0) & (as_record == 0)
 }
