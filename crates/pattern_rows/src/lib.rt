@@ -8,8 +8,13 @@ ghost use Rattle.walk_cells.specs.Cells.{lines_of};
 ghost use Rattle.sheet.specs.Sheet.{first};
 ghost use Rattle.pattern_rows.specs.Links as links;
 
-use pattern_lines::LINKS;
 use walk_cells::CELLS;
+
+// At most so many Q lines.
+pub const PATTERNS: usize = 256;
+
+// A link is 0, or the number plus one of a line.
+pub const LINKS: usize = PATTERNS + 1;
 
 // Row 5 of at most 256 Q lines, where there are so many names. The lines that a line passed names are kept, by their links.
 pub fn row5(q: &[u32], names: usize) -> usize
@@ -18,8 +23,7 @@ pub fn row5(q: &[u32], names: usize) -> usize
 {
     let n = q.len() / CELLS;
     let mut linked = [0u8; LINKS];
-    let mut i = 0;
-    while i < n {
+    for i in 0..n {
         if !pattern_lines::good_line(q, i, names, &linked) {
             return i;
         }
@@ -27,7 +31,6 @@ pub fn row5(q: &[u32], names: usize) -> usize
         let previous = walk_cells::number(q, i, 3) as usize;
         linked[last] = 1;
         linked[previous] = 1;
-        i += 1;
     }
     n
 }

@@ -1,29 +1,15 @@
 // Row 5 for one Q line, part by part: a link's line is looked at where it is a lower one.
-ghost use Rattle.std.specs.Prelude.{◌≡◌, ◌&&◌, ◌||◌, ◌/◌, ◌<◌, length};
+ghost use Rattle.std.specs.Prelude.{◌≡◌, ◌/◌, ◌<◌, length};
 ghost use Rattle.walk_cells.specs.Cells.{lines_of};
 ghost use Rattle.meaning.specs.Rows.{nth_line};
 ghost use Rattle.meaning_patterns.specs.Patterns as patterns;
 ghost use Rattle.pattern_rows.specs.Links as links;
 
+use crate::LINKS;
 use walk_cells::CELLS;
-
-// A link is 0, or the number plus one of one of 256 lines.
-pub const LINKS: usize = 257;
 
 // The highest kind of a line.
 const KINDS: u32 = 6;
-
-fn both(a: bool, b: bool) -> bool
-    ensures { result ≡ (a && b) }
-{
-    if a { b } else { false }
-}
-
-fn either(a: bool, b: bool) -> bool
-    ensures { result ≡ (a || b) }
-{
-    if a { true } else { b }
-}
 
 // The number of line i, by its kind.
 fn good_name(q: &[u32], i: usize, names: usize) -> bool
@@ -46,13 +32,7 @@ fn good_link(linked: &[u8; LINKS], i: usize, k: usize) -> bool
     requires { i < 256 }
     ensures { result ≡ links.free_link linked.now i k }
 {
-    if k == 0 {
-        return true;
-    }
-    if k > i {
-        return false;
-    }
-    linked[k] == 0
+    k == 0 || (k <= i && linked[k] == 0)
 }
 
 // The last part of line i, by the line's kind and the part's field.
@@ -100,10 +80,7 @@ fn good_whole(q: &[u32], i: usize) -> bool
     if i + 1 != q.len() / CELLS {
         return true;
     }
-    both(
-        walk_cells::number(q, i, 3) == 0,
-        walk_cells::number(q, i, 4) == 0,
-    )
+    (walk_cells::number(q, i, 3) == 0) & (walk_cells::number(q, i, 4) == 0)
 }
 
 // Both links of line i, which name two lines where they name any.
@@ -114,8 +91,8 @@ fn good_links(q: &[u32], i: usize, linked: &[u8; LINKS]) -> bool
 {
     let last = walk_cells::number(q, i, 2) as usize;
     let previous = walk_cells::number(q, i, 3) as usize;
-    let free = both(good_link(linked, i, last), good_link(linked, i, previous));
-    both(free, either(last == 0, last != previous))
+    let free = good_link(linked, i, last) & good_link(linked, i, previous);
+    free & ((last == 0) | (last != previous))
 }
 
 // The other numbers of line i.
@@ -125,7 +102,7 @@ fn good_own(q: &[u32], i: usize, names: usize) -> bool
 {
     let kind = walk_cells::number(q, i, 0);
     let field = walk_cells::number(q, i, 4) as usize;
-    both(both(kind <= KINDS, good_name(q, i, names)), field <= names)
+    (kind <= KINDS) & good_name(q, i, names) & (field <= names)
 }
 
 // The lines that line i names, which are lower ones.
@@ -133,7 +110,7 @@ fn good_parts(q: &[u32], i: usize) -> bool
     requires { (i < length q.now / 6) × links.Lower (nth_line (lines_of q.now) i) i }
     ensures { result ≡ links.good_parts (lines_of q.now) i }
 {
-    both(both(good_previous(q, i), good_last(q, i)), good_whole(q, i))
+    good_previous(q, i) & good_last(q, i) & good_whole(q, i)
 }
 
 // Line i: its links are looked at before the lines that they name.
@@ -145,5 +122,5 @@ pub fn good_line(q: &[u32], i: usize, names: usize, linked: &[u8; LINKS]) -> boo
     if !good_links(q, i, linked) {
         return false;
     }
-    both(good_own(q, i, names), good_parts(q, i))
+    good_own(q, i, names) & good_parts(q, i)
 }
