@@ -10,10 +10,8 @@ ghost use Rattle.meaning_patterns.specs.Patterns as patterns;
 ghost use Rattle.pattern_rows.specs.Links as links;
 ghost use Rattle.pattern_counts.specs.Counts as counts;
 
+use pattern_rows::LINKS;
 use walk_cells::CELLS;
-
-// A link is 0, or the number plus one of one of 256 lines.
-const LINKS: usize = 257;
 
 // A `PCtor`'s kind.
 const CTOR: u32 = 3;
@@ -45,14 +43,12 @@ pub fn row13(q: &[u32], fields: &[u16]) -> usize
 {
     let n = q.len() / CELLS;
     let mut ends = [0u16; LINKS];
-    let mut i = 0;
-    while i < n {
+    for i in 0..n {
         if miscounted(q, i, fields, &ends) {
             return i;
         }
         let previous = walk_cells::number(q, i, 3) as usize;
         ends[i + 1] = ends[previous] + 1;
-        i += 1;
     }
     n
 }
