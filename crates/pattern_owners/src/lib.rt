@@ -10,17 +10,6 @@ ghost use Rattle.pattern_owners.specs.Places as places;
 
 use walk_cells::CELLS;
 
-// No line has an owner.
-fn clear(own: &mut [u16])
-    ensures { places.Zeros own.new (length own.new) }
-{
-    let mut i = 0;
-    while i < own.len() {
-        own[i] = 0;
-        i += 1;
-    }
-}
-
 // The line that a link names has the owner v.
 fn claim(own: &mut [u16], link: usize, v: u16)
     requires { link ≤ length own.old }
@@ -50,10 +39,9 @@ pub fn owners(q: &[u32], own: &mut [u16])
     requires own_len { length own.old ≡ length (lines_of q.now) }
     ensures { own.new ≡ marks.owners_of (lines_of q.now) }
 {
-    let mut i = q.len() / CELLS;
-    clear(own);
-    while 0 < i {
-        i -= 1;
+    let n = q.len() / CELLS;
+    own.fill(0);
+    for i in (0..n).rev() {
         claim_parts(q, own, i);
     }
 }
@@ -76,9 +64,7 @@ pub fn places(q: &[u32], place: &mut [u16])
     ensures { places.Placed (lines_of q.now) place.new }
 {
     let n = q.len() / CELLS;
-    let mut i = 0;
-    while i < n {
+    for i in 0..n {
         place[i] = place_behind(place, walk_cells::number(q, i, 3) as usize);
-        i += 1;
     }
 }
