@@ -39,9 +39,7 @@ pub fn add_list(t: &[u32], sets: &mut [u64], words: usize, y: usize, first: usiz
 {
     let row = y * words;
     for w in 0..words {
-        let more = list_word(t, sets, words, w, first, k);
-        let x = sets[row + w];
-        sets[row + w] = x | more;
+        sets[row + w] |= list_word(t, sets, words, w, first, k);
     }
 }
 
