@@ -23,8 +23,7 @@ pub fn edges(sets: &[u64], words: usize, types: usize, bodies: &[u16], steps: &m
     requires words_in_bounds_2 { length bodies.now * words ≤ length steps.old }
     ensures { Edges words types sets.now bodies.now (length bodies.now) steps.old steps.new }
 {
-    for d in 0..bodies.len() {
-        let body = bodies[d] as usize;
-        edge(sets, words, types, body, steps, d);
+    for (d, body) in bodies.iter().enumerate() {
+        edge(sets, words, types, usize::from(*body), steps, d);
     }
 }
