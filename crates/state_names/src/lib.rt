@@ -12,44 +12,34 @@ ghost use Rattle.state_names.specs.Cells as cells;
 
 use keep_layouts::{Layout, Verdict};
 
-// How a name is replaced, and by which Y line.
-#[derive(Clone, Copy)]
-struct Pair {
-    state: u16,
-    body: u16,
-}
-
 // The first cell of an abbreviation: it is unfolded, or its name stays.
 fn abbreviation(t: &[u32], d: usize) -> u16
     requires tabled { tables.Tabled t.now }
     requires d_bound { d < tables.decls_of (tables.lines_in t.now) }
     ensures { result ≡ pick (passes.named (tables.lines_in t.now) d) 3 2 }
 {
-    if collapse_passes::stays(t, d) {
-        return 3;
-    }
-    2
+    if collapse_passes::stays(t, d) { 3 } else { 2 }
 }
 
-// The cells of declaration d, from its layout.
-fn cells(t: &[u32], l: Layout, d: usize) -> Pair
+// The cells of declaration d, from its layout: how its name is replaced, and by which Y line.
+fn cells(t: &[u32], l: Layout, d: usize) -> (u16, u16)
     requires tabled { tables.Tabled t.now }
     requires d_bound { d < tables.decls_of (tables.lines_in t.now) }
     requires known { cells.Known (tables.lines_in t.now) d l }
-    ensures { cells.Told (tables.lines_in t.now) d l result.state result.body }
+    ensures { cells.Told (tables.lines_in t.now) d l result.0 result.1 }
 {
     match l {
-        Layout::Erased => Pair { state: 0, body: 0 },
-        Layout::Newtype { ctor: _, field } => Pair {
-            state: 1,
-            body: collapse_candidates::payloads::payload(t, field as usize) as u16,
-        },
-        Layout::Struct => Pair { state: 3, body: 0 },
-        Layout::Abbreviation => Pair {
-            state: abbreviation(t, d),
-            body: table_access::decl_number(t, d, 4) as u16,
-        },
-        Layout::Opaque => Pair { state: 3, body: 0 },
+        Layout::Erased => (0, 0),
+        Layout::Newtype { ctor: _, field } => (
+            1,
+            collapse_candidates::payloads::payload(t, field as usize) as u16,
+        ),
+        Layout::Struct => (3, 0),
+        Layout::Abbreviation => (
+            abbreviation(t, d),
+            table_access::decl_number(t, d, 4) as u16,
+        ),
+        Layout::Opaque => (3, 0),
     }
 }
 
@@ -60,9 +50,9 @@ fn put_state(t: &[u32], l: Layout, u: &mut [u16], d: usize)
     requires known { cells.Known (tables.lines_in t.now) d l }
     ensures { cells.Put (tables.lines_in t.now) d l u.old u.new }
 {
-    let c = cells(t, l, d);
-    u[2 * d] = c.state;
-    u[2 * d + 1] = c.body;
+    let (state, body) = cells(t, l, d);
+    u[2 * d] = state;
+    u[2 * d + 1] = body;
 }
 
 // The cells of every declaration.
@@ -72,10 +62,7 @@ pub fn states(t: &[u32], vs: [Verdict; 96], u: &mut [u16])
     requires u_len { length u.old ≡ 2 * tables.decls_of (tables.lines_in t.now) }
     ensures { states.Settled (tables.lines_in t.now) u.new }
 {
-    let n = table_access::decls(t);
-    for d in 0..n {
-        let v = vs[d];
-        let l = v.layout;
-        put_state(t, l, u, d);
+    for d in 0..table_access::decls(t) {
+        put_state(t, vs[d].layout, u, d);
     }
 }
