@@ -29,10 +29,9 @@ fn put_ctors(t: &[u32], m: &mut [u16], d: usize)
     ensures { sites.SitedFrom (tables.lines_in t.now) m.new d }
 {
     let first = table_access::first_ctor(t, d);
-    let mut c = table_access::first_ctor(t, d + 1);
+    let end = table_access::first_ctor(t, d + 1);
     let mut f = table_access::first_field(t, d + 1);
-    while first < c {
-        c -= 1;
+    for c in (first..end).rev() {
         let k = table_access::ctor_number(t, c, 1) as usize;
         f -= k;
         put(m, table_access::ctor_number(t, c, 0) as usize, d, f, k);
@@ -55,26 +54,13 @@ fn put_decl(t: &[u32], m: &mut [u16], d: usize)
     }
 }
 
-// No constructor at all.
-fn clear(m: &mut [u16])
-    ensures { sites.Cleared m.new (length m.new) }
-{
-    let mut i = 0;
-    while i < m.len() {
-        m[i] = 0;
-        i += 1;
-    }
-}
-
 // The cells of every name.
 pub fn fill(t: &[u32], m: &mut [u16])
     requires { tables.Tabled t.now × (length m.old ≡ 3 * count_of name_line (tables.lines_in t.now)) }
     ensures { sites.Sited (tables.lines_in t.now) m.new }
 {
-    let mut d = table_access::decls(t);
-    clear(m);
-    while 0 < d {
-        d -= 1;
+    m.fill(0);
+    for d in (0..table_access::decls(t)).rev() {
         put_decl(t, m, d);
     }
 }
@@ -96,10 +82,7 @@ pub fn counts(t: &[u32], m: &[u16], fields: &mut [u16])
     requires fields_len { length fields.old ≡ count_of name_line (tables.lines_in t.now) }
     ensures { owners.CountsTo (tables.lines_in t.now) fields.new (length fields.new) }
 {
-    let n = table_access::names(t);
-    let mut i = 0;
-    while i < n {
-        fields[i] = count_of(m, i);
-        i += 1;
+    for n in 0..table_access::names(t) {
+        fields[n] = count_of(m, n);
     }
 }
