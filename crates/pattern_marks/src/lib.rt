@@ -10,17 +10,23 @@ ghost use Rattle.pattern_marks.specs.Tables as by;
 use form_node_words::state;
 use walk_cells::CELLS;
 
+// The marks: wild, its own kind, and the part that is kept. Numbers and no enum: the contract of `marks`, which may not change, tells
+// bytes.
+const WILD: u8 = 0;
+
+const OWN: u8 = 1;
+
+const PART: u8 = 2;
+
 // The mark of a constructor or a record, by what becomes of its type's name.
 fn state_mark(s: usize) -> u8
     ensures { result ≡ by.state_mark s }
 {
-    if s == 0 {
-        return 0;
+    match s {
+        0 => WILD,
+        1 => PART,
+        _ => OWN,
     }
-    if s == 1 {
-        return 2;
-    }
-    1
 }
 
 // The mark of a constructor.
@@ -30,7 +36,7 @@ fn ctor_mark(u: &[u16], m: &[u16], n: usize) -> u8
 {
     let a = m[3 * n] as usize;
     if a == 0 {
-        return 1;
+        return OWN;
     }
     state_mark(state(u, a - 1))
 }
@@ -40,15 +46,14 @@ fn mark_at(t: &[u32], u: &[u16], m: &[u16], q: &[u32], i: usize) -> u8
     requires { by.Given t.now m.now (lines_of q.now) × (i < length (lines_of q.now)) }
     ensures { result ≡ by.mark_at (tables.lines_in t.now) u.now m.now (lines_of q.now) i }
 {
-    let kind = walk_cells::number(q, i, 0);
-    if kind == 3 {
-        return ctor_mark(u, m, walk_cells::number(q, i, 1) as usize);
+    match walk_cells::number(q, i, 0) {
+        3 => ctor_mark(u, m, walk_cells::number(q, i, 1) as usize),
+        4 => {
+            let d = table_access::decl_of(t, walk_cells::number(q, i, 1) as usize);
+            state_mark(state(u, d))
+        }
+        _ => OWN,
     }
-    if kind == 4 {
-        let d = table_access::decl_of(t, walk_cells::number(q, i, 1) as usize);
-        return state_mark(state(u, d));
-    }
-    1
 }
 
 // The mark of each line.
@@ -56,10 +61,7 @@ pub fn marks(t: &[u32], u: &[u16], m: &[u16], q: &[u32], marks: &mut [u8])
     requires { by.Given t.now m.now (lines_of q.now) × (length (lines_of q.now) ≤ length marks.old) }
     ensures { by.MarksTo (tables.lines_in t.now) u.now m.now (lines_of q.now) marks.new (length (lines_of q.now)) }
 {
-    let n = q.len() / CELLS;
-    let mut i = 0;
-    while i < n {
+    for i in 0..q.len() / CELLS {
         marks[i] = mark_at(t, u, m, q, i);
-        i += 1;
     }
 }
