@@ -19,7 +19,7 @@ pub enum Only {
 }
 
 // Declaration d has one constructor: a record counts as one.
-fn one_ctor(t: &[u32], d: usize) -> bool
+pub fn one_ctor(t: &[u32], d: usize) -> bool
     requires tabled { tables.Tabled t.now }
     requires d_bound { d < tables.decls_of (tables.lines_in t.now) }
     ensures { result ≡ newtypes.one_ctor (tables.lines_in t.now) d }
