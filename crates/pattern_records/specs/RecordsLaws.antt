@@ -3,6 +3,7 @@ use Rattle.std.specs.Prelude.{◌≡◌, List, [], ◌∷◌, ◌++◌, Bool, �
 use Rattle.std.proofs.Math.Path.{refl, ap}
 use Rattle.std.proofs.Common.{◌∙◌}
 use Rattle.std.proofs.Math.Bool.{true, false}
+use mir.Val.{bool_byte}
 use Prim.Native.Nat.{ℕ, suc, ◌+◌, ◌-◌, ◌≤◌, ◌<◌}
 use native.Mathlib.Omega.{arith}
 use Rattle.std.proofs.Math.Numerals.{add-one}
@@ -14,7 +15,7 @@ use Rattle.meaning.specs.Rows.{nth_line}
 use Rattle.meaning_patterns.specs.Patterns.{previous_of, field_of}
 use Rattle.table_access.specs.Tables.{nth}
 use Rattle.pattern_laws.specs.Linked.{Linked}
-use Rattle.pattern_laws.specs.Marks.{has_field, fields_to}
+use Rattle.pattern_laws.specs.Marks.{kept_if, has_field, fields_to}
 use Rattle.pattern_owners.specs.PlacesLaws.{fields_more, fields_none}
 use Rattle.pattern_records.specs.Records.{keeps_name, names_kept}
 
@@ -48,6 +49,11 @@ module _ (ls : List Line) (keep : List ℕ) (f end x : ℕ) where
   pub names_more : f < end → names_kept ls keep f (end - f) x ≡ (keeps_name ls keep f x || names_kept ls keep (f + 1) (end - (f + 1)) x)
   unfolding names_kept
   names_more h = let e : end - f ≡ suc (end - suc f) = omega arith in rw (e, add-one f)
+
+-- ---- a flag that is a test's outcome
+pub kept_byte : (b : Bool) → bool_byte b ≡ kept_if b
+kept_byte true = refl
+kept_byte false = refl
 
 -- ---- the fields of a list
 has_last : (f g : ℕ) (fs : List ℕ) → has_field f (fs ++ (g ∷ [])) ≡ (eqb g f || has_field f fs)

@@ -1,5 +1,5 @@
-// What becomes of a part of a `PRecord`, by its field and what becomes of the record's type: as a flag, 0 where it is dropped, 1
-// where it is kept, and 2 where it is lost, which is to say dropped and its names not freed.
+// What becomes of a part of a `PRecord`, by its field and what becomes of the record's type: as a flag, by which it is dropped,
+// kept, or lost, which is to say dropped and its names not freed.
 #![tactic(auto)]
 
 ghost use Rattle.std.specs.Prelude.{◌≡◌, ◌+◌, ◌-◌, ◌≤◌, ◌<◌, length};
@@ -7,12 +7,19 @@ ghost use Rattle.walk_cells.specs.Cells.{lines_of};
 ghost use Rattle.meaning.specs.Program.{field_line};
 ghost use Rattle.meaning.specs.Rows.{count_of};
 ghost use Rattle.table_access.specs.Tables as tables;
-ghost use Rattle.collapse_newtypes.specs.Newtypes.{one_ctor};
 ghost use Rattle.pattern_laws.specs.Linked.{Linked};
 ghost use Rattle.pattern_laws.specs.Marks as marks;
 ghost use Rattle.pattern_records.specs.Records as by;
 
+use collapse_newtypes::one_ctor;
 use form_node_words::state;
+
+// The flags. Numbers and no enum: the contract of `record_flag`, which may not change, tells a number.
+pub const DROPPED: u8 = 0;
+
+pub const KEPT: u8 = 1;
+
+pub const LOST: u8 = 2;
 
 // F line f is kept, and x is its name plus one.
 fn keeps_name(t: &[u32], keep: &[u8], f: usize, x: u32) -> bool
@@ -23,10 +30,7 @@ fn keeps_name(t: &[u32], keep: &[u8], f: usize, x: u32) -> bool
     if keep[f] != 1 {
         return false;
     }
-    if x == 0 {
-        return false;
-    }
-    table_access::field_number(t, f, 0) == x - 1
+    x != 0 && table_access::field_number(t, f, 0) == x - 1
 }
 
 // One of the F lines from line `from` on and before line `end` is.
@@ -35,12 +39,10 @@ fn names_kept(t: &[u32], keep: &[u8], from: usize, end: usize, x: u32) -> bool
     requires end_bound { (end ≤ count_of field_line (tables.lines_in t.now)) × (end ≤ length keep.now) }
     ensures { result ≡ by.names_kept (tables.lines_in t.now) keep.now from (end - from) x }
 {
-    let mut f = from;
-    while f < end {
+    for f in from..end {
         if keeps_name(t, keep, f, x) {
             return true;
         }
-        f += 1;
     }
     false
 }
@@ -62,28 +64,13 @@ fn has_field(q: &[u32], link: usize, f: u32) -> bool
     requires { Linked (lines_of q.now) × (link ≤ length (lines_of q.now)) }
     ensures { result ≡ marks.has_field f (marks.fields_to (lines_of q.now) link) }
 {
+    // A while and no for: the step is not one, but from a part to the part before it in the list.
     let mut k = link;
     while k != 0 {
         if walk_cells::number(q, k - 1, 4) == f {
             return true;
         }
         k = walk_cells::number(q, k - 1, 3) as usize;
-    }
-    false
-}
-
-// Declaration d has one constructor: a record counts as one.
-fn has_one(t: &[u32], d: usize) -> bool
-    requires tabled { tables.Tabled t.now }
-    requires d_bound { d < tables.decls_of (tables.lines_in t.now) }
-    ensures { result ≡ one_ctor (tables.lines_in t.now) d }
-{
-    let kind = table_access::decl_number(t, d, 2);
-    if kind == 2 {
-        return true;
-    }
-    if kind == 3 {
-        return table_access::decl_number(t, d, 4) == 1;
     }
     false
 }
@@ -95,13 +82,13 @@ fn newtype_flag(t: &[u32], keep: &[u8], q: &[u32], d: usize, link: usize, f: u32
     requires linked { Linked (lines_of q.now) × (link ≤ length (lines_of q.now)) }
     ensures { result ≡ by.newtype_flag (tables.lines_in t.now) keep.now (lines_of q.now) d link f }
 {
-    if decl_names(t, keep, d, f) {
-        if has_field(q, link, f) {
-            return 2;
-        }
-        return 1;
+    if !decl_names(t, keep, d, f) {
+        return DROPPED;
     }
-    0
+    if has_field(q, link, f) {
+        return LOST;
+    }
+    KEPT
 }
 
 // The same of a struct: of a struct of one constructor the parts of kept fields are kept.
@@ -109,13 +96,10 @@ fn struct_flag(t: &[u32], keep: &[u8], d: usize, f: u32) -> u8
     requires { by.Reading t.now keep.now d }
     ensures { result ≡ by.struct_flag (tables.lines_in t.now) keep.now d f }
 {
-    if has_one(t, d) {
-        if decl_names(t, keep, d, f) {
-            return 1;
-        }
-        return 0;
+    if one_ctor(t, d) {
+        return u8::from(decl_names(t, keep, d, f));
     }
-    1
+    KEPT
 }
 
 // The same of any declaration, or of none.
@@ -133,14 +117,11 @@ pub fn record_flag(
     ensures { result ≡ by.record_flag (tables.lines_in t.now) keep.now u.now (lines_of q.now) d link f }
 {
     if d == table_access::decls(t) {
-        return 1;
+        return KEPT;
     }
-    let s = state(u, d);
-    if s == 0 {
-        return 0;
+    match state(u, d) {
+        0 => DROPPED,
+        1 => newtype_flag(t, keep, q, d, link, f),
+        _ => struct_flag(t, keep, d, f),
     }
-    if s == 1 {
-        return newtype_flag(t, keep, q, d, link, f);
-    }
-    struct_flag(t, keep, d, f)
 }
