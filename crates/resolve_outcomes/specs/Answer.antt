@@ -1,6 +1,6 @@
 -- Answers: what the code says of an evaluation, in one number. It looks at a type through its parts,
 -- whatever its kind. Assumes nothing.
-use Rattle.std.specs.Prelude.{◌≡◌, List, Bool, true, false, ℕ, zero, suc, ◌≤◌, eqb}
+use Rattle.std.specs.Prelude.{◌≡◌, Bool, true, false, ℕ, zero, suc, ◌≤◌, eqb}
 use Rattle.number_columns.specs.Column.{◌⇒◌∥◌}
 use Rattle.model.specs.Cty.{
   Cty,

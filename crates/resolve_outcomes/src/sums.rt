@@ -14,11 +14,7 @@ pub fn more(a: usize, b: usize) -> usize
     requires { (a ≤ 1025) × (b < 65536) }
     ensures { result ≡ scratch.capped 1024 (a + b) }
 {
-    let n = a + b;
-    if n > LIMIT {
-        return 1025;
-    }
-    n
+    (a + b).min(LIMIT + 1)
 }
 
 // The nodes of `count` outcomes from place `at` on, added to `from`.

@@ -1,8 +1,8 @@
 -- Laws of answers, and of a type seen through its parts. Assumes nothing.
 use Rattle.std.proofs.Math.Path.{◌≡◌, refl, ap, subst, fun_ext}
-use Rattle.std.proofs.Common.{ap₂, sym, ◌∙◌, arith, ne_eqb}
+use Rattle.std.proofs.Common.{sym, ◌∙◌, arith, ne_eqb}
 use mathlib.Core.List.{List, [], ◌∷◌, ◌++◌}
-use Rattle.std.specs.Prelude.{Bool, true, false, eqb, leb, ltb, length}
+use Rattle.std.specs.Prelude.{Bool, true, false, eqb}
 use Prim.Native.Nat.{ℕ, zero, suc, ◌+◌, ◌≤◌, ◌<◌}
 use Rattle.std.proofs.lemmas.Bool.{eqb-false}
 use Rattle.number_columns.specs.Column.{◌⇒◌∥◌}
@@ -30,8 +30,7 @@ use Rattle.model.specs.Cty.{
 }
 use Rattle.model.specs.Resolve.{Unfold, Result, ok, fault, spent, bind}
 use Rattle.resolve_outcomes.specs.Outcome.{other, built, weight, weights, instance_head, Next, eval, evals}
-use Rattle.resolve_outcomes.specs.Answer.{parts, plain, listed, no_fuel, no_room, nine, ten, answer, Told}
-use Rattle.resolve_outcomes.proofs.Laws.Ev.{bind_assoc}
+use Rattle.resolve_outcomes.specs.Answer.{parts, plain, listed, nine, answer, Told}
 use Rattle.resolve_outcomes.specs.Leads.{Leads}
 use Rattle.resolve_outcomes.proofs.Laws.Fuel.{leads_same, bind_leads}
 

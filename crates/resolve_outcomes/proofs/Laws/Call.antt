@@ -1,13 +1,13 @@
 -- Laws of a call: its counts, and its instance's size, by the arguments and the surplus. Assumes nothing.
 use Rattle.std.proofs.Math.Path.{◌≡◌, refl, ap}
-use Rattle.std.proofs.Common.{ap₂, sym, ◌∙◌, subst}
-use mathlib.Core.List.{List, [], ◌∷◌, ◌++◌}
-use Rattle.std.specs.Prelude.{Bool, ℕ, zero, suc, ◌+◌, ◌-◌, ◌*◌, ◌/◌, ◌%◌, ◌≤◌, ◌<◌, length, drop}
+use Rattle.std.proofs.Common.{◌∙◌}
+use mathlib.Core.List.{List, [], ◌∷◌}
+use Rattle.std.specs.Prelude.{Bool, ℕ, zero, suc, ◌+◌, ◌*◌, ◌≤◌, ◌<◌, length, drop}
 use Rattle.std.proofs.Math.Bool.{true, false}
 use native.Mathlib.Omega.{arith}
 use Rattle.std.proofs.Math.Dec.{eqb, leb, ltb}
 use Rattle.std.proofs.Math.ListN.{length-drop}
-use borrow.Author.Tests.{eqb-true, eqb-false, eq-eqb, ne_eqb, leb-true, leb-false, le-leb, ltb-true, ltb-false, lt-ltb}
+use borrow.Author.Tests.{eqb-true, eqb-false, leb-true, le-leb, ltb-true, ltb-false}
 use Rattle.model.specs.Cty.{
   Cty,
   TUnit,
@@ -24,30 +24,8 @@ use Rattle.model.specs.Cty.{
   TRef,
   TInline,
 }
-use Rattle.model.specs.Resolve.{Unfold, gone, newtype, abbreviation, stays, Result, ok, fault, spent}
-use Rattle.resolve_outcomes.specs.Outcome.{
-  coded,
-  nodes,
-  head,
-  other,
-  app,
-  one,
-  total,
-  attached,
-  argument,
-  weight,
-  instance_head,
-  instance_shape,
-  Next,
-  extra,
-  surplus_called,
-  called,
-  eval,
-  entered,
-  ev,
-  counted,
-  fits,
-}
+use Rattle.model.specs.Resolve.{Unfold, newtype, abbreviation, Result, ok, fault, spent}
+use Rattle.resolve_outcomes.specs.Outcome.{coded, nodes, head, app, total, attached, argument, weight, instance_head, instance_shape, Next, extra, surplus_called, called, eval, entered, ev, counted, fits}
 use Rattle.resolve_outcomes.proofs.Laws.Shape.{nodes_coded, head_coded, coded_parts, attached_none, attached_app}
 
 -- no more arguments than parameters: no surplus

@@ -2,15 +2,15 @@
 -- resolved types of at most `limit` nodes, the outcome of resolving the instance is the evaluation at
 -- the outcomes of the arguments. For any limit, any fuel and any account of what becomes of a name.
 -- Assumes nothing.
-use Rattle.std.specs.Prelude.{◌≡◌, Bool, drop}
+use Rattle.std.specs.Prelude.{◌≡◌, Bool}
 use Rattle.std.proofs.Math.Path.{refl, ap, ap₂, sym}
 use Rattle.std.proofs.Common.{◌∙◌, subst, arith}
 use mathlib.Core.List.{List, [], ◌∷◌, ◌++◌}
 use Rattle.std.proofs.Math.Bool.{true, false}
-use Prim.Native.Nat.{ℕ, zero, suc, ◌+◌, ◌≤◌, ◌<◌}
+use Prim.Native.Nat.{ℕ, zero, suc, ◌≤◌}
 use Rattle.std.proofs.Math.Dec.{eqb, leb, ltb}
 use Rattle.std.proofs.Math.ListN.{length}
-use borrow.Author.Tests.{eqb-true, eq-eqb, ltb-false, leb-true, leb-false, le-leb}
+use borrow.Author.Tests.{eqb-true, eq-eqb, ltb-false, leb-true, le-leb}
 use Rattle.number_columns.specs.Column.{pick}
 use Rattle.model.specs.Cty.{
   Binding,
@@ -65,45 +65,9 @@ use Rattle.model.specs.Resolve.{
   checkeds,
   resolve_checked,
 }
-use Rattle.model_laws.specs.Cty.{
-  Any,
-  Alls,
-  append_nil,
-  append_eachs,
-  lengths_firsts,
-  others_none,
-  attach_nil,
-  attach_each,
-  look_each,
-  size_positive,
-  subst_none,
-}
+use Rattle.model_laws.specs.Cty.{Any, Alls, append_nil, lengths_firsts, others_none, attach_nil, attach_each, look_each, size_positive, subst_none}
 use Rattle.model_laws.specs.Resolve.{On, Row, on_map, bind_on, Stays, Normal, resolve_sound, checked_stays}
-use Rattle.resolve_outcomes.specs.Outcome.{
-  coded,
-  nodes,
-  head,
-  other,
-  app,
-  one,
-  shape,
-  shapes,
-  mapped,
-  outcome,
-  total,
-  attached,
-  built,
-  argument,
-  instance_head,
-  instance_shape,
-  extra,
-  surplus_called,
-  called,
-  eval,
-  evals,
-  entered,
-  ev,
-}
+use Rattle.resolve_outcomes.specs.Outcome.{coded, nodes, other, app, shape, shapes, mapped, outcome, total, attached, built, argument, instance_shape, surplus_called, called, eval, evals, entered, ev}
 use Rattle.resolve_outcomes.proofs.Laws.Shape.{
   nodes_shape,
   total_shapes,

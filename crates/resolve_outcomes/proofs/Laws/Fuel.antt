@@ -3,7 +3,7 @@
 -- resolution is not spent, the evaluation is not. Assumes nothing.
 use Rattle.std.specs.Prelude.{◌≡◌, Bool, eqb, leb, ltb, length}
 use Rattle.std.proofs.Math.Path.{refl}
-use Rattle.std.proofs.Common.{ap, sym, ◌∙◌, subst, arith}
+use Rattle.std.proofs.Common.{ap, sym, subst, arith}
 use mathlib.Core.List.{List, [], ◌∷◌, ◌++◌}
 use Rattle.std.proofs.Math.Bool.{true, false}
 use Prim.Native.Nat.{ℕ, zero, suc, ◌≤◌}
@@ -28,24 +28,7 @@ use Rattle.model.specs.Cty.{
 }
 use Rattle.model.specs.Resolve.{Unfold, gone, newtype, abbreviation, stays, Result, ok, fault, spent, bind, resolve_checked}
 use Rattle.model_laws.specs.Resolve.{Unspent}
-use Rattle.resolve_outcomes.specs.Outcome.{
-  other,
-  app,
-  outcome,
-  mapped,
-  built,
-  instance_head,
-  instance_shape,
-  attached,
-  Next,
-  extra,
-  surplus_called,
-  called,
-  eval,
-  evals,
-  entered,
-  ev,
-}
+use Rattle.resolve_outcomes.specs.Outcome.{other, app, mapped, built, instance_head, instance_shape, attached, Next, extra, surplus_called, called, eval, evals, entered, ev}
 use Rattle.resolve_outcomes.specs.Leads.{Leads}
 use Rattle.resolve_outcomes.proofs.Laws.Ev.{ev_resolves}
 

@@ -1,6 +1,6 @@
 -- Where every outcome has a node, an instance is no smaller than its type. Assumes nothing.
-use Rattle.std.specs.Prelude.{◌≡◌, refl, List, [], ◌∷◌, ◌++◌, Bool, true, false, ℕ, zero, suc, ◌+◌, ◌/◌, ◌≤◌, ◌<◌, eqb, length, get_or, drop}
-use Rattle.std.proofs.Common.{ap, sym, ◌∙◌, subst, arith, length-append, length-drop, get_or-drop}
+use Rattle.std.specs.Prelude.{List, [], ◌∷◌, ◌++◌, Bool, true, false, ℕ, zero, suc, ◌≤◌, eqb, length, drop}
+use Rattle.std.proofs.Common.{arith}
 use Rattle.number_columns.specs.Column.{pick}
 use Rattle.model.specs.Cty.{
   Cty,
@@ -23,8 +23,8 @@ use Rattle.model.specs.Cty.{
   size,
   sizes,
 }
-use Rattle.resolve_outcomes.specs.Outcome.{one, nodes, total, argument, weight, weights}
-use Rattle.resolve_outcomes.specs.Scratch.{part, Nodes}
+use Rattle.resolve_outcomes.specs.Outcome.{nodes, total, argument, weight, weights}
+use Rattle.resolve_outcomes.specs.Scratch.{Nodes}
 
 pub nodes_tail : (o : ℕ) (os : List ℕ) → Nodes (o ∷ os) → Nodes os
 nodes_tail o os h i q = h (suc i) (omega arith)

@@ -1,5 +1,5 @@
 -- Laws of outcomes: what a substitution, a surplus and a list of types do to them. Assumes nothing.
-use Rattle.std.specs.Prelude.{◌≡◌, List, [], ◌∷◌, ◌++◌, Bool, true, false, ℕ, zero, suc, ◌+◌, ◌*◌, ◌/◌, ◌%◌, ◌≤◌, ◌<◌, eqb, leb, length, drop}
+use Rattle.std.specs.Prelude.{◌≡◌, List, [], ◌∷◌, ◌++◌, Bool, true, false, ℕ, zero, suc, ◌+◌, ◌*◌, ◌<◌, eqb, length, drop}
 use Rattle.std.proofs.Math.Path.{refl, ap, ap₂, sym}
 use Rattle.std.proofs.Common.{◌∙◌, arith}
 use Rattle.number_columns.specs.Column.{pick}
@@ -35,24 +35,7 @@ use Rattle.model.specs.Cty.{
   subst_cty,
 }
 use Rattle.model.specs.Resolve.{attach, is_app}
-use Rattle.model_laws.specs.Cty.{size_positive}
-use Rattle.resolve_outcomes.specs.Outcome.{
-  coded,
-  nodes,
-  head,
-  other,
-  app,
-  one,
-  shape,
-  shapes,
-  total,
-  attached,
-  argument,
-  weight,
-  weights,
-  instance_head,
-  instance_shape,
-}
+use Rattle.resolve_outcomes.specs.Outcome.{coded, nodes, head, other, app, shape, shapes, total, attached, argument, weight, weights, instance_head, instance_shape}
 
 -- ---- a number that is an outcome
 abbrev Head : ℕ → Type 0

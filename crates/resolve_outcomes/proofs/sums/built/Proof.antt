@@ -1,10 +1,10 @@
 -- `resolve_outcomes::sums::built` meets its contract: the sum is the node's size where it is no greater than the limit. Assumes nothing.
-use mathlib.Core.Path.{◌≡◌, sym, ◌∙◌, ap}
-use Prim.Native.Nat.{◌+◌, ◌*◌, ◌≤◌, suc}
+use mathlib.Core.Path.{◌≡◌, ◌∙◌}
+use Prim.Native.Nat.{◌+◌, suc}
 use native.Mathlib.Omega.{arith}
 use borrow.Author.Rules.{rules}
 use Rattle.resolve_outcomes.specs.Outcome as outcome
-use Rattle.resolve_outcomes.specs.Scratch.{part, Says}
+use Rattle.resolve_outcomes.specs.Scratch.{part}
 use Rattle.resolve_outcomes.proofs.Laws.Scratch.{built_small, built_large, capped_over, capped_under}
 use Rattle.resolve_outcomes.proofs.sums.built.Statement.{statement}
 use Rattle.resolve_outcomes.proofs.sums.built.Tie as tie

@@ -1,5 +1,5 @@
 -- `resolve_outcomes::sums::total` meets its contract: the loop has the sum of the outcomes that it passed. Assumes nothing.
-use mathlib.Core.Path.{◌≡◌, sym, ◌∙◌, ap}
+use mathlib.Core.Path.{◌≡◌, ◌∙◌, ap}
 use Prim.Native.Nat.{◌+◌, ◌-◌, ◌≤◌}
 use native.Mathlib.Omega.{arith}
 use Rattle.resolve_outcomes.specs.Outcome as outcome
@@ -7,9 +7,6 @@ use Rattle.resolve_outcomes.specs.Scratch.{part, capped}
 use Rattle.resolve_outcomes.proofs.Laws.Scratch.{sum_none, sum_more, capped_most}
 use Rattle.resolve_outcomes.proofs.sums.total.Statement.{statement}
 use Rattle.resolve_outcomes.proofs.sums.total.Tie as tie
-use Rattle.resolve_outcomes.proofs.sums.total.Reads as reads
-use Rattle.resolve_outcomes.proofs.sums.total.Lts as lts
-use Rattle.resolve_outcomes.proofs.sums.more.Reads as more-reads
 
 abbrev invariant-loop : tie.invariant-loop-i
 invariant-loop out at count from n₀ i₀ n i = (i ≤ count) × (n ≡ capped 1024 (from + outcome.total (part at i out)))
