@@ -16,15 +16,13 @@ pub fn argument(t: &[u32], d: usize, out: &[u16], at: usize, count: usize, v: us
 {
     let first = table_access::first_param(t, d);
     let end = table_access::first_param(t, d + 1);
-    let mut i = 0;
-    while i < count {
+    for i in 0..count {
         if first + i >= end {
             return ONE;
         }
         if table_access::param(t, first + i) == v {
             return out[at + i] as usize;
         }
-        i += 1;
     }
     ONE
 }

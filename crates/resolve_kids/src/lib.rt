@@ -69,8 +69,5 @@ pub fn params(t: &[u32], d: usize) -> usize
 {
     let first = table_access::first_param(t, d);
     let end = table_access::first_param(t, d + 1);
-    if end < first {
-        return 0;
-    }
-    end - first
+    end.saturating_sub(first)
 }
