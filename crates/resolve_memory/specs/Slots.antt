@@ -1,7 +1,7 @@
 -- Remembered calls: slots of 11 cells, the name plus 1, a count, as many outcomes of arguments (at most
 -- 8), and the answer. A slot whose first cell is 0 is not used. Assumes nothing.
-use Rattle.std.specs.Prelude.{◌⊎◌, ◌≡◌, List, ℕ, suc, ◌+◌, ◌*◌, ◌≤◌, ◌<◌, length, get_or, replicate}
-use Rattle.std.proofs.Common.{⊎_elim, sym, ◌∙◌, subst, arith}
+use Rattle.std.specs.Prelude.{◌⊎◌, ◌≡◌, List, ℕ, suc, ◌+◌, ◌*◌, ◌≤◌, ◌<◌, length, get_or}
+use Rattle.std.proofs.Common.{⊎_elim, sym, subst, arith}
 use Rattle.model.specs.Resolve.{Result}
 use Rattle.resolve_outcomes.specs.Answer.{nine, answer}
 use Rattle.resolve_outcomes.specs.Scratch.{part}

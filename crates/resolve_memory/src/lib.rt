@@ -29,12 +29,7 @@ fn same(slots: &[u16], base: usize, out: &[u16], at: usize, count: usize) -> boo
     requires { (base + count ≤ length slots.now) × (at + count ≤ length out.now) }
     ensures { result ≡ true → scratch.part base count slots.now ≡ scratch.part at count out.now }
 {
-    for i in 0..count {
-        if slots[base + i] != out[at + i] {
-            return false;
-        }
-    }
-    true
+    slots[base..base + count] == out[at..at + count]
 }
 
 // The answer of a call, or 0 where it is not remembered.

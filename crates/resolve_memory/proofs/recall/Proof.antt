@@ -1,6 +1,6 @@
 -- `resolve_memory::recall` meets its contract: what it finds is in the slot that it looked in. Assumes nothing.
-use mathlib.Core.Path.{◌≡◌, refl, sym, ◌∙◌}
-use Prim.Native.Nat.{◌+◌, ◌*◌, ◌≤◌}
+use mathlib.Core.Path.{refl}
+use Prim.Native.Nat.{◌+◌, ◌*◌}
 use native.Mathlib.Omega.{arith}
 use Rattle.resolve_outcomes.specs.Scratch.{part}
 use Rattle.resolve_memory.specs.SlotsLaws.{holds_at}

@@ -1,8 +1,7 @@
 -- `resolve_memory::spot` meets its contract: what is taken of a number modulo the count is below it. Assumes nothing.
-use Prim.Native.Nat.{◌+◌, ◌-◌, ◌*◌, ◌%◌, ◌≤◌, ◌<◌}
+use Prim.Native.Nat.{◌+◌, ◌-◌, ◌≤◌, ◌<◌}
 use native.Mathlib.Omega.{arith}
 use native.Mathlib.Nat.{mod-lt}
-use borrow.Author.Rules.{rules}
 use Rattle.resolve_memory.proofs.spot.Statement.{statement}
 use Rattle.resolve_memory.proofs.spot.Tie as tie
 

@@ -1,9 +1,7 @@
 -- `resolve_memory::remembering::remember` meets its contract: the cells of one slot are the call's, all others as they were. Assumes nothing.
-use mathlib.Core.Path.{◌≡◌, refl, sym, ◌∙◌}
-use Prim.Native.Nat.{◌+◌, ◌*◌, ◌≤◌}
+use Prim.Native.Nat.{◌*◌}
 use native.Mathlib.Omega.{arith}
 use lib.ListN.{length-set}
-use borrow.Author.Rules.{rules}
 use Rattle.resolve_outcomes.specs.Scratch.{part}
 use Rattle.resolve_memory.specs.SlotsLaws.{put_written, put_all, written_same}
 use Rattle.resolve_memory.proofs.remembering.remember.Statement.{statement}
