@@ -74,10 +74,7 @@ pub fn passes(t: &[u32], decl: &[u8], fields: &[u16], bodies: &mut [u16])
     requires bodies_len { length bodies.old ≡ tables.decls_of (tables.lines_in t.now) }
     ensures { passes.Passes (tables.lines_in t.now) bodies.new }
 {
-    let n = bodies.len();
-    let mut d = 0;
-    while d < n {
-        bodies[d] = passed(t, decl, d, fields[d]);
-        d += 1;
+    for (d, body) in bodies.iter_mut().enumerate() {
+        *body = passed(t, decl, d, fields[d]);
     }
 }
