@@ -1,5 +1,5 @@
 -- The candidates for a newtype, by the F lines of their payloads. Assumes nothing.
-use Rattle.std.specs.Prelude.{◌≡◌, List, true, ℕ, ◌≤◌, ◌<◌, ltb, length, get_or}
+use Rattle.std.specs.Prelude.{◌≡◌, List, true, ℕ, ◌≤◌, ◌<◌, ltb, length, get_or, Some, None}
 use Rattle.std.proofs.Math.Option.{Option, none, some}
 use Rattle.number_columns.specs.Column.{pick}
 use Rattle.sheet.specs.Line.{Line}
@@ -12,8 +12,7 @@ use Rattle.table_access.specs.Tables.{decls_of, first_of}
 use Rattle.erasure_marks.specs.Marks.{marks_of}
 use Rattle.keep_fields.specs.Keeps.{Slotted}
 use Rattle.keep_layouts.specs.Layouts.{newtype_told}
-use Rattle.collapse_newtypes.specs.declared.Only.{Only}
-use Rattle.collapse_newtypes.specs.declared.Only.TheVariants.{Field, Nothing}
+use Rattle.std.specs.Prelude as prelude
 use Rattle.collapse_newtypes.specs.Newtypes.{one_ctor, ctor_told}
 
 -- the marks of declarations are those of the rounds
@@ -40,9 +39,9 @@ abbrev pub no_field : ℕ
 no_field = 65535
 
 -- the number of the only kept field
-unfoldable pub number_of : Only → ℕ
-number_of (Field f) = f
-number_of Nothing = no_field
+unfoldable pub number_of : prelude.Option ℕ → ℕ
+number_of (Some f) = f
+number_of None = no_field
 
 -- F line f is one of the sheet's, and declaration d has one constructor
 abbrev pub Sole : List Line → ℕ → ℕ → Type 0

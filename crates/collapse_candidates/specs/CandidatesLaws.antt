@@ -1,5 +1,6 @@
 -- When a declaration is a candidate, by its lines and its mark. Assumes nothing.
-use Rattle.std.specs.Prelude.{◌≡◌, List, Bool, not, ℕ, ◌+◌, ◌/◌, ◌%◌, ◌<◌, eqb, length, get_or, set}
+use Rattle.std.specs.Prelude.{◌≡◌, List, Bool, not, ℕ, ◌+◌, ◌/◌, ◌%◌, ◌<◌, eqb, length, get_or, set, Some, None}
+use Rattle.std.specs.Prelude as prelude
 use Rattle.std.proofs.Math.Path.{refl}
 use Rattle.std.proofs.Common.{ap, sym, ◌∙◌, arith, length-set, get_or-set_same, get_or-set_other}
 use Rattle.std.proofs.Math.Bool.{true, false}
@@ -22,8 +23,6 @@ use Rattle.table_declared.specs.PassedLaws.{fields_few}
 use Rattle.erasure_marks.specs.Marks.{marks_of}
 use Rattle.erasure_marks.specs.MarksLaws.{marks_at}
 use Rattle.keep_layouts.specs.Kept.{ctors_of_decl, ctors_at}
-use Rattle.collapse_newtypes.specs.declared.Only.{Only}
-use Rattle.collapse_newtypes.specs.declared.Only.TheVariants.{Field, Nothing}
 use Rattle.collapse_newtypes.specs.Newtypes.{only_told}
 use Rattle.collapse_candidates.specs.Candidates.{candidate_of, Sole, no_field, number_of, field_told, Candidate, Partly, Fields}
 
@@ -73,17 +72,17 @@ module _ (ls : List Line) (p : Passed ls) (d : ℕ) where
   kept_whole c e q = none_told (q ∙ rw e)
 
   -- by the only kept field
-  pub only_told_by : (r : Only) (f : ℕ) → newtype_of (ctors_at (program ls) d) ≡ only_told ls d r → ((g : ℕ) → r ≡ Field g → Sole ls d g)
+  pub only_told_by : (r : prelude.Option ℕ) (f : ℕ) → newtype_of (ctors_at (program ls) d) ≡ only_told ls d r → ((g : ℕ) → r ≡ Some g → Sole ls d g)
       → candidate_of ls d ≡ newtype_of (ctors_at (program ls) d) → f ≡ number_of r → Candidate ls d f
   unfolding field_told only_told number_of
-  only_told_by Nothing f e g q z = rw z (none_told (q ∙ e))
-  only_told_by (Field x) f e g q z =
+  only_told_by None f e g q z = rw z (none_told (q ∙ e))
+  only_told_by (Some x) f e g q z =
       rw z
       (let k = g x refl in
       record { told = q ∙ e ∙ rw (lt-ltb x (count_of field_line ls) k.0); named = λ n. k.0; one = λ h. k.2 })
 
   -- the only kept field fits
-  pub only_small : (r : Only) → ((g : ℕ) → r ≡ Field g → Sole ls d g) → (f : ℕ) → r ≡ Field f → f < 65536
+  pub only_small : (r : prelude.Option ℕ) → ((g : ℕ) → r ≡ Some g → Sole ls d g) → (f : ℕ) → r ≡ Some f → f < 65536
   only_small r g f e = omega (arith, (g f e).0, fields_few ls p)
 
 -- ---- one declaration after the other

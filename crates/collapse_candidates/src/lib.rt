@@ -10,10 +10,7 @@ ghost use Rattle.model.specs.Layout as layout;
 ghost use Rattle.meaning.specs.Program as program;
 ghost use Rattle.table_access.specs.Tables as tables;
 ghost use Rattle.keep_layouts.specs.Kept as kept;
-ghost use Rattle.collapse_newtypes.specs.declared.Only.TheVariants as only;
 ghost use Rattle.collapse_candidates.specs.Candidates as candidates;
-
-use collapse_newtypes::Only;
 
 // The number of no F line.
 pub const NONE: u16 = 65535;
@@ -34,13 +31,14 @@ fn may_collapse(t: &[u32], decl: &[u8], d: usize) -> bool
     table_access::decl_number(t, d, 1) / 4 % 2 != 1
 }
 
-fn number(o: Only) -> u16
-    requires { (f : ℕ) → o ≡ only.Field f → f < 65536 }
+// The number of an F line, if any.
+fn number(o: Option<usize>) -> u16
+    requires { (f : ℕ) → o ≡ Some f → f < 65536 }
     ensures { result ≡ candidates.number_of o }
 {
     match o {
-        Only::Field(f) => f as u16,
-        Only::Nothing => NONE,
+        Some(f) => f as u16,
+        None => NONE,
     }
 }
 
@@ -64,10 +62,7 @@ pub fn candidates(t: &[u32], decl: &[u8], keep: &[u8], fields: &mut [u16])
     requires fields_len { length fields.old ≡ tables.decls_of (tables.lines_in t.now) }
     ensures { candidates.Fields (tables.lines_in t.now) fields.new }
 {
-    let n = fields.len();
-    let mut d = 0;
-    while d < n {
-        fields[d] = candidate(t, decl, keep, d);
-        d += 1;
+    for (d, field) in fields.iter_mut().enumerate() {
+        *field = candidate(t, decl, keep, d);
     }
 }

@@ -1,5 +1,5 @@
 -- The only kept field of a declaration with one constructor, by its lines and the keep table. Assumes nothing.
-use Rattle.std.specs.Prelude.{◌≡◌, List, [], ◌∷◌, Bool, true, false, ℕ, zero, suc, ◌-◌, ◌≤◌, ◌<◌, eqb, get_or}
+use Rattle.std.specs.Prelude.{◌≡◌, List, [], ◌∷◌, Bool, true, false, ℕ, zero, suc, ◌-◌, ◌≤◌, ◌<◌, eqb, get_or, Some, None}
 use Rattle.std.proofs.Math.Option.{Option, none, some}
 use Rattle.number_columns.specs.Column.{pick, ◌⇒◌∥◌}
 use Rattle.sheet.specs.Line.{Line, number}
@@ -8,8 +8,7 @@ use Rattle.meaning.specs.Program.{ctor_line}
 use Rattle.table_access.specs.Tables.{head_line, first_of}
 use Rattle.keep_layouts.specs.Kept.{body_kind, body_last, ctor_name}
 use Rattle.keep_layouts.specs.Layouts.{newtype_told}
-use Rattle.collapse_newtypes.specs.declared.Only.{Only}
-use Rattle.collapse_newtypes.specs.declared.Only.TheVariants.{Field, Nothing}
+use Rattle.std.specs.Prelude as prelude
 
 -- declaration d has one constructor, a record counting as one
 unfoldable pub one_ctor : List Line → ℕ → Bool
@@ -23,9 +22,9 @@ unfoldable pub ctor_told : List Line → ℕ → ℕ
 ctor_told ls d = eqb (body_kind ls d) 2 ⇒ number (head_line ls d) 0 ∥ ctor_name ls (first_of ctor_line ls d)
 
 -- the newtype that declaration d can become by its only kept field
-unfoldable pub only_told : List Line → ℕ → Only → Option NewtypeLayout
-only_told ls d (Field f) = some (newtype_told ls d (ctor_told ls d) f)
-only_told ls d Nothing = none
+unfoldable pub only_told : List Line → ℕ → prelude.Option ℕ → Option NewtypeLayout
+only_told ls d (Some f) = some (newtype_told ls d (ctor_told ls d) f)
+only_told ls d None = none
 
 -- those of the n fields from field f on that are kept
 unfoldable pub kept_places : List ℕ → ℕ → ℕ → List ℕ
@@ -33,10 +32,10 @@ kept_places keep f zero = []
 kept_places keep f (suc n) = let r : List ℕ = kept_places keep (suc f) n in pick (eqb (get_or keep f 0) 1) (f ∷ r) r
 
 -- the only one of them
-unfoldable pub only : List ℕ → Only
-only [] = Nothing
-only (f ∷ []) = Field f
-only (f ∷ g ∷ fs) = Nothing
+unfoldable pub only : List ℕ → prelude.Option ℕ
+only [] = None
+only (f ∷ []) = Some f
+only (f ∷ g ∷ fs) = None
 
 -- no field from `from` on is kept before field r, and r is kept or the end
 pub record Next (keep : List ℕ) (from end r : ℕ) : Type 0 where

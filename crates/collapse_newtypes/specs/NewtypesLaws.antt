@@ -1,5 +1,5 @@
 -- A declaration's only kept field is that of its newtype. Assumes nothing.
-use Rattle.std.specs.Prelude.{◌⊎◌, get_or}
+use Rattle.std.specs.Prelude.{◌⊎◌, get_or, Option, Some, None}
 use Rattle.std.proofs.Math.Logic.{inl, inr, ⊎_elim}
 use Rattle.std.proofs.Math.Path.{◌≡◌, refl, ap}
 use Rattle.std.proofs.Common.{sym, ◌∙◌, add-one}
@@ -33,8 +33,6 @@ use Rattle.keep_fields.specs.Keeps.{slots_at, Slotted}
 use Rattle.keep_layouts.specs.Kept.{ctors_at, kept_ctor, body_kind, body_last, field_at, ctor_name, ctor_fields, fields_by, ctors_by, ctors_kept}
 use Rattle.keep_laws.specs.KeptLaws.{fields_in, slots_are, kept_record, kept_variant, ctors_are, count_bare, count_variant, total_record, total_variant}
 use Rattle.keep_layouts.specs.Layouts.{newtype_told}
-use Rattle.collapse_newtypes.specs.declared.Only.{Only}
-use Rattle.collapse_newtypes.specs.declared.Only.TheVariants.{Field, Nothing}
 use Rattle.collapse_newtypes.specs.Newtypes.{one_ctor, ctor_told, only_told, kept_places, only, Next}
 use Rattle.model.specs.Decl as decl
 
@@ -66,20 +64,20 @@ module _ (keep : List ℕ) where
 
 -- ---- the only one
 module _ (keep : List ℕ) (from end f : ℕ) (a : Next keep from end f) where
-  pub only_none : f ≡ end → only (kept_places keep from (end - from)) ≡ Nothing
+  pub only_none : f ≡ end → only (kept_places keep from (end - from)) ≡ None
   unfolding only
   only_none e = rw (a.passed, places_none keep f end (omega arith))
 
   module _ (l : f < end) (g : ℕ) (c : Next keep (f + 1) end g) where
-    pub only_several : g < end → only (kept_places keep from (end - from)) ≡ Nothing
+    pub only_several : g < end → only (kept_places keep from (end - from)) ≡ None
     unfolding only
     only_several h = rw (a.passed, places_kept keep f end l (a.stops l), c.passed, places_kept keep g end h (c.stops h))
 
-    pub only_one : end ≤ g → only (kept_places keep from (end - from)) ≡ Field f
+    pub only_one : end ≤ g → only (kept_places keep from (end - from)) ≡ Some f
     unfolding only
     only_one h = rw (a.passed, places_kept keep f end l (a.stops l), c.passed, places_none keep g end h)
 
-pub only_is : (fs : List ℕ) (f : ℕ) → only fs ≡ Field f → fs ≡ f ∷ []
+pub only_is : (fs : List ℕ) (f : ℕ) → only fs ≡ Some f → fs ≡ f ∷ []
 unfolding only
 only_is [] f e = cc
 only_is (g ∷ []) f e = let z : g ≡ f = cc in rw z
@@ -197,20 +195,20 @@ module _ (ls : List Line) (p : Passed ls) (d : ℕ) (h : d < decls_of ls) where
             newtype_other (ctors_at (program ls) d) (λ z. omega (arith, count_bare ls p keep k d h (omega (arith, (whole_at ls p d h).kinds))))
 
     -- what the code answers
-    pub told_none : one_ctor ls d ≡ false → (newtype_of (ctors_at (program ls) d) ≡ only_told ls d Nothing)
-        × ((f : ℕ) → Nothing ≡ Field f → (f < count_of field_line ls) × (first_of field_line ls d ≤ f) × (one_ctor ls d ≡ true))
+    pub told_none : one_ctor ls d ≡ false → (newtype_of (ctors_at (program ls) d) ≡ only_told ls d None)
+        × ((f : ℕ) → None ≡ Some f → (f < count_of field_line ls) × (first_of field_line ls d ≤ f) × (one_ctor ls d ≡ true))
     unfolding only_told
     told_none o = (newtype_none o, λ f e. let z : ◌≡◌ {A = ℕ} 0 1 = cc in absurd (omega arith))
 
-    pub told_one : (r : Only) (from end : ℕ) → one_ctor ls d ≡ true → from ≡ first_of field_line ls d → end ≡ first_of field_line ls (d + 1) → r ≡ only (kept_places keep from (end - from))
+    pub told_one : (r : Option ℕ) (from end : ℕ) → one_ctor ls d ≡ true → from ≡ first_of field_line ls d → end ≡ first_of field_line ls (d + 1) → r ≡ only (kept_places keep from (end - from))
         → (newtype_of (ctors_at (program ls) d) ≡ only_told ls d r)
-        × ((f : ℕ) → r ≡ Field f → (f < count_of field_line ls) × (first_of field_line ls d ≤ f) × (one_ctor ls d ≡ true))
+        × ((f : ℕ) → r ≡ Some f → (f < count_of field_line ls) × (first_of field_line ls d ≤ f) × (one_ctor ls d ≡ true))
     told_one r from end o u v e = (newtype_only o ∙ ap (only_told ls d) (sym same), within)
       where
         same : r ≡ only (kept_places keep (first_of field_line ls d) (first_of field_line ls (suc d) - first_of field_line ls d))
         same = e ∙ rw (u, v, add-one d)
 
-        within : (f : ℕ) → r ≡ Field f → (f < count_of field_line ls) × (first_of field_line ls d ≤ f) × (one_ctor ls d ≡ true)
+        within : (f : ℕ) → r ≡ Some f → (f < count_of field_line ls) × (first_of field_line ls d ≤ f) × (one_ctor ls d ≡ true)
         within f q =
             let z = only_is (kept_places keep from (end - from)) f (sym e ∙ q) in
             let w = places_between keep from (end - from) f [] z in

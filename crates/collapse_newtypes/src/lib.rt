@@ -8,15 +8,7 @@ ghost use Rattle.meaning.specs.Rows as rows;
 ghost use Rattle.table_access.specs.Tables as tables;
 ghost use Rattle.keep_fields.specs.Keeps as keeps;
 ghost use Rattle.keep_layouts.specs.Kept as kept;
-ghost use Rattle.collapse_newtypes.specs.declared.Only.TheVariants as only;
 ghost use Rattle.collapse_newtypes.specs.Newtypes as newtypes;
-
-// The only kept field of a declaration, by its F line.
-#[derive(Clone, Copy)]
-pub enum Only {
-    Field(usize),
-    Nothing,
-}
 
 // Declaration d has one constructor: a record counts as one.
 pub fn one_ctor(t: &[u32], d: usize) -> bool
@@ -51,37 +43,36 @@ fn next_kept(keep: &[u8], from: usize, end: usize) -> usize
     requires { (from ≤ end) × (end ≤ length keep.now) }
     ensures { newtypes.Next keep.now from end result }
 {
-    let mut f = from;
-    while f < end {
+    for f in from..end {
         if keep[f] == 1 {
             return f;
         }
-        f += 1;
     }
-    f
+    end
 }
 
-// The only kept field of those.
-fn only_in(keep: &[u8], from: usize, end: usize) -> Only
+// The only kept field of those, by its F line.
+fn only_in(keep: &[u8], from: usize, end: usize) -> Option<usize>
     requires { (from ≤ end) × (end ≤ length keep.now) }
     ensures { result ≡ newtypes.only (newtypes.kept_places keep.now from (end - from)) }
 {
     let f = next_kept(keep, from, end);
     if f == end {
-        return Only::Nothing;
+        return None;
     }
-    if next_kept(keep, f + 1, end) < end {
-        return Only::Nothing;
+    let second = next_kept(keep, f + 1, end);
+    if second < end {
+        return None;
     }
-    Only::Field(f)
+    Some(f)
 }
 
-// The only kept field of declaration d, where it has one constructor (a record counts as one) and keeps one field.
-pub fn only_kept(t: &[u32], keep: &[u8], d: usize) -> Only
+// The F line of the only kept field of declaration d, where it has one constructor (a record counts as one) and keeps one field.
+pub fn only_kept(t: &[u32], keep: &[u8], d: usize) -> Option<usize>
     requires tabled { tables.Tabled t.now }
     requires d_bound { (d < tables.decls_of (tables.lines_in t.now)) × keeps.Slotted (tables.lines_in t.now) keep.now × (rows.count_of program.field_line (tables.lines_in t.now) ≤ length keep.now) }
     ensures { (layout.newtype_of (kept.ctors_at (program.program (tables.lines_in t.now)) d) ≡ newtypes.only_told (tables.lines_in t.now) d result)
-        × ((f : ℕ) → result ≡ only.Field f → (f < rows.count_of program.field_line (tables.lines_in t.now))
+        × ((f : ℕ) → result ≡ Some f → (f < rows.count_of program.field_line (tables.lines_in t.now))
         × (tables.first_of program.field_line (tables.lines_in t.now) d ≤ f)
         × (newtypes.one_ctor (tables.lines_in t.now) d ≡ true)) }
 {
@@ -92,5 +83,5 @@ pub fn only_kept(t: &[u32], keep: &[u8], d: usize) -> Only
             table_access::first_field(t, d + 1),
         );
     }
-    Only::Nothing
+    None
 }

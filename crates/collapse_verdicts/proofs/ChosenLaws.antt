@@ -1,7 +1,7 @@
 -- Layouts told by their numbers, and newtypes by candidates and kept fields. Assumes nothing.
 use Rattle.std.proofs.Math.Path.{◌≡◌, refl, sym}
 use Rattle.std.proofs.Common.{◌∙◌, arith}
-use Rattle.std.specs.Prelude.{List, Bool, ℕ, ◌<◌, eqb, get_or}
+use Rattle.std.specs.Prelude.{List, Bool, ℕ, ◌<◌, eqb, get_or, Option, Some, None}
 use Rattle.std.proofs.Math.Bool.{true, false}
 use Rattle.std.proofs.Math.Option.{none}
 use borrow.Author.Tests.{ne_eqb, lt-ltb, le-ltb}
@@ -17,8 +17,6 @@ use Rattle.resolve_kids.specs.Params.{params_of}
 use Rattle.keep_layouts.specs.Kept.{ctors_at, body_last}
 use Rattle.keep_layouts.specs.declared.Layout.TheVariants.{Erased, Newtype, Struct, Abbreviation, Opaque}
 use Rattle.keep_layouts.specs.Layouts.{newtype_told, layout_told}
-use Rattle.collapse_newtypes.specs.declared.Only.{Only}
-use Rattle.collapse_newtypes.specs.declared.Only.TheVariants.{Field, Nothing}
 use Rattle.collapse_newtypes.specs.Newtypes.{ctor_told, only_told}
 use Rattle.collapse_candidates.specs.Candidates.{no_field, field_told}
 use Rattle.collapse_verdicts.specs.Guard.{dropped_of}
@@ -50,11 +48,11 @@ module _ (ls : List Line) (d : ℕ) (m : decl.Layout) where
 -- ---- by kept fields
 module _ (ls : List Line) (d : ℕ) where
   -- an imported newtype
-  pub kept_none : (r : Only) → newtype_of (ctors_at (program ls) d) ≡ only_told ls d r → r ≡ Nothing → Chosen ls d (kept_one ls d) Struct
+  pub kept_none : (r : Option ℕ) → newtype_of (ctors_at (program ls) d) ≡ only_told ls d r → r ≡ None → Chosen ls d (kept_one ls d) Struct
   unfolding collapse only_told
   kept_none r e q = struct_chosen ls d _ (rw (e, q))
 
-  pub kept_some : (r : Only) (f : ℕ) → newtype_of (ctors_at (program ls) d) ≡ only_told ls d r → r ≡ Field f → f < count_of field_line ls → Chosen ls d (kept_one ls d) (newtype ls d f)
+  pub kept_some : (r : Option ℕ) (f : ℕ) → newtype_of (ctors_at (program ls) d) ≡ only_told ls d r → r ≡ Some f → f < count_of field_line ls → Chosen ls d (kept_one ls d) (newtype ls d f)
   unfolding collapse only_told
   kept_some r f e q h = newtype_chosen ls d _ (ctor_told ls d) f h (rw (e, q))
 

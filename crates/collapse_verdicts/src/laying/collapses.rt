@@ -7,7 +7,6 @@ ghost use Rattle.keep_fields.specs.Keeps as keeps;
 ghost use Rattle.collapse_newtypes.specs.Newtypes as newtypes;
 ghost use Rattle.collapse_verdicts.specs.Chosen as chosen;
 
-use collapse_newtypes::Only;
 use keep_layouts::Layout;
 
 // The newtype of declaration d whose payload is F line f.
@@ -45,9 +44,8 @@ pub fn by_kept(t: &[u32], keep: &[u8], d: usize) -> Layout
     requires d_bound { (d < tables.decls_of (tables.lines_in t.now)) × keeps.Slotted (tables.lines_in t.now) keep.now × (rows.count_of program.field_line (tables.lines_in t.now) ≤ length keep.now) }
     ensures { chosen.Chosen (tables.lines_in t.now) d (chosen.kept_one (tables.lines_in t.now) d) result }
 {
-    let only = collapse_newtypes::only_kept(t, keep, d);
-    match only {
-        Only::Field(f) => newtype(t, d, f as u16),
-        Only::Nothing => Layout::Struct,
+    match collapse_newtypes::only_kept(t, keep, d) {
+        Some(f) => newtype(t, d, f as u16),
+        None => Layout::Struct,
     }
 }
