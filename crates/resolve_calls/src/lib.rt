@@ -65,8 +65,6 @@ pub fn copy(out: &mut [u16], from: usize, to: usize, n: usize) -> bool
     if to + n > out.len() {
         return false;
     }
-    for i in 0..n {
-        out[to + i] = out[from + i];
-    }
+    out.copy_within(from..from + n, to);
     true
 }

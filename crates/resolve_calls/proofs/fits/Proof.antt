@@ -10,10 +10,6 @@ use borrow.Author.Rules.{rules}
 use Rattle.resolve_calls.proofs.fits.Statement.{statement}
 use Rattle.table_access.specs.Tables.{lines_in}
 use Rattle.resolve_calls.proofs.fits.Tie as tie
-use Rattle.resolve_calls.proofs.fits.Reads as reads
-use Rattle.resolve_calls.proofs.fits.Lts as lts
-use Rattle.resolve_kids.proofs.params.Reads as params-reads
-use Rattle.resolve_calls.proofs.takes.Reads as takes-reads
 
 params-requires : tie.Need-params-n-requires
 params-requires c κs = search rules

@@ -7,10 +7,6 @@ use borrow.Author.Rules.{rules}
 use Rattle.resolve_calls.proofs.takes.Statement.{statement}
 use Rattle.table_access.specs.Tables.{lines_in}
 use Rattle.resolve_calls.proofs.takes.Tie as tie
-use Rattle.resolve_calls.proofs.takes.Reads as reads
-use Rattle.resolve_calls.proofs.takes.Lts as lts
-use Rattle.resolve_kids.proofs.arguments.argument.Reads as argument-reads
-use Rattle.table_access.proofs.type_number.Reads as type-number-reads
 
 type-number-requires : tie.Need-type_number-kind-requires
 type-number-requires c κs = search rules
