@@ -26,8 +26,6 @@ pub fn again(out: &mut [u64], from: usize, end: usize, at: usize) -> usize
     if out.len() - at < n {
         return at + n;
     }
-    for i in 0..n {
-        out[at + i] = out[from + i];
-    }
+    out.copy_within(from..end, at);
     at + n
 }
