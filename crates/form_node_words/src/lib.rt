@@ -42,15 +42,13 @@ pub fn place_of(t: &[u32], d: usize, v: usize) -> usize
     ensures { result ≡ place (params.params_of (tables.lines_in t.now) d) v }
 {
     let first = table_access::first_param(t, d);
-    let end = table_access::first_param(t, d + 1);
-    let mut i = 0;
-    while first + i < end {
+    let n = resolve_kids::params(t, d);
+    for i in 0..n {
         if table_access::param(t, first + i) == v {
             return i;
         }
-        i += 1;
     }
-    i
+    n
 }
 
 // What becomes of declaration d's name: 0 erased, 1 and 2 unfolded, else it is left, as a foreign name is.

@@ -3,13 +3,13 @@
 
 mod own_forms;
 
-ghost use Rattle.std.specs.Prelude.{◌+◌, ◌*◌, ◌≤◌, ◌<◌, length};
+ghost use Rattle.std.specs.Prelude.{◌≡◌, ◌+◌, ◌<◌, length, get_or};
 ghost use Rattle.table_access.specs.Tables.{decls_of, lines_in};
 ghost use Rattle.form_normal.specs.Tables.{Table};
 ghost use Rattle.form_normal.specs.Ranks.{Ranked, Done, Reached};
-ghost use Rattle.form_ranks.specs.Next.{Next, Within};
+ghost use Rattle.form_ranks.specs.Next.{Within};
 
-// Declaration d's normal form, if it is unfolded and of rank r.
+// The normal form of declaration d, whose rank is r, if it is unfolded.
 fn form_at(
     t: &[u32],
     u: &[u16],
@@ -20,7 +20,8 @@ fn form_at(
     d: usize,
     pos: usize,
 ) -> usize
-    requires { Ranked (lines_in t.now) t.now u.now rank.now × (d < decls_of (lines_in t.now)) × Table (lines_in t.now) u.now f.old pos (Done (lines_in t.now) u.now rank.now r d) }
+    requires ranked { Ranked (lines_in t.now) t.now u.now rank.now × (d < decls_of (lines_in t.now)) × Table (lines_in t.now) u.now f.old pos (Done (lines_in t.now) u.now rank.now r d) }
+    requires of_rank { get_or rank.now d 0 ≡ r }
     ensures { Reached (lines_in t.now) u.now rank.now r (d + 1) (length scratch.old) f.old f.new result }
 {
     let x = u[2 * d];
@@ -30,25 +31,7 @@ fn form_at(
     if x > 2 {
         return pos;
     }
-    if rank[d] as usize != r {
-        return pos;
-    }
     own_forms::normal_form(t, u, f, d, scratch, pos)
-}
-
-// The first of the n declarations from `from` on that has rank r, or n.
-fn next_of_rank(rank: &[u16], r: usize, from: usize, n: usize) -> usize
-    requires { (from ≤ n) × (n ≤ length rank.now) × (n ≤ 65536) }
-    ensures { Next rank.now r from n result }
-{
-    let mut d = from;
-    while d < n {
-        if rank[d] as usize == r {
-            return d;
-        }
-        d += 1;
-    }
-    d
 }
 
 // The normal forms of rank r, whose declarations stand from place `from` to before `end`, from place pos on.
@@ -68,16 +51,13 @@ pub fn forms_of_rank(
     ensures { Reached (lines_in t.now) u.now rank.now r (decls_of (lines_in t.now)) (length scratch.old) f.old f.new result }
 {
     let mut p = pos;
-    if from >= end {
-        return p;
-    }
-    let mut d = next_of_rank(rank, r, from, end);
-    while d < end {
-        p = form_at(t, u, rank, f, scratch, r, d, p);
-        if p > f.len() {
-            return p;
+    for d in from..end {
+        if rank[d] as usize == r {
+            p = form_at(t, u, rank, f, scratch, r, d, p);
+            if p > f.len() {
+                return p;
+            }
         }
-        d = next_of_rank(rank, r, d + 1, end);
     }
     p
 }

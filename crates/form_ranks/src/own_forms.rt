@@ -10,9 +10,7 @@ fn copy_words(f: &mut [u64], at: usize, ws: &[u64], n: usize)
     requires { (at + n ≤ length f.old) × (n ≤ length ws.now) }
     ensures { f.new ≡ take at f.old ++ (take n ws.now ++ drop (at + n) f.old) }
 {
-    for i in 0..n {
-        f[at + i] = ws[i];
-    }
+    f[at..at + n].copy_from_slice(&ws[..n]);
 }
 
 // The normal form of declaration d at place pos of the list, and the place after it; a place past the end where the list or

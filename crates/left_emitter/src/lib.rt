@@ -3,7 +3,7 @@
 
 mod node_lines;
 
-ghost use Rattle.std.specs.Prelude.{◌≡◌, ◌-◌};
+ghost use Rattle.std.specs.Prelude.{◌≡◌};
 ghost use Rattle.form_laws.specs.Nodes.{args_of};
 ghost use Rattle.form_nodes.specs.Words.{node_of};
 ghost use Rattle.left_emitter.specs.Pens.{Ready, sheet, write_line};
@@ -22,33 +22,22 @@ pub struct Pen {
     pub waiting: usize,
 }
 
-// a less b, 0 where b is more.
-fn less(a: usize, b: usize) -> usize
-    ensures { result ≡ a - b }
-{
-    if a < b {
-        return 0;
-    }
-    a - b
-}
-
 // The lines of a node whose children are the last that wait.
 pub fn write_node(w: u64, stack: &mut [u32], out: &mut [u8], p: Pen) -> Pen
     requires { Ready 1 (args_of (node_of w)) p out.old stack.old }
     ensures { sheet result out.new stack.new ≡ write_line (node_of w) (sheet p out.old stack.old) }
 {
     let top = p.waiting;
-    let at = less(top, children(w));
+    let at = top.saturating_sub(children(w));
     let args = p.args;
     let numbers = y_numbers(w, &stack[at..top], args as u32);
     let n = put_list(out, p.lists + args, w, &stack[at..top]);
     row_at(out, p.nodes + p.types, b'Y', numbers);
     stack[at] = p.types as u32;
     Pen {
-        lists: p.lists,
-        nodes: p.nodes,
         args: args + n,
         types: p.types + 1,
         waiting: at + 1,
+        ..p
     }
 }

@@ -1,11 +1,11 @@
 // The A and Y lines of one node of a type.
 ghost use Rattle.std.specs.Prelude.{◌≡◌, map, ◌+◌, ◌*◌, ◌≤◌, length, get_or};
-ghost use Rattle.number_columns.specs.Column as col;
 ghost use Rattle.sheet.specs.Output.{puts};
 ghost use Rattle.form_laws.specs.Nodes.{taken, first_of};
 ghost use Rattle.form_nodes.specs.Words.{node_of};
 ghost use Rattle.left_emitter.specs.Lines.{y_row, arg_row, has_list, listed};
 
+use choices::pick;
 use form_nodes::{count, kind, own};
 use sheet_writer::row_at;
 
@@ -13,10 +13,7 @@ use sheet_writer::row_at;
 fn nth(ns: &[u32], i: usize) -> u32
     ensures { result ≡ get_or ns.now i 0 }
 {
-    if i < ns.len() {
-        return ns[i];
-    }
-    0
+    ns.get(i).copied().unwrap_or(0)
 }
 
 // The first of n A lines where a are written before, 0 where there is none.
@@ -27,12 +24,6 @@ fn first_of(a: u32, n: u32) -> u32
         return 0;
     }
     a
-}
-
-fn pick(b: bool, x: u32, y: u32) -> u32
-    ensures { result ≡ col.pick b x y }
-{
-    if b { x } else { y }
 }
 
 // The numbers of a node's Y line; ns are its children, and a the A lines that are written before its own. Kinds that stand close go one
@@ -70,11 +61,7 @@ pub fn y_numbers(w: u64, ns: &[u32], a: u32) -> [u32; 5]
 fn lists(w: u64) -> bool
     ensures { result ≡ has_list (node_of w) }
 {
-    let k = kind(w);
-    if k == 8 {
-        return true;
-    }
-    k == 9
+    matches!(kind(w), 8..=9)
 }
 
 // How many children a node has.
@@ -92,8 +79,8 @@ fn put_args(out: &mut [u8], i: usize, ns: &[u32])
     requires { 32 * (i + length ns.now) ≤ length out.old }
     ensures { out.new ≡ puts 6 out.old i (map arg_row ns.now) }
 {
-    for j in 0..ns.len() {
-        row_at(out, i + j, b'A', [ns[j], 0, 0, 0, 0]);
+    for (j, x) in ns.iter().enumerate() {
+        row_at(out, i + j, b'A', [*x, 0, 0, 0, 0]);
     }
 }
 

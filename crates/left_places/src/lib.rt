@@ -34,11 +34,8 @@ pub fn put_line(out: &mut [u8], letter: u8, numbers: [u32; 5], p: Place) -> Plac
     let line = p.line;
     row_at(out, line, letter, numbers);
     Place {
-        lists: p.lists,
-        nodes: p.nodes,
-        args: p.args,
-        types: p.types,
         line: line + 1,
+        ..p
     }
 }
 
@@ -69,10 +66,8 @@ pub fn put_type(
     };
     let q = write_nodes(&scratch[0..n], stack, out, pen);
     Place {
-        lists: p.lists,
-        nodes: p.nodes,
         args: q.args,
         types: q.types,
-        line: p.line,
+        ..p
     }
 }

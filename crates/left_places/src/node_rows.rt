@@ -11,8 +11,8 @@ pub fn write_nodes(nodes: &[u64], stack: &mut [u32], out: &mut [u8], p: Pen) -> 
     ensures { sheet result out.new stack.new ≡ write_lines (map node_of nodes.now) (sheet p out.old stack.old) }
 {
     let mut q = p;
-    for i in 0..nodes.len() {
-        q = left_emitter::write_node(nodes[i], stack, out, q);
+    for w in nodes {
+        q = left_emitter::write_node(*w, stack, out, q);
     }
     q
 }
