@@ -2,7 +2,6 @@
 #![tactic(auto)]
 
 ghost use Rattle.std.specs.Prelude.{◌≡◌, ◌+◌, ◌-◌, ◌≤◌, ◌<◌, length};
-ghost use Rattle.model.specs.Decl as decls;
 ghost use Rattle.meaning.specs.Program.{field_line};
 ghost use Rattle.meaning.specs.Rows.{count_of};
 ghost use Rattle.table_access.specs.Tables as tables;
@@ -13,17 +12,10 @@ use form_node_words::state;
 
 // One of the fields from F line `from` on, up to F line `end`, is kept.
 fn any_kept(keep: &[u8], from: usize, end: usize) -> bool
-    requires { end ≤ length keep.now }
+    requires { (from ≤ end) × (end ≤ length keep.now) }
     ensures { result ≡ some_kept keep.now from (end - from) }
 {
-    let mut f = from;
-    while f < end {
-        if keep[f] == 1 {
-            return true;
-        }
-        f += 1;
-    }
-    false
+    keep[from..end].contains(&1)
 }
 
 // The record number of declaration d.
@@ -55,12 +47,6 @@ fn record_of(t: &[u32], u: &[u16], keep: &[u8], left: &[u8], d: usize) -> bool
     )
 }
 
-fn bit(b: bool) -> u8
-    ensures { result ≡ decls.bit b }
-{
-    if b { 1 } else { 0 }
-}
-
 // A cell for each declaration.
 pub fn records(t: &[u32], u: &[u16], f: &[u64], keep: &[u8], left: &[u8], records: &mut [u8])
     requires ready { Ready (tables.lines_in t.now) t.now u.now f.now keep.now × Flagged (tables.lines_in t.now) left.now }
@@ -69,6 +55,6 @@ pub fn records(t: &[u32], u: &[u16], f: &[u64], keep: &[u8], left: &[u8], record
 {
     let n = table_access::decls(t);
     for d in 0..n {
-        records[d] = bit(record_of(t, u, keep, left, d));
+        records[d] = u8::from(record_of(t, u, keep, left, d));
     }
 }

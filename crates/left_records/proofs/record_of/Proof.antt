@@ -1,12 +1,14 @@
 -- `left_records::record_of` meets its contract, test after test. Assumes nothing.
-use mathlib.Core.Path.{refl, sym, ◌∙◌}
+use mathlib.Core.Path.{refl, sym, ap, ◌∙◌}
 use Prim.Native.Nat.{◌+◌}
 use native.Mathlib.Omega.{arith}
+use native.Mathlib.Numerals.{add-one}
 use Rattle.sheet.specs.Line.{number}
 use Rattle.meaning.specs.Program.{field_line}
 use Rattle.row4_limits.specs.Limits.{start}
 use Rattle.table_declared.specs.PassedLaws.{decls_few}
-use Rattle.table_access.specs.Tables.{head_line, lines_in}
+use Rattle.table_access.specs.Tables.{head_line, first_of, lines_in}
+use Rattle.keep_laws.specs.KeptLaws.{total_variant}
 use Rattle.resolve_kids.specs.ParamsLaws.{count_before_le}
 use Rattle.left_records.specs.RecordsLaws.{by_none, by_source, by_newtype, by_kind, by_last, by_kept}
 use borrow.Author.Rules.{rules}
@@ -38,7 +40,10 @@ returns-5 c =
 any-kept-requires : tie.Need-any_kept-requires
 any-kept-requires c κs =
     let a = c.args in
-    omega (arith, c.first_field-2.ensures, c.requires.1.0, count_before_le field_line (lines_in a.t.now) (start (lines_in a.t.now) (a.d + 1)))
+    let ls = lines_in a.t.now in (
+      omega (arith, c.first_field.ensures, c.first_field-2.ensures, ap (first_of field_line ls) (add-one a.d), total_variant ls c.requires.0.0.passed a.d c.requires.0.1 (sym c.decl_number.ensures ∙ c.if-decl_number-ne3.false)),
+      omega (arith, c.first_field-2.ensures, c.requires.1.0, count_before_le field_line ls (start ls (a.d + 1))),
+    )
 
 returns-6 : tie.Need-returns
 returns-6 c =
