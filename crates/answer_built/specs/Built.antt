@@ -1,11 +1,10 @@
 -- What a call of the build gives, in the terms of the answer. Assumes nothing.
-use Rattle.std.specs.Prelude.{◌≡◌, List, true, false, ℕ, ◌≤◌, length}
+use Rattle.std.specs.Prelude.{◌≡◌, List, ℕ, ◌≤◌, length, Option, Some, None}
 use Rattle.sheet.specs.Format.{base}
 use Rattle.answer.specs.Answer as front
 use Rattle.answer.specs.Answer.{Given}
 use Rattle.answer_patterns.specs.Whole.{called, answer}
 use Rattle.answer_built.specs.declared.Built.{Built}
-use Rattle.answer_built.specs.declared.Tried.{Tried}
 
 abbrev pub refused_as : ℕ → ℕ → Built
 refused_as code place = record { code = code; place = place; rounds = 0; verdict = 0; left = 0 }
@@ -29,8 +28,8 @@ pub record GivesFront (b v l : List ℕ) (r : Built) (v' l' : List ℕ) : Type 0
   pub small : r.place ≤ 1000000000000
 
 -- The same where there was room; else nothing is written, and so little room there was.
-pub record Tries (Short : Type 0) (b v l : List ℕ) (r : Tried) (v' l' : List ℕ) : Type 0 where
-  pub gives : r.room ≡ true → GivesFront b v l r.built v' l'
-  pub verdict_kept : r.room ≡ false → v' ≡ v
-  pub left_kept : r.room ≡ false → l' ≡ l
-  pub short : r.room ≡ false → Short
+pub record Tries (Short : Type 0) (b v l : List ℕ) (r : Option Built) (v' l' : List ℕ) : Type 0 where
+  pub gives : (x : Built) → r ≡ Some x → GivesFront b v l x v' l'
+  pub verdict_kept : r ≡ None → v' ≡ v
+  pub left_kept : r ≡ None → l' ≡ l
+  pub short : r ≡ None → Short

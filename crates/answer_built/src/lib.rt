@@ -14,13 +14,6 @@ pub struct Built {
     pub left: usize,
 }
 
-// The same, or that the memory lent was too short for the sheet.
-#[derive(Clone, Copy)]
-pub struct Tried {
-    pub room: bool,
-    pub built: Built,
-}
-
 // A refusal writes nothing.
 pub fn refused(code: u32, place: usize) -> Built
     ensures { result ≡ refused_as code place }

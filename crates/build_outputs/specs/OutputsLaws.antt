@@ -1,10 +1,9 @@
 -- Laws of the attempts one after the other. Assumes nothing.
 use Rattle.std.proofs.Common.{⊎_elim, sym, subst, arith}
-use Rattle.std.specs.Prelude.{◌≡◌, refl, List, Bool, true, false, ℕ, ◌≤◌}
+use Rattle.std.specs.Prelude.{◌≡◌, refl, List, ℕ, ◌≤◌, Option, Some, None}
 use Rattle.sheet.specs.Format.{base}
 use Rattle.table_declared.specs.PassedLaws.{decls_within}
 use Rattle.table_access.specs.Tables.{lines_in}
-use Rattle.answer_built.specs.declared.Tried.{Tried}
 use Rattle.answer_built.specs.declared.Built.{Built}
 use Rattle.answer_built.specs.Built.{GivesFront, Tries}
 use Rattle.build_sheets.specs.Sheets.{Lent}
@@ -33,13 +32,13 @@ pub lent_kept : (b t u rank keep v v' : List ℕ) → v' ≡ v → Lent b t u ra
 lent_kept b t u rank keep v v' e h = subst (λ (x : List ℕ). Lent b t u rank keep x 98496 1024 1024) (sym e) h
 
 -- an attempt without room left the outputs as they were
-pub tries_again : (S : Type 0) (b v l : List ℕ) (r : Tried) (v' l' : List ℕ) (q : Built) (v'' l'' : List ℕ) → Tries S b v l r v' l' → r.room ≡ false → GivesFront b v' l' q v'' l'' → GivesFront b v l q v'' l''
+pub tries_again : (S : Type 0) (b v l : List ℕ) (r : Option Built) (v' l' : List ℕ) (q : Built) (v'' l'' : List ℕ) → Tries S b v l r v' l' → r ≡ None → GivesFront b v' l' q v'' l'' → GivesFront b v l q v'' l''
 tries_again S b v l r v' l' q v'' l'' h e g = subst (λ (x : List ℕ). GivesFront b x l q v'' l'') (h.verdict_kept e) (subst (λ (x : List ℕ). GivesFront b v' x q v'' l'') (h.left_kept e) g)
 
 -- and the longest has room
-pub tries_last : (n : ℕ) → n ≤ 96 → (b v l : List ℕ) (r : Tried) (v' l' : List ℕ) → Tries (Short n 98496 1024) b v l r v' l' → GivesFront b v l r.built v' l'
-tries_last n few b v l r v' l' h = go r.room refl
+pub tries_last : (n : ℕ) → n ≤ 96 → (b v l : List ℕ) (r : Option Built) (v' l' : List ℕ) → Tries (Short n 98496 1024) b v l r v' l' → (x : Built) × (r ≡ Some x) × GivesFront b v l x v' l'
+tries_last n few b v l r v' l' h = go r refl
   where
-    go : (c : Bool) → r.room ≡ c → GivesFront b v l r.built v' l'
-    go true e = h.gives e
-    go false e = absurd (⊎_elim (λ x. omega arith) (λ x. omega arith) (h.short e))
+    go : (o : Option Built) → r ≡ o → (x : Built) × (r ≡ Some x) × GivesFront b v l x v' l'
+    go (Some x) e = (x, e, h.gives x e)
+    go None e = absurd (⊎_elim (λ x. omega arith) (λ x. omega arith) (h.short e))

@@ -1,7 +1,7 @@
 // Row 12 and both sheets: in arrays that serve nearly every sheet, and in larger ones only where these are too short.
 #![tactic(auto)]
 
-ghost use Rattle.std.specs.Prelude.{◌⊎◌, ◌≡◌, ◌<◌};
+ghost use Rattle.std.specs.Prelude.{◌⊎◌, ◌≡◌, ◌≤◌, ◌<◌};
 ghost use Rattle.model.specs.Run.{run};
 ghost use Rattle.meaning.specs.Program.{program};
 ghost use Rattle.answer_built.specs.Built.{GivesFront, Tries};
@@ -9,12 +9,13 @@ ghost use Rattle.build_sheets.specs.Sheets.{Lent};
 ghost use Rattle.table_access.specs.Tables.{decls_of, lines_in};
 ghost use Rattle.build_outputs.specs.Outputs.{Short};
 
-use answer_built::{Built, Tried};
+use answer_built::Built;
 
 // The forms of so many declarations can fit the smallest arrays.
 const FEW: usize = 64;
 
-fn wide(
+// Both sheets in arrays of so many words.
+fn within<const FORMS: usize, const SCRATCH: usize>(
     s: &[u8],
     t: &[u32],
     rounds: usize,
@@ -23,78 +24,15 @@ fn wide(
     keep: &[u8],
     v: &mut [u8],
     l: &mut [u8],
-) -> Tried
+) -> Option<Built>
     requires lent { Lent s.now t.now u.now rank.now keep.now v.old 98496 1024 1024 }
     requires rounds_value { rounds ≡ (run 100 (program (lines_in t.now))).rounds }
-    ensures { Tries (Short (decls_of (lines_in t.now)) 512 64) s.now v.old l.old result v.new l.new }
+    requires sizes { (192 ≤ FORMS) × (FORMS ≤ 98496) × (SCRATCH ≤ 1024) }
+    ensures { Tries (Short (decls_of (lines_in t.now)) FORMS SCRATCH) s.now v.old l.old result v.new l.new }
 {
-    let mut forms = [0u64; 512];
-    let mut scratch = [0u64; 64];
-    let mut stack = [0u32; 64];
-    build_sheets::sheets(
-        s,
-        t,
-        rounds,
-        u,
-        rank,
-        keep,
-        &mut forms,
-        &mut scratch,
-        &mut stack,
-        v,
-        l,
-    )
-}
-
-fn middle(
-    s: &[u8],
-    t: &[u32],
-    rounds: usize,
-    u: &[u16],
-    rank: &[u16],
-    keep: &[u8],
-    v: &mut [u8],
-    l: &mut [u8],
-) -> Tried
-    requires lent { Lent s.now t.now u.now rank.now keep.now v.old 98496 1024 1024 }
-    requires rounds_value { rounds ≡ (run 100 (program (lines_in t.now))).rounds }
-    ensures { Tries (Short (decls_of (lines_in t.now)) 2048 1024) s.now v.old l.old result v.new l.new }
-{
-    let mut forms = [0u64; 2048];
-    let mut scratch = [0u64; 1024];
-    let mut stack = [0u32; 1024];
-    build_sheets::sheets(
-        s,
-        t,
-        rounds,
-        u,
-        rank,
-        keep,
-        &mut forms,
-        &mut scratch,
-        &mut stack,
-        v,
-        l,
-    )
-}
-
-fn large(
-    s: &[u8],
-    t: &[u32],
-    rounds: usize,
-    u: &[u16],
-    rank: &[u16],
-    keep: &[u8],
-    v: &mut [u8],
-    l: &mut [u8],
-) -> Tried
-    requires lent { Lent s.now t.now u.now rank.now keep.now v.old 98496 1024 1024 }
-    requires rounds_value { rounds ≡ (run 100 (program (lines_in t.now))).rounds }
-    ensures { Tries (Short (decls_of (lines_in t.now)) 98496 1024) s.now v.old l.old result v.new l.new }
-{
-    let mut forms = [0u64; 98496];
-    let mut scratch = [0u64; 1024];
-    let mut stack = [0u32; 1024];
+    let mut forms = [0u64; FORMS];
+    let mut scratch = [0u64; SCRATCH];
+    let mut stack = [0u32; SCRATCH];
     build_sheets::sheets(
         s,
         t,
@@ -125,12 +63,12 @@ fn larger(
     requires rounds_value { rounds ≡ (run 100 (program (lines_in t.now))).rounds }
     ensures { GivesFront s.now v.old l.old result v.new l.new }
 {
-    let second = middle(s, t, rounds, u, rank, keep, v, l);
-    if second.room {
-        return second.built;
+    let second = within::<2048, 1024>(s, t, rounds, u, rank, keep, v, l);
+    if let Some(built) = second {
+        return built;
     }
-    let third = large(s, t, rounds, u, rank, keep, v, l);
-    third.built
+    let third = within::<98496, 1024>(s, t, rounds, u, rank, keep, v, l);
+    third.unwrap()
 }
 
 // Where there are many declarations, whose forms do not fit the smallest arrays.
@@ -148,9 +86,9 @@ fn many(
     requires rounds_value { rounds ≡ (run 100 (program (lines_in t.now))).rounds }
     ensures { GivesFront s.now v.old l.old result v.new l.new }
 {
-    let first = wide(s, t, rounds, u, rank, keep, v, l);
-    if first.room {
-        return first.built;
+    let first = within::<512, 64>(s, t, rounds, u, rank, keep, v, l);
+    if let Some(built) = first {
+        return built;
     }
     larger(s, t, rounds, u, rank, keep, v, l)
 }
@@ -212,8 +150,8 @@ fn attempt(
         v,
         l,
     );
-    if first.room {
-        return first.built;
+    if let Some(built) = first {
+        return built;
     }
     attempt(s, t, rounds, u, rank, keep, 1, v, l)
 }

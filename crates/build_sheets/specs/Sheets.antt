@@ -1,5 +1,5 @@
 -- What is asked and promised of the writing of both sheets. Assumes nothing.
-use Rattle.std.specs.Prelude.{◌≡◌, List, false, ℕ, ◌*◌, ◌≤◌, length}
+use Rattle.std.specs.Prelude.{◌≡◌, List, ℕ, ◌*◌, ◌≤◌, length}
 use Rattle.sheet.specs.Format.{base}
 use Rattle.sheet.specs.Sheet.{lines}
 use Rattle.meaning.specs.Program.{field_line}
@@ -13,12 +13,6 @@ use Rattle.keep_fields.specs.Keeps.{Slotted}
 use Rattle.keep_layouts.specs.States.{Settled}
 use Rattle.form_normal.specs.Ranks.{Ranked}
 use Rattle.left_laws.specs.Lefts.{Ready, left_written, Fit}
-use Rattle.answer_built.specs.declared.Tried.{Tried}
-use Rattle.answer_built.specs.Built.{refused_as}
-
--- the answer that there was no room
-abbrev pub no_room : Tried
-no_room = record { room = false; built = refused_as 0 0 }
 
 -- The normal forms are there, row 11 does not apply, and so much room there is for one type.
 pub record Known (b t u f keep v : List ℕ) (scratch stack : ℕ) : Type 0 where

@@ -1,5 +1,5 @@
 -- Laws of the writing of both sheets. Assumes nothing.
-use Rattle.std.specs.Prelude.{◌⊎◌, ◌≡◌, refl, false, ◌&&◌, ltb, length}
+use Rattle.std.specs.Prelude.{◌⊎◌, ◌≡◌, refl, ◌&&◌, ltb, length, Option, Some, None}
 use Rattle.std.proofs.Common.{inl, inr, sym, ◌∙◌, subst, arith}
 use Rattle.std.proofs.Math.Logic.{⊎_elim}
 use Rattle.std.proofs.Math.Path.{ap}
@@ -35,10 +35,9 @@ use Rattle.left_laws.specs.RoomLaws.{never_short}
 use Rattle.answer.specs.declared.Refusal.{Refusal}
 use Rattle.answer_laws.specs.Answer.{clear_accepted, or_later, refusal_append, accepted_passes}
 use Rattle.answer_built.specs.declared.Built.{Built}
-use Rattle.answer_built.specs.declared.Tried.{Tried}
 use Rattle.answer_built.specs.Built.{refused_as, GivesFront, Tries}
 use Rattle.answer_built.specs.BuiltLaws.{needed, rows_twelve, rows_none, front_refused, front_accepted}
-use Rattle.build_sheets.specs.Sheets.{no_room, Known, Owed, Written, Lent}
+use Rattle.build_sheets.specs.Sheets.{Known, Owed, Written, Lent}
 use borrow.Author.Tests.{not-false, ltb-true, le-ltb}
 
 nothing_left : left_program (run 100 []) ≡ []
@@ -120,26 +119,24 @@ module _ (b : List ℕ) (accepted : input_refusal base b ≡ Accepted) where
       rw (e ∙ sym verdict_length, f) (front_accepted b v l rounds v' l' (rows_none b (length v) (length l) accepted p q) r w.verdict w.left)
 
 -- ---- tried
-pub tries_none : (Short : Type 0) (b v l : List ℕ) → Short → Tries Short b v l no_room v l
-tries_none Short b v l h =
-    record { gives = λ e. never e; verdict_kept = λ e. refl; left_kept = λ e. refl; short = λ e. h }
-  where
-    never : {A : Type 0} → false ≡ true → A
-    never e = let z : ◌≡◌ {A = ℕ} 0 1 = cc in absurd (omega arith)
+pub tries_none : (Short : Type 0) (b v l : List ℕ) → Short → Tries Short b v l None v l
+tries_none Short b v l h = record { gives = λ x e. absurd cc; verdict_kept = λ e. refl; left_kept = λ e. refl; short = λ e. h }
 
-pub tries_gives : (Short : Type 0) (b v l : List ℕ) (r : Built) (v' l' : List ℕ) → GivesFront b v l r v' l' → Tries Short b v l (record { room = true; built = r }) v' l'
+pub tries_gives : (Short : Type 0) (b v l : List ℕ) (r : Built) (v' l' : List ℕ) → GivesFront b v l r v' l' → Tries Short b v l (Some r) v' l'
 tries_gives Short b v l r v' l' g =
-    record { gives = λ e. g; verdict_kept = λ e. never e; left_kept = λ e. never e; short = λ e. never e }
-  where
-    never : {A : Type 0} → true ≡ false → A
-    never e = let z : ◌≡◌ {A = ℕ} 0 1 = cc in absurd (omega arith)
+    record {
+      gives = λ x e. let q : r ≡ x = cc in subst (λ (y : Built). GivesFront b v l y v' l') q g;
+      verdict_kept = λ e. absurd cc;
+      left_kept = λ e. absurd cc;
+      short = λ e. absurd cc;
+    }
 
-pub tries_less : (S T : Type 0) → (S → T) → (b v l : List ℕ) (r : Tried) (v' l' : List ℕ) → Tries S b v l r v' l' → Tries T b v l r v' l'
+pub tries_less : (S T : Type 0) → (S → T) → (b v l : List ℕ) (r : Option Built) (v' l' : List ℕ) → Tries S b v l r v' l' → Tries T b v l r v' l'
 tries_less S T f b v l r v' l' h = record { gives = h.gives; verdict_kept = h.verdict_kept; left_kept = h.left_kept; short = λ e. f (h.short e) }
 
 -- row 12
 pub tries_twelve : (Short : Type 0) (b v l : List ℕ) (n : ℕ) (r : Built) → input_refusal base b ≡ Accepted → length b ≤ length v → n ≡ needed b → n ≤ 1000000000000 → length l < n → r ≡ refused_as 12 n
-    → Tries Short b v l (record { room = true; built = r }) v l
+    → Tries Short b v l (Some r) v l
 tries_twelve Short b v l n r a h e k q z =
     tries_gives Short b v l r v l (rw (z, e) (front_refused b v l 12 (needed b) (rw e at k) (rows_twelve b (length v) (length l) a h (rw e at q))))
 

@@ -8,18 +8,10 @@ ghost use Rattle.meaning.specs.Rows.{count_of};
 ghost use Rattle.table_access.specs.Tables.{decls_of, lines_in};
 ghost use Rattle.left_laws.specs.Lefts.{Flagged};
 ghost use Rattle.answer_built.specs.Built.{Tries};
-ghost use Rattle.build_sheets.specs.Sheets.{no_room, Known, Owed, Lent, Written};
+ghost use Rattle.build_sheets.specs.Sheets.{Known, Owed, Lent, Written};
 
-use answer_built::{Built, Tried};
+use answer_built::Built;
 use sheet_parts::LINE;
-
-// There was no room.
-fn none() -> Tried
-    ensures { result ≡ no_room }
-{
-    let built = answer_built::refused(0, 0);
-    Tried { room: false, built }
-}
 
 // Writes both sheets, of which the left one has so many A and Y lines.
 fn write(
@@ -46,7 +38,7 @@ fn write(
     left_sheet::put_left(s, t, u, f, keep, left, scratch, stack, l, args, types);
 }
 
-// Counts the left sheet's lines; then row 12, and both sheets.
+// Counts the left sheet's lines; then row 12, and both sheets. None where a type has no room.
 fn measured(
     s: &[u8],
     t: &[u32],
@@ -59,7 +51,7 @@ fn measured(
     stack: &mut [u32],
     v: &mut [u8],
     l: &mut [u8],
-) -> Tried
+) -> Option<Built>
     requires known { Known s.now t.now u.now f.now keep.now v.old (length scratch.old) (length stack.old) }
     requires flagged { Flagged (lines_in t.now) left.now × (rounds ≡ (run 100 (program (lines_in t.now))).rounds) }
     ensures { Tries (length scratch.old < 1024) s.now v.old l.old result v.new l.new }
@@ -69,22 +61,20 @@ fn measured(
     let args = c.args;
     let types = c.types;
     if !c.room {
-        return none();
+        return None;
     }
     let needed = LINE * (names + args + types + c.lines);
     if l.len() < needed {
-        let built = answer_built::refused(12, needed);
-        return Tried { room: true, built };
+        return Some(answer_built::refused(12, needed));
     }
     write(s, t, u, f, keep, left, scratch, stack, v, l, args, types);
-    let built = Built {
+    Some(Built {
         code: 0,
         place: 0,
         rounds,
         verdict: s.len(),
         left: needed,
-    };
-    Tried { room: true, built }
+    })
 }
 
 // From the normal forms.
@@ -99,7 +89,7 @@ fn formed(
     stack: &mut [u32],
     v: &mut [u8],
     l: &mut [u8],
-) -> Tried
+) -> Option<Built>
     requires known { Known s.now t.now u.now f.now keep.now v.old (length scratch.old) (length stack.old) }
     requires rounds_value { rounds ≡ (run 100 (program (lines_in t.now))).rounds }
     ensures { Tries (length scratch.old < 1024) s.now v.old l.old result v.new l.new }
@@ -109,8 +99,8 @@ fn formed(
     measured(s, t, rounds, u, f, keep, &left, scratch, stack, v, l)
 }
 
-// Row 12 and both sheets, in memory that is lent: the list of normal forms, and room for one type. Where it is too short, nothing
-// is written.
+// Row 12 and both sheets, in memory that is lent: the list of normal forms, and room for one type. None where it is too short, and
+// nothing is written.
 pub fn sheets(
     s: &[u8],
     t: &[u32],
@@ -123,14 +113,14 @@ pub fn sheets(
     stack: &mut [u32],
     v: &mut [u8],
     l: &mut [u8],
-) -> Tried
+) -> Option<Built>
     requires lent { Lent s.now t.now u.now rank.now keep.now v.old (length f.old) (length scratch.old) (length stack.old) }
     requires rounds_value { rounds ≡ (run 100 (program (lines_in t.now))).rounds }
     ensures { Tries ((length f.old < 1026 * decls_of (lines_in t.now)) ⊎ (length scratch.old < 1024)) s.now v.old l.old result v.new l.new }
 {
     let e = form_tables::normal_forms(t, u, rank, f, scratch);
     if e > f.len() {
-        return none();
+        return None;
     }
     formed(s, t, rounds, u, f, keep, scratch, stack, v, l)
 }

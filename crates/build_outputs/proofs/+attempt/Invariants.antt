@@ -1,0 +1,6 @@
+-- The measure: it calls itself once, with the larger number.
+use Rattle.std.proofs.Common.{◌-◌}
+use Rattle.build_outputs.proofs.+attempt.Given as goal
+
+abbrev pub decreases-attempt : goal.decreases-attempt
+decreases-attempt l = 1 - l.number
