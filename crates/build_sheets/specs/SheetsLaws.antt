@@ -142,12 +142,12 @@ tries_twelve Short b v l n r a h e k q z =
 
 -- ---- the counts
 module _ (b t u keep : List ℕ) (n : ℕ) (of : OfSheet b t) where
-  pub needed_of : input_refusal base b ≡ Accepted → (r : Count) (names : ℕ) → names ≡ count_of name_line (lines_in t) → Counted (lines_in t) u keep n r → r.room ≡ true
+  pub needed_of : input_refusal base b ≡ Accepted → (r : Count) (names : ℕ) → names ≡ count_of name_line (lines_in t) → Counted (lines_in t) u keep n (Some r)
       → 32 * (names + r.args + r.types + r.lines) ≡ needed b
-  needed_of a r names e x y = rw (e, x.args y, x.types y, x.lines_are y, count_same b t of name_line, program_same b t of) (sym (needed_is b a))
+  needed_of a r names e x = rw (e, x.args r refl, x.types r refl, x.lines_are r refl, count_same b t of name_line, program_same b t of) (sym (needed_is b a))
 
-  pub owed_of : (l : List ℕ) (r : Count) → Counted (lines_in t) u keep n r → r.room ≡ true → needed b ≤ length l → Owed b t u keep l n r.args r.types
-  owed_of l r x y h = record { fit = x.fit y; args_are = x.args y; types_are = x.types y; left_room = h }
+  pub owed_of : (l : List ℕ) (r : Count) → Counted (lines_in t) u keep n (Some r) → needed b ≤ length l → Owed b t u keep l n r.args r.types
+  owed_of l r x h = record { fit = x.fit r refl; args_are = x.args r refl; types_are = x.types r refl; left_room = h }
 
 -- ---- the normal forms
 module _ (b t u rank keep v : List ℕ) (forms scratch stack : ℕ) (f₀ f : List ℕ) (e : ℕ) (lent : Lent b t u rank keep v forms scratch stack) (x : Formed (lines_in t) u rank scratch f₀ f e) where

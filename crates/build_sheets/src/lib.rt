@@ -57,17 +57,14 @@ fn measured(
     ensures { Tries (length scratch.old < 1024) s.now v.old l.old result v.new l.new }
 {
     let names = table_access::names(t);
-    let c = left_count::count(t, u, f, keep, left, scratch);
-    let args = c.args;
-    let types = c.types;
-    if !c.room {
-        return None;
-    }
-    let needed = LINE * (names + args + types + c.lines);
+    let c = left_count::count(t, u, f, keep, left, scratch)?;
+    let needed = LINE * (names + c.args + c.types + c.lines);
     if l.len() < needed {
         return Some(answer_built::refused(12, needed));
     }
-    write(s, t, u, f, keep, left, scratch, stack, v, l, args, types);
+    write(
+        s, t, u, f, keep, left, scratch, stack, v, l, c.args, c.types,
+    );
     Some(Built {
         code: 0,
         place: 0,

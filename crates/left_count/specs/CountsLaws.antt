@@ -1,5 +1,5 @@
 -- The counts are those of the left sheet's lines. Assumes nothing.
-use Rattle.std.specs.Prelude.{◌≡◌, Bool, ltb}
+use Rattle.std.specs.Prelude.{◌≡◌, Bool, ltb, Option as Maybe, Some, None}
 use Rattle.std.proofs.Math.Path.{refl, ap}
 use Rattle.std.proofs.Common.{ap₂, sym, ◌∙◌, subst, add-one, length-append}
 use mathlib.Core.List.{List, [], ◌∷◌, ◌++◌, map, append-nil, Memᴰ}
@@ -12,7 +12,7 @@ use Rattle.std.proofs.Math.ListN.{length, get_or}
 use borrow.Author.Tests.{eqb-true, eqb-false, ne_eqb, ltb-true, ltb-false}
 use Rattle.number_columns.specs.Column.{pick}
 use Rattle.sheet.specs.Line.{Line, number}
-use Rattle.sheet.proofs.ListLaws.{Every, every_mem, contrary}
+use Rattle.sheet.proofs.ListLaws.{Every, every_mem}
 use Rattle.model.specs.Cty.{Cty, size}
 use Rattle.model.specs.Decl.{Dtype, bit, dtype_at, table, Layout, L_erased, L_newtype, L_struct, L_abbrev, L_opaque}
 use Rattle.model.specs.Resolve.{resolve}
@@ -64,7 +64,7 @@ params_few_of ls p d =
     omega (arith, length_params ls (first_of param_line ls d) (first_of param_line ls (d + 1) - first_of param_line ls d), count_before_le param_line ls (start ls (d + 1)), params_few ls p)
 
 -- ---- a body
-pub added_as : (ls : List Line) (d : ℕ) (xs ys : List ℕ) (j k n : ℕ) (c r : Count) → xs ≡ ys → j ≡ k → Added ls d xs j n c r → Added ls d ys k n c r
+pub added_as : (ls : List Line) (d : ℕ) (xs ys : List ℕ) (j k n : ℕ) (c : Count) (r : Maybe Count) → xs ≡ ys → j ≡ k → Added ls d xs j n c r → Added ls d ys k n c r
 added_as ls d xs ys j k n c r p q x = subst (λ (l : List ℕ). Added ls d l k n c r) p (subst (λ (m : ℕ). Added ls d xs m n c r) q x)
 
 -- a variant's constructors are C lines
@@ -92,7 +92,7 @@ module _ (ls : List Line) (t u f keep : List ℕ) (ready : Ready ls t u f keep) 
     unfolding resolves_of
     resolves_kept l = rw (ne_eqb (state u d) 0 n0, ne_eqb (state u d) 1 n1, ne_eqb (body_kind ls d) 0 (λ e. omega arith), ne_eqb (body_kind ls d) 1 (λ e. omega arith)) refl
 
-  module _ (n : ℕ) (c r : Count) where
+  module _ (n : ℕ) (c : Count) (r : Maybe Count) where
     abbrev Whole : Type 0
     Whole = Added ls d ys (body_lines (left_body ls u keep d)) n c r
 
@@ -118,14 +118,14 @@ module _ (ls : List Line) (t u f keep : List ℕ) (ready : Ready ls t u f keep) 
           added_as ls d _ ys _ (body_lines (left_body ls u keep d)) n c r p
           (ap length p ∙ sym (lines_record ls u keep ready.tabled.passed ready.slotted ready.settled d below n0 n1 e)) x
 
-      pub count_variant : (m : Count) (k : ℕ) → body_kind ls d ≡ 3 → k ≡ body_last ls d → (m.room ≡ true) × (m.args ≡ c.args) × (m.types ≡ c.types) × (m.lines ≡ c.lines + k)
+      pub count_variant : (m : Count) (k : ℕ) → body_kind ls d ≡ 3 → k ≡ body_last ls d → (m.args ≡ c.args) × (m.types ≡ c.types) × (m.lines ≡ c.lines + k)
           → Rest ls keep d (first_of field_line ls d) (first_of field_line ls (d + 1)) n m r → Whole
       count_variant m k e q a x =
           let p = resolves_kept n0 n1 (omega arith) in
           let ks : List ℕ = kept_types ls keep (first_of field_line ls d) (first_of field_line ls (d + 1) - first_of field_line ls d) in
           added_as ls d ks ys (k + length ks) (body_lines (left_body ls u keep d)) n c r p
           (ap₂ ◌+◌ q (ap length p) ∙ sym (lines_variant ls u keep ready.tabled.passed ready.slotted ready.settled d below n0 n1 e))
-          (added_more ls d [] ks k (length ks) n c m r (added_lines ls d k n c m a.0 a.1 a.2 a.3) a.0 x)
+          (added_more ls d [] ks k (length ks) n c m r (added_lines ls d k n c m a.0 a.1 a.2) x)
 
   -- the types that are counted
   pub told_newtype : state u d ≡ 1 → Told ls t u f d (body_of u d)
@@ -185,18 +185,18 @@ module _ (ls : List Line) (t u f keep : List ℕ) (ready : Ready ls t u f keep) 
         go (L_abbrev c) s q = omega (arith, s.0)
         go L_opaque s q = omega (arith, s.0)
 
-    module _ (n : ℕ) (c r : Count) where
+    module _ (n : ℕ) (c : Count) (r : Maybe Count) where
       pub decl_skip : get_or left d 0 ≡ 0 → Added ls d [] 0 n c r → Added ls d (decl_types ls u keep left d) (decl_count ls u keep left d) n c r
       unfolding decl_types decl_count
       decl_skip e x = rw e x
 
-      pub decl_left : (m : Count) (k : ℕ) → (get_or left d 0 ≡ 0 → ⊥) → k ≡ length (params_of ls d) → (m.room ≡ true) × (m.args ≡ c.args) × (m.types ≡ c.types) × (m.lines ≡ c.lines + (k + 2))
+      pub decl_left : (m : Count) (k : ℕ) → (get_or left d 0 ≡ 0 → ⊥) → k ≡ length (params_of ls d) → (m.args ≡ c.args) × (m.types ≡ c.types) × (m.lines ≡ c.lines + (k + 2))
           → Added ls d ys (body_lines (left_body ls u keep d)) n m r → Added ls d (decl_types ls u keep left d) (decl_count ls u keep left d) n c r
       unfolding decl_types decl_count
       decl_left m k e q a x =
           rw (ne_eqb (get_or left d 0) 0 e)
           (added_as ls d ys ys (k + 2 + body_lines (left_body ls u keep d)) (length (params_of ls d) + 2 + body_lines (left_body ls u keep d)) n c r refl (ap (λ (j : ℕ). j + 2 + body_lines (left_body ls u keep d)) q)
-          (added_more ls d [] ys (k + 2) (body_lines (left_body ls u keep d)) n c m r (added_lines ls d (k + 2) n c m a.0 a.1 a.2 a.3) a.0 x))
+          (added_more ls d [] ys (k + 2) (body_lines (left_body ls u keep d)) n c m r (added_lines ls d (k + 2) n c m a.0 a.1 a.2) x))
 
     -- the lines of what is left of it
     module _ (w : Written) where
@@ -288,9 +288,9 @@ module _ (ls : List Line) (t u f keep left : List ℕ) (ready : Ready ls t u f k
   unfolding decl_types
   types_left i = let e : get_or left d 0 ≡ 1 = flagged.flags d below ∙ ap bit i in rw e refl
 
-  pub upto_more : Upto ls u keep n d c → Added ls d (decl_types ls u keep left d) (decl_count ls u keep left d) n c r → r.room ≡ true → Upto ls u keep n (d + 1) r
-  upto_more x y z =
-      let q = y.sums z in
+  pub upto_more : Upto ls u keep n d c → Added ls d (decl_types ls u keep left d) (decl_count ls u keep left d) n c (Some r) → Upto ls u keep n (d + 1) r
+  upto_more x y =
+      let q = y.sums r refl in
       let g = grown ls t u f keep ready d below left flagged (upto ls d).written in
       let k : d + 1 ≡ suc d = add-one d in
       record {
@@ -317,24 +317,31 @@ module _ (ls : List Line) (t u f keep left : List ℕ) (ready : Ready ls t u f k
           (subst (λ (l : List ℕ). Memᴰ v l) (sym (types_left i')) (subst (λ (a : ℕ). Memᴰ v (resolves_of ls u keep a)) j m)))
       go e v h i m false p s = x.fit e v (before e h (eqb-false e d p)) i m
 
-pub counted_all : (ls : List Line) (u keep : List ℕ) (n d : ℕ) (c : Count) → decls_of ls ≤ d → d ≤ decls_of ls → Upto ls u keep n d c → c.room ≡ true → Counted ls u keep n c
-counted_all ls u keep n d c h l x t =
+pub counted_all : (ls : List Line) (u keep : List ℕ) (n d : ℕ) (c : Count) → decls_of ls ≤ d → d ≤ decls_of ls → Upto ls u keep n d c → Counted ls u keep n (Some c)
+counted_all ls u keep n d c h l x =
     let e : d ≡ decls_of ls = omega arith in
     let q : upto ls d ≡ left_written ls = ap (upto ls) e ∙ upto_all ls in
+    let a : c.args ≡ length (left_written ls).written.args = x.args ∙ ap (λ (v : Lines). length v.written.args) q in
+    let t : c.types ≡ length (left_written ls).written.types = x.types ∙ ap (λ (v : Lines). length v.written.types) q in
+    let m : c.lines ≡ length (left_written ls).lines = x.lines_are ∙ ap (λ (v : Lines). length v.lines) q in
     record {
-      args = λ z. x.args ∙ ap (λ (v : Lines). length v.written.args) q;
-      types = λ z. x.types ∙ ap (λ (v : Lines). length v.written.types) q;
-      lines_are = λ z. x.lines_are ∙ ap (λ (v : Lines). length v.lines) q;
-      fit = λ z e y k i m. x.fit e y (omega arith) i m;
-      short = λ z. contrary c.room t z;
+      args = λ r z. let i : c ≡ r = cc in ap (λ (y : Count). y.args) (sym i) ∙ a;
+      types = λ r z. let i : c ≡ r = cc in ap (λ (y : Count). y.types) (sym i) ∙ t;
+      lines_are = λ r z. let i : c ≡ r = cc in ap (λ (y : Count). y.lines) (sym i) ∙ m;
+      fit = λ r z f y k i j. x.fit f y (omega arith) i j;
+      short = λ z. absurd cc;
     }
 
-pub counted_short : (ls : List Line) (u keep : List ℕ) (n : ℕ) (c : Count) → c.room ≡ false → n < 1024 → Counted ls u keep n c
-counted_short ls u keep n c e h =
-    record { args = λ z. contrary c.room z e; types = λ z. contrary c.room z e; lines_are = λ z. contrary c.room z e; fit = λ z. contrary c.room z e; short = λ z. h }
+pub counted_short : (ls : List Line) (u keep : List ℕ) (n : ℕ) → n < 1024 → Counted ls u keep n None
+counted_short ls u keep n h = record { args = λ r z. absurd cc; types = λ r z. absurd cc; lines_are = λ r z. absurd cc; fit = λ r z. absurd cc; short = λ z. h }
 
-pub few_upto : (ls : List Line) (u keep : List ℕ) (n d : ℕ) (c : Count) → d ≤ 512 → Upto ls u keep n d c → Few c
-few_upto ls u keep n d c h x = record { args = λ e. omega (arith, x.few_args); types = λ e. omega (arith, x.few_types); lines = λ e. omega (arith, x.few_lines) }
+pub few_upto : (ls : List Line) (u keep : List ℕ) (n d : ℕ) (c : Count) → d ≤ 512 → Upto ls u keep n d c → Few (Some c)
+few_upto ls u keep n d c h x =
+    record {
+      args = λ r z. let i : c ≡ r = cc in omega (arith, x.few_args, ap (λ (y : Count). y.args) i);
+      types = λ r z. let i : c ≡ r = cc in omega (arith, x.few_types, ap (λ (y : Count). y.types) i);
+      lines = λ r z. let i : c ≡ r = cc in omega (arith, x.few_lines, ap (λ (y : Count). y.lines) i);
+    }
 
-pub few_short : (c : Count) → c.room ≡ false → Few c
-few_short c e = record { args = λ z. contrary c.room z e; types = λ z. contrary c.room z e; lines = λ z. contrary c.room z e }
+pub few_short : Few None
+few_short = record { args = λ r z. absurd cc; types = λ r z. absurd cc; lines = λ r z. absurd cc }

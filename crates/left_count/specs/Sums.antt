@@ -1,5 +1,5 @@
 -- How many A and Y lines the types of a declaration have, added up. Assumes nothing.
-use Rattle.std.specs.Prelude.{◌≡◌, List, [], ◌∷◌, map, true, false, ℕ, ◌+◌, ◌*◌, ◌≤◌, ◌<◌, length}
+use Rattle.std.specs.Prelude.{◌≡◌, List, [], ◌∷◌, map, false, ℕ, ◌+◌, ◌*◌, ◌≤◌, ◌<◌, length, Option, Some, None}
 use Rattle.sheet.specs.Line.{Line}
 use Rattle.sheet.proofs.ListLaws.{Every}
 use Rattle.model.specs.Cty.{size}
@@ -44,6 +44,6 @@ pub record Sums (ls : List Line) (d : ℕ) (ys : List ℕ) (k n : ℕ) (c r : Co
   pub few_types : r.types ≤ c.types + 1024 * length ys
 
 -- where n words have room for each type
-pub record Added (ls : List Line) (d : ℕ) (ys : List ℕ) (k n : ℕ) (c r : Count) : Type 0 where
-  pub sums : r.room ≡ true → Sums ls d ys k n c r
-  pub short : r.room ≡ false → n < 1024
+pub record Added (ls : List Line) (d : ℕ) (ys : List ℕ) (k n : ℕ) (c : Count) (r : Option Count) : Type 0 where
+  pub sums : (x : Count) → r ≡ Some x → Sums ls d ys k n c x
+  pub short : r ≡ None → n < 1024

@@ -1,5 +1,5 @@
 -- Laws for sums of lines. Assumes nothing.
-use Rattle.std.specs.Prelude.{◌≡◌, Bool, eqb, get_or, take}
+use Rattle.std.specs.Prelude.{◌≡◌, Bool, eqb, get_or, take, Option, Some, None}
 use Rattle.std.proofs.Math.Path.{refl}
 use Rattle.std.proofs.Common.{ap, sym, ◌∙◌, subst, length-append, take_at, eqb-true, ne_eqb}
 use mathlib.Core.List.{List, [], ◌∷◌, ◌++◌, map, Memᴰ}
@@ -11,7 +11,7 @@ use Rattle.std.proofs.Math.ListN.{length}
 use Rattle.std.proofs.lemmas.Bool.{eqb-false}
 use Rattle.number_columns.specs.Column.{pick}
 use Rattle.sheet.specs.Line.{Line}
-use Rattle.sheet.proofs.ListLaws.{every_append, contrary}
+use Rattle.sheet.proofs.ListLaws.{every_append}
 use Rattle.model.specs.Cty.{Cty, size}
 use Rattle.meaning.specs.Program.{field_line}
 use Rattle.meaning_laws.specs.Output.{emit_adds, nothing}
@@ -29,7 +29,7 @@ use Rattle.left_laws.specs.Lefts.{Ready}
 use Rattle.form_emit.specs.Left.{left_type}
 use Rattle.left_laws.specs.ReadyLaws.{ready_asked, ready_nodes, ready_length, ready_size}
 use Rattle.left_laws.specs.declared.Count.{Count}
-use Rattle.left_count.specs.Sums.{sum_args, sum_types, Told, Tells, Added}
+use Rattle.left_count.specs.Sums.{sum_args, sum_types, Told, Tells, Sums, Added}
 
 pub told : (ls : List Line) (t u f keep : List ℕ) → Ready ls t u f keep → (d y : ℕ) → d < decls_of ls → Memᴰ y (resolves_of ls u keep d) → Told ls t u f d y
 told ls t u f keep r d y h m =
@@ -56,24 +56,24 @@ module _ (ls : List Line) (d : ℕ) where
   sum_types_append [] ys = omega arith
   sum_types_append (x ∷ xs) ys = omega (arith, sum_types_append xs ys)
 
+  -- with room
+  pub added_sums : (ys : List ℕ) (k n : ℕ) (c r : Count) → Sums ls d ys k n c r → Added ls d ys k n c (Some r)
+  added_sums ys k n c r s = record { sums = λ x e. let q : r ≡ x = cc in subst (λ (y : Count). Sums ls d ys k n c y) q s; short = λ e. absurd cc }
+
   -- nothing but lines
-  pub added_lines : (k n : ℕ) (c r : Count) → r.room ≡ true → r.args ≡ c.args → r.types ≡ c.types → r.lines ≡ c.lines + k → Added ls d [] k n c r
+  pub added_lines : (k n : ℕ) (c r : Count) → r.args ≡ c.args → r.types ≡ c.types → r.lines ≡ c.lines + k → Added ls d [] k n c (Some r)
   unfolding sum_args sum_types
-  added_lines k n c r t a y l =
-      record {
-        sums = λ e. record { args = omega arith; types = omega arith; lines_are = l; small = tt; few_args = omega arith; few_types = omega arith };
-        short = λ e. contrary r.room t e;
-      }
+  added_lines k n c r a y l = added_sums [] k n c r (record { args = omega arith; types = omega arith; lines_are = l; small = tt; few_args = omega arith; few_types = omega arith })
 
   -- no room
-  pub added_short : (ys : List ℕ) (k n : ℕ) (c r : Count) → r.room ≡ false → n < 1024 → Added ls d ys k n c r
-  added_short ys k n c r e h = record { sums = λ t. contrary r.room t e; short = λ z. h }
+  pub added_short : (ys : List ℕ) (k n : ℕ) (c : Count) → n < 1024 → Added ls d ys k n c None
+  added_short ys k n c h = record { sums = λ x e. absurd cc; short = λ e. h }
 
   -- one after the other
-  pub added_more : (xs ys : List ℕ) (j k n : ℕ) (c m r : Count) → Added ls d xs j n c m → m.room ≡ true → Added ls d ys k n m r → Added ls d (xs ++ ys) (j + k) n c r
-  added_more xs ys j k n c m r x t y =
+  pub added_more : (xs ys : List ℕ) (j k n : ℕ) (c m : Count) (r : Option Count) → Added ls d xs j n c (Some m) → Added ls d ys k n m r → Added ls d (xs ++ ys) (j + k) n c r
+  added_more xs ys j k n c m r x y =
       record {
-        sums = λ e. let p = x.sums t in let q = y.sums e in
+        sums = λ z e. let p = x.sums m refl in let q = y.sums z e in
             record {
               args = omega (arith, p.args, q.args, sum_args_append xs ys);
               types = omega (arith, p.types, q.types, sum_types_append xs ys);
@@ -87,27 +87,24 @@ module _ (ls : List Line) (d : ℕ) where
 
 -- one type
 pub added_type : (ls : List Line) (t u f : List ℕ) (d y : ℕ) → Told ls t u f d y → (out res : List ℕ) (n a : ℕ) (c r : Count) → Put (words ls u f d false y) out 0 n res → n ≤ length out
-    → a ≡ count_args (map node_of (take (n - 0) res)) → r.args ≡ c.args + a → r.types ≡ c.types + n → r.lines ≡ c.lines → r.room ≡ true → Added ls d (y ∷ []) 0 (length out) c r
+    → a ≡ count_args (map node_of (take (n - 0) res)) → r.args ≡ c.args + a → r.types ≡ c.types + n → r.lines ≡ c.lines → Added ls d (y ∷ []) 0 (length out) c (Some r)
 unfolding sum_args sum_types
-added_type ls t u f d y h out res n a c r p q e ra rt rl rr =
+added_type ls t u f d y h out res n a c r p q e ra rt rl =
     let ws : List ℕ = words ls u f d false y in
     let R : Cty = left_type ls d y in
     let m : n ≡ length ws = omega (arith, (p.room q).0) in
     let z : n - 0 ≡ n = omega arith in
     let w : take (n - 0) res ≡ ws = ap (λ (k : ℕ). take k res) z ∙ (ap (take n) (p.room q).1 ∙ take_at ws _ n (sym m)) in
     let s : a ≡ count_args (post R) = e ∙ (ap (λ (l : List ℕ). count_args (map node_of l)) w ∙ ap count_args h.nodes) in
-    record {
-      sums = λ z.
-          record {
-            args = omega arith;
-            types = omega (arith, h.long);
-            lines_are = omega arith;
-            small = (omega (arith, h.long), tt);
-            few_args = omega (arith, args_few R, h.few);
-            few_types = omega (arith, h.long, h.few);
-          };
-      short = λ z. contrary r.room rr z;
-    }
+    added_sums ls d (y ∷ []) 0 (length out) c r
+    (record {
+      args = omega arith;
+      types = omega (arith, h.long);
+      lines_are = omega arith;
+      small = (omega (arith, h.long), tt);
+      few_args = omega (arith, args_few R, h.few);
+      few_types = omega (arith, h.long, h.few);
+    })
 
 pub type_short : (ls : List Line) (t u f : List ℕ) (d y : ℕ) → Told ls t u f d y → (out res : List ℕ) (n : ℕ) → Put (words ls u f d false y) out 0 n res → length out < n → length out < 1024
 type_short ls t u f d y h out res n p q = omega (arith, p.full q, h.long, h.few)
@@ -136,7 +133,7 @@ args_small ls t u f d y h out res n a p q e =
 -- ---- kept fields
 module _ (ls : List Line) (keep : List ℕ) (d : ℕ) where
   -- the fields from F line i on, and a line for each
-  abbrev pub Rest : ℕ → ℕ → ℕ → Count → Count → Type 0
+  abbrev pub Rest : ℕ → ℕ → ℕ → Count → Option Count → Type 0
   Rest i end n c r = Added ls d (kept_types ls keep i (end - i)) (length (kept_types ls keep i (end - i))) n c r
 
   step_of : (i end : ℕ) → i < end → end - i ≡ suc (end - (i + 1))
@@ -152,14 +149,14 @@ module _ (ls : List Line) (keep : List ℕ) (d : ℕ) where
       go false h = omega arith
 
   -- F line i, if it is kept
-  abbrev pub One : ℕ → ℕ → Count → Count → Type 0
+  abbrev pub One : ℕ → ℕ → Count → Option Count → Type 0
   One i n c r = Added ls d (kept_types ls keep i 1) (length (kept_types ls keep i 1)) n c r
 
-  pub one_skip : (i n : ℕ) (c : Count) → (get_or keep i 0 ≡ 1 → ⊥) → c.room ≡ true → One i n c c
+  pub one_skip : (i n : ℕ) (c : Count) → (get_or keep i 0 ≡ 1 → ⊥) → One i n c (Some c)
   unfolding kept_types
-  one_skip i n c e t = rw (ne_eqb (get_or keep i 0) 1 e) (added_lines ls d 0 n c c t refl refl (omega arith))
+  one_skip i n c e = rw (ne_eqb (get_or keep i 0) 1 e) (added_lines ls d 0 n c c refl refl (omega arith))
 
-  pub one_kept : (i n : ℕ) (c r : Count) → get_or keep i 0 ≡ 1 → Added ls d (field_type ls i ∷ []) 1 n c r → One i n c r
+  pub one_kept : (i n : ℕ) (c : Count) (r : Option Count) → get_or keep i 0 ≡ 1 → Added ls d (field_type ls i ∷ []) 1 n c r → One i n c r
   unfolding kept_types
   one_kept i n c r e x = rw e x
 
@@ -174,19 +171,19 @@ module _ (ls : List Line) (keep : List ℕ) (d : ℕ) where
       go true = refl
       go false = refl
 
-  pub rest_step : (i end n : ℕ) (c m r : Count) → i < end → One i n c m → m.room ≡ true → Rest (i + 1) end n m r → Rest i end n c r
-  rest_step i end n c m r h x t y =
+  pub rest_step : (i end n : ℕ) (c m : Count) (r : Option Count) → i < end → One i n c (Some m) → Rest (i + 1) end n m r → Rest i end n c r
+  rest_step i end n c m r h x y =
       let p : List ℕ = kept_types ls keep i 1 in
       let q : List ℕ = kept_types ls keep (i + 1) (end - (i + 1)) in
       subst (λ (l : List ℕ). Added ls d l (length l) n c r) (sym (split_is i end h))
-      (subst (λ (k : ℕ). Added ls d (p ++ q) k n c r) (sym (length-append p q)) (added_more ls d p q (length p) (length q) n c m r x t y))
+      (subst (λ (k : ℕ). Added ls d (p ++ q) k n c r) (sym (length-append p q)) (added_more ls d p q (length p) (length q) n c m r x y))
 
-  pub rest_end : (i end n : ℕ) (c : Count) → end ≤ i → c.room ≡ true → Rest i end n c c
+  pub rest_end : (i end n : ℕ) (c : Count) → end ≤ i → Rest i end n c (Some c)
   unfolding kept_types
-  rest_end i end n c h t = let e : end - i ≡ 0 = omega arith in rw e (added_lines ls d 0 n c c t refl refl (omega arith))
+  rest_end i end n c h = let e : end - i ≡ 0 = omega arith in rw e (added_lines ls d 0 n c c refl refl (omega arith))
 
-  pub rest_stop : (i end n : ℕ) (c r : Count) → r.room ≡ false → n < 1024 → Rest i end n c r
-  rest_stop i end n c r e h = added_short ls d (kept_types ls keep i (end - i)) (length (kept_types ls keep i (end - i))) n c r e h
+  pub rest_stop : (i end n : ℕ) (c : Count) → n < 1024 → Rest i end n c None
+  rest_stop i end n c h = added_short ls d (kept_types ls keep i (end - i)) (length (kept_types ls keep i (end - i))) n c h
 
   -- a kept field is among them
   pub kept_in : (i f n : ℕ) → f ≤ i → i < f + n → get_or keep i 0 ≡ 1 → Memᴰ (field_type ls i) (kept_types ls keep f n)

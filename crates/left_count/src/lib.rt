@@ -4,7 +4,7 @@
 mod node_count;
 mod types;
 
-ghost use Rattle.std.specs.Prelude.{◌≡◌, true, ◌+◌, ◌*◌, ◌≤◌, ◌<◌, length};
+ghost use Rattle.std.specs.Prelude.{◌≡◌, ◌+◌, ◌*◌, ◌≤◌, ◌<◌, length};
 ghost use Rattle.sheet.specs.Sheet.{lines};
 ghost use Rattle.meaning.specs.Program.{field_line};
 ghost use Rattle.meaning.specs.Rows.{count_of};
@@ -27,9 +27,9 @@ fn count_body(
     scratch: &mut [u64],
     d: usize,
     c: Count,
-) -> Count
+) -> Option<Count>
     requires ready { Ready (lines_in t.now) t.now u.now f.now keep.now × (d < decls_of (lines_in t.now)) × (count_of field_line (lines_in t.now) ≤ length keep.now) }
-    requires fact { (state u.now d ≡ 0 → ⊥) × (c.room ≡ true) × (c.args ≤ 1100000000) × (c.types ≤ 1100000000) × (c.lines ≤ 700000000) }
+    requires fact { (state u.now d ≡ 0 → ⊥) × (c.args ≤ 1100000000) × (c.types ≤ 1100000000) × (c.lines ≤ 700000000) }
     ensures { Added (lines_in t.now) d (resolves_of (lines_in t.now) u.now keep.now d) (body_lines (left_body (lines_in t.now) u.now keep.now d)) (length scratch.old) c result }
 {
     if form_node_words::state(u, d) == 1 {
@@ -38,7 +38,7 @@ fn count_body(
     }
     let k = table_access::decl_number(t, d, 2);
     if k == 0 {
-        return c;
+        return Some(c);
     }
     let n = table_access::decl_number(t, d, 4) as usize;
     if k == 1 {
@@ -60,19 +60,19 @@ fn count_decl(
     scratch: &mut [u64],
     d: usize,
     c: Count,
-) -> Count
+) -> Option<Count>
     requires ready { Ready (lines_in t.now) t.now u.now f.now keep.now × (d < decls_of (lines_in t.now)) × (count_of field_line (lines_in t.now) ≤ length keep.now) × Flagged (lines_in t.now) left.now }
-    requires room_value { (c.room ≡ true) × (c.args ≤ 1100000000) × (c.types ≤ 1100000000) × (c.lines ≤ 600000000) }
+    requires room_value { (c.args ≤ 1100000000) × (c.types ≤ 1100000000) × (c.lines ≤ 600000000) }
     ensures { Added (lines_in t.now) d (decl_types (lines_in t.now) u.now keep.now left.now d) (decl_count (lines_in t.now) u.now keep.now left.now d) (length scratch.old) c result }
 {
     if left[d] == 0 {
-        return c;
+        return Some(c);
     }
     let n = resolve_kids::params(t, d);
     count_body(t, u, f, keep, scratch, d, add_lines(c, n + 2))
 }
 
-// All declarations; no room where the scratch is too short for a type.
+// All declarations; None where the scratch is too short for a type.
 pub fn count(
     t: &[u32],
     u: &[u16],
@@ -80,22 +80,18 @@ pub fn count(
     keep: &[u8],
     left: &[u8],
     scratch: &mut [u64],
-) -> Count
+) -> Option<Count>
     requires { Ready (lines_in t.now) t.now u.now f.now keep.now × (count_of field_line (lines_in t.now) ≤ length keep.now) × Flagged (lines_in t.now) left.now }
     ensures { Counted (lines_in t.now) u.now keep.now (length scratch.old) result × Few result }
 {
     let n = table_access::decls(t);
     let mut c = Count {
-        room: true,
         args: 0,
         types: 0,
         lines: 0,
     };
     for d in 0..n {
-        c = count_decl(t, u, f, keep, left, scratch, d, c);
-        if !c.room {
-            return c;
-        }
+        c = count_decl(t, u, f, keep, left, scratch, d, c)?;
     }
-    c
+    Some(c)
 }

@@ -9,15 +9,10 @@ use form_nodes::{count, kind};
 fn node_args(w: u64) -> usize
     ensures { (result ≡ args_of (node_of w)) × (result ≤ 1023) }
 {
-    let k = kind(w);
-    let n = count(w) as usize;
-    if k == 8 {
-        return n;
+    match kind(w) {
+        8 | 9 => count(w) as usize,
+        _ => 0,
     }
-    if k == 9 {
-        return n;
-    }
-    0
 }
 
 // How many A lines nodes have.
@@ -26,8 +21,8 @@ pub fn count_args(nodes: &[u64]) -> usize
     ensures { result ≡ count_args (map node_of nodes.now) }
 {
     let mut sum: usize = 0;
-    for i in 0..nodes.len() {
-        sum += node_args(nodes[i]);
+    for w in nodes {
+        sum += node_args(*w);
     }
     sum
 }

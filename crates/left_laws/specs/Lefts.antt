@@ -1,5 +1,5 @@
 -- What is left of an accepted sheet's declarations, by the tables of the passes. Assumes nothing.
-use Rattle.std.specs.Prelude.{◌≡◌, Bool, true, false, ℕ, ◌≤◌, ◌<◌, length, get_or}
+use Rattle.std.specs.Prelude.{◌≡◌, Bool, true, false, ℕ, ◌≤◌, ◌<◌, length, get_or, Option as Maybe, Some, None}
 use mathlib.Core.List.{List, [], Memᴰ}
 use Rattle.std.proofs.Math.Option.{Option, none, some}
 use Rattle.sheet.specs.Format.{base}
@@ -53,9 +53,9 @@ Fit ls u keep n =
     (d y : ℕ) → d < decls_of ls → is_left (left_at 100 (program ls) d) ≡ true → Memᴰ y (resolves_of ls u keep d) → size (left_type ls d y) ≤ n
 
 -- the counts, where n words have room for every type
-pub record Counted (ls : List Line) (u keep : List ℕ) (n : ℕ) (r : Count) : Type 0 where
-  pub args : r.room ≡ true → r.args ≡ length (left_written ls).written.args
-  pub types : r.room ≡ true → r.types ≡ length (left_written ls).written.types
-  pub lines_are : r.room ≡ true → r.lines ≡ length (left_written ls).lines
-  pub fit : r.room ≡ true → Fit ls u keep n
-  pub short : r.room ≡ false → n < 1024
+pub record Counted (ls : List Line) (u keep : List ℕ) (n : ℕ) (r : Maybe Count) : Type 0 where
+  pub args : (c : Count) → r ≡ Some c → c.args ≡ length (left_written ls).written.args
+  pub types : (c : Count) → r ≡ Some c → c.types ≡ length (left_written ls).written.types
+  pub lines_are : (c : Count) → r ≡ Some c → c.lines ≡ length (left_written ls).lines
+  pub fit : (c : Count) → r ≡ Some c → Fit ls u keep n
+  pub short : r ≡ None → n < 1024
