@@ -1,5 +1,5 @@
 -- The ones of a row are its members, and those what a node reaches. Assumes nothing.
-use Rattle.std.specs.Prelude.{◌↔◌, ◌≡◌, refl, Bool, true, false, eqb, get_or}
+use Rattle.std.specs.Prelude.{◌≡◌, refl, Bool, true, false, eqb, get_or}
 use Rattle.std.proofs.Math.Path.{sym}
 use Rattle.std.proofs.Common.{◌∙◌, ap, ap₂, div-one, pow-suc, div-lt_iff_lt-mul, one-add, arith, shr-shr, ext_get_or}
 use mathlib.Core.List.{List, Memᴰ}

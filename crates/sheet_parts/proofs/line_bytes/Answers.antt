@@ -4,18 +4,12 @@ use native.Mathlib.Omega.{arith}
 use lib.ListN.{length-take, length-drop}
 use Rattle.sheet.specs.Sheet.{line_at}
 use Rattle.sheet.proofs.SheetLaws.{within_count}
-use borrow.Author.Rules.{rules}
-use Rattle.sheet_parts.proofs.line_bytes.Statement.{statement}
-use Rattle.sheet_parts.proofs.line_bytes.Tie as tie
+use Rattle.sheet_parts.proofs.line_bytes.Goals as goal
 
-returns : tie.Need-returns
+pub returns : goal.returns
 unfolding line_at
 returns c =
     let a = c in (
       simp (add-sub_cancel_left, mul_comm a.args.i),
       simp (add-sub_cancel_left, length-take, length-drop) (omega (arith, within_count 6 a.args.s.now a.args.i a.requires)),
     )
-
-pub line_bytes_spec : {M : Type 1} → statement M
-line_bytes_spec =
-    tie.close (tie.spec (λ c. search rules) (λ c. search rules) (λ c. search rules) (λ c. search rules) (λ c. search rules) returns)
