@@ -37,12 +37,7 @@ fn put_line(
     ensures { emit.Put (row letter (a ∷ b ∷ c ∷ d ∷ e ∷ []) ∷ []) out.old at result out.new }
 {
     let i = CELLS * at;
-    out[i] = letter;
-    out[i + 1] = a;
-    out[i + 2] = b;
-    out[i + 3] = c;
-    out[i + 4] = d;
-    out[i + 5] = e;
+    out[i..i + CELLS].copy_from_slice(&[letter, a, b, c, d, e]);
     at + 1
 }
 
@@ -103,6 +98,7 @@ fn kept_or(flags: &[u8], k: usize, r: usize) -> usize
 }
 
 // The first kept part of the list that link k ends.
+// A while and no for: the step is a link, and not one.
 fn first_kept(q: &[u32], flags: &[u8], k: usize) -> usize
     requires { emit.Linked (lines_of q.now) × (length q.now / 6 ≤ length flags.now) × (k ≤ length q.now / 6) }
     ensures { emit.First q.now flags.now k result }
