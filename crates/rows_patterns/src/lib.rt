@@ -16,11 +16,9 @@ ghost use Rattle.answer_pattern_laws.specs.Refusals.{code_of};
 ghost use Rattle.rows_patterns.specs.Kept.{NoBad, Patterned, Ranged, Kept};
 
 use answer::Refusal;
+use pattern_rows::PATTERNS;
 use sheet_parts::{COLUMNS, LINE};
 use walk_cells::CELLS;
-
-// At most so many Q lines.
-const PATTERNS: usize = 256;
 
 // The code of a refusal, 0 of an acceptance.
 fn code_of(r: Refusal) -> u32
@@ -37,13 +35,11 @@ fn first_other(z: &[u8]) -> usize
     ensures { result ≡ first (λ i. not (is pattern_line (raw 6 z.now i))) (count 6 z.now) }
 {
     let n = z.len() / LINE;
-    let mut i = 0;
-    while i < n {
+    for i in 0..n {
         let l = sheet_parts::line_bytes(z, i);
         if l[0] != b'Q' {
             return i;
         }
-        i += 1;
     }
     n
 }
@@ -67,10 +63,8 @@ fn names_of(a: &[u8]) -> usize
 {
     let n = a.len() / LINE;
     let mut names = 0;
-    let mut i = 0;
-    while i < n {
+    for i in 0..n {
         names = counted(a, i, names);
-        i += 1;
     }
     names
 }
