@@ -10,11 +10,8 @@ ghost use Rattle.rows_refusals.specs.Rows.{refused_as, checked_of, Checks};
 
 use answer::Refusal;
 use row4_limits::Counts;
-use sheet_parts::LINE;
+use sheet_parts::{COLUMNS, LINE};
 use walk_cells::CELLS;
-
-// The columns of a number.
-const COLUMNS: usize = 6;
 
 // The first of the rows that applies; and where none does what the sheet declares, else zeros.
 #[derive(Clone, Copy)]
