@@ -12,7 +12,7 @@ use Rattle.number_columns.specs.Column.{◌⇒◌∥◌}
 use Rattle.sheet.specs.Line.{Line, bad, number}
 use Rattle.sheet.proofs.ListLaws.{length_nil}
 use Rattle.model.specs.Cty.{Cty}
-use Rattle.model.specs.Decl.{table, Ctor, TAbstract, TAbbrev, TRecord, TVariant, here, ctors_of, close_field, close_body, close_fields, bit}
+use Rattle.model.specs.Decl.{table, Ctor, TAbstract, TAbbrev, TRecord, TVariant, ctors_of, close_field, close_body, close_fields, bit}
 use Rattle.model.specs.Erasure.{cty_erased, marked, erasure_fixpoint}
 use Rattle.model.specs.Layout.{layouts_of_ctors, slots, ctor_layout, ctor_layouts}
 use Rattle.meaning.specs.Output.{all_slots}

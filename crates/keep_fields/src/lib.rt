@@ -3,17 +3,10 @@
 #![tactic(auto)]
 
 ghost use Rattle.std.specs.Prelude.{◌≡◌, suc, ◌≤◌, ◌<◌, length};
-ghost use Rattle.model.specs.Decl as decls;
 ghost use Rattle.meaning.specs.Program as program;
 ghost use Rattle.meaning.specs.Rows as rows;
 ghost use Rattle.table_access.specs.Tables as tables;
 ghost use Rattle.keep_fields.specs.Keeps as keeps;
-
-fn bit(b: bool) -> u8
-    ensures { result ≡ decls.bit b }
-{
-    if b { 1 } else { 0 }
-}
 
 // Field f of an imported or a local declaration.
 fn is_kept(t: &[u32], node: &[u8], f: usize, import: bool) -> bool
@@ -35,12 +28,11 @@ fn put_fields(t: &[u32], node: &[u8], keep: &mut [u8], d: usize)
     requires kept { keeps.Kept (tables.lines_in t.now) keep.old d }
     ensures { keeps.Kept (tables.lines_in t.now) keep.new (suc d) }
 {
+    let first = table_access::first_field(t, d);
     let end = table_access::first_field(t, d + 1);
     let import = table_access::is_import(t, d);
-    let mut f = table_access::first_field(t, d);
-    while f < end {
-        keep[f] = bit(is_kept(t, node, f, import));
-        f += 1;
+    for f in first..end {
+        keep[f] = u8::from(is_kept(t, node, f, import));
     }
 }
 
@@ -51,9 +43,7 @@ pub fn keep_fields(t: &[u32], node: &[u8], keep: &mut [u8])
     ensures { keeps.Slotted (tables.lines_in t.now) keep.new }
 {
     let n = table_access::decls(t);
-    let mut d = 0;
-    while d < n {
+    for d in 0..n {
         put_fields(t, node, keep, d);
-        d += 1;
     }
 }
