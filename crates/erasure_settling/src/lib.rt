@@ -23,6 +23,7 @@ pub fn settle(
 {
     let mut n = 0;
     let mut right = 0;
+    // A loop and no for: nothing but its end says how many rounds there are.
     loop {
         n += 1;
         let r = sweeps::sweep(t, used, decl, node, member, field, wait, right);

@@ -23,12 +23,10 @@ pub fn sweep(
     let n = decl.len();
     let mut erased = 0;
     let mut low = right;
-    let mut d = 0;
-    while d < n {
+    for d in 0..n {
         let r = crate::updates::update(t, used, decl, node, member, field, wait, d, low);
         erased += r.erased;
         low = r.right;
-        d += 1;
     }
     Round { erased, right: low }
 }

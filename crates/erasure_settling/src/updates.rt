@@ -1,17 +1,11 @@
 // A declaration in a round of erasure.
 mod standing;
 
-ghost use Rattle.std.specs.Prelude.{◌≤◌, ◌<◌};
+ghost use Rattle.std.specs.Prelude.{◌<◌};
 ghost use Rattle.table_access.specs.Tables as tables;
 ghost use Rattle.erasure_laws.specs.Rounds as rounds;
 
 use erasure_laws::Round;
-
-fn lower(a: usize, b: usize) -> usize
-    ensures { (result ≤ a) × (result ≤ b) }
-{
-    if a < b { a } else { b }
-}
 
 // Declaration d in a round. An erased one stays so, an import has its verdict, and one that waits for a kept type is kept.
 pub fn update(
@@ -39,7 +33,7 @@ pub fn update(
         decl[d] = 1;
         return Round {
             erased: 1,
-            right: lower(low, used[d] as usize),
+            right: low.min(used[d] as usize),
         };
     }
     Round {
