@@ -9,12 +9,6 @@ ghost use Rattle.erasure_marks.specs.Marks as marks;
 ghost use Rattle.erasure_laws.specs.Rounds as rounds;
 ghost use Rattle.erasure_laws.specs.Fixpoint as fixpoint;
 
-fn bit(b: bool) -> u8
-    ensures { result ≡ decls.bit b }
-{
-    if b { 1 } else { 0 }
-}
-
 // The declaration that type y names, the number of declarations where it names none.
 fn named(t: &[u32], y: usize) -> usize
     requires tabled { tables.Tabled t.now }
@@ -43,9 +37,7 @@ pub fn first_uses(t: &[u32], used: &mut [u16])
     requires used_len { length used.old ≡ tables.decls_of (tables.lines_in t.now) }
     ensures { rounds.Uses (tables.lines_in t.now) used.new }
 {
-    let mut y = table_access::types(t);
-    while y > 0 {
-        y -= 1;
+    for y in (0..table_access::types(t)).rev() {
         put_use(used, named(t, y), y);
     }
 }
@@ -68,10 +60,7 @@ pub fn start(t: &[u32], decl: &mut [u8])
     requires decl_len { length decl.old ≡ tables.decls_of (tables.lines_in t.now) }
     ensures { marks.marks_of decl.new ≡ model.start (program.program (tables.lines_in t.now)) }
 {
-    let n = decl.len();
-    let mut d = 0;
-    while d < n {
-        decl[d] = bit(starts_erased(t, d));
-        d += 1;
+    for (d, mark) in decl.iter_mut().enumerate() {
+        *mark = u8::from(starts_erased(t, d));
     }
 }
