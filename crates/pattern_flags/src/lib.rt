@@ -1,5 +1,5 @@
-// What becomes of each Q line as a part, by the line that owns it, its place and its field: as a flag, 0 where it is dropped, 1
-// where it is kept, and 2 where it is lost, which is to say dropped and its names not freed.
+// What becomes of each Q line as a part, by the line that owns it, its place and its field: as a flag, by which it is dropped,
+// kept, or lost, which is to say dropped and its names not freed.
 #![tactic(auto)]
 
 ghost use Rattle.std.specs.Prelude.{◌≡◌, ◌+◌, ◌-◌, ◌*◌, ◌≤◌, ◌<◌, length, get_or};
@@ -11,7 +11,7 @@ ghost use Rattle.pattern_marks.specs.Tables as given;
 ghost use Rattle.pattern_flags.specs.Flags as by;
 
 use form_node_words::state;
-use pattern_records::record_flag;
+use pattern_records::{DROPPED, KEPT, record_flag};
 use walk_cells::CELLS;
 
 // The part at a place of a constructor with the k F lines from line f on, by what becomes of its type's name: that of a kept
@@ -21,18 +21,12 @@ fn slot_flag(keep: &[u8], s: usize, f: usize, k: usize, place: usize) -> u8
     ensures { result ≡ by.slot_flag keep.now s f k place }
 {
     if s == 0 {
-        return 0;
+        return DROPPED;
     }
     if place < k {
-        if keep[f + place] == 1 {
-            return 1;
-        }
-        return 0;
+        return u8::from(keep[f + place] == 1);
     }
-    if s == 1 {
-        return 0;
-    }
-    1
+    u8::from(s != 1)
 }
 
 // The part at a place of a constructor named n.
@@ -42,7 +36,7 @@ fn ctor_flag(keep: &[u8], u: &[u16], m: &[u16], n: usize, place: usize) -> u8
 {
     let a = m[3 * n] as usize;
     if a == 0 {
-        return 1;
+        return KEPT;
     }
     let f = m[3 * n + 1] as usize;
     let k = m[3 * n + 2] as usize;
@@ -65,15 +59,14 @@ fn part_flag(
     requires t_in_bounds { count_of field_line (tables.lines_in t.now) ≤ length keep.now }
     ensures { result ≡ by.part_flag (tables.lines_in t.now) keep.now u.now m.now (lines_of q.now) o place link f }
 {
-    let kind = walk_cells::number(q, o, 0);
-    if kind == 3 {
-        return ctor_flag(keep, u, m, walk_cells::number(q, o, 1) as usize, place);
+    match walk_cells::number(q, o, 0) {
+        3 => ctor_flag(keep, u, m, walk_cells::number(q, o, 1) as usize, place),
+        4 => {
+            let d = table_access::decl_of(t, walk_cells::number(q, o, 1) as usize);
+            record_flag(t, keep, u, q, d, link, f)
+        }
+        _ => KEPT,
     }
-    if kind == 4 {
-        let d = table_access::decl_of(t, walk_cells::number(q, o, 1) as usize);
-        return record_flag(t, keep, u, q, d, link, f);
-    }
-    1
 }
 
 // Line i, where it has the owner own (its number plus one, 0 for none) and this place.
@@ -92,7 +85,7 @@ fn flag_at(
     ensures { result ≡ by.flag_at (tables.lines_in t.now) keep.now u.now m.now (lines_of q.now) own place i }
 {
     if own == 0 {
-        return 0;
+        return DROPPED;
     }
     let link = walk_cells::number(q, i, 3) as usize;
     let f = walk_cells::number(q, i, 4);
@@ -114,10 +107,7 @@ pub fn flags(
     requires t_in_bounds { (count_of field_line (tables.lines_in t.now) ≤ length keep.now) × (length (lines_of q.now) ≤ length flags.old) }
     ensures { by.FlagsTo (tables.lines_in t.now) keep.now u.now m.now (lines_of q.now) own.now place.now flags.new (length (lines_of q.now)) }
 {
-    let n = q.len() / CELLS;
-    let mut i = 0;
-    while i < n {
+    for i in 0..q.len() / CELLS {
         flags[i] = flag_at(t, keep, u, m, q, own[i] as usize, place[i] as usize, i);
-        i += 1;
     }
 }

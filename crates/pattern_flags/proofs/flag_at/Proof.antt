@@ -1,5 +1,4 @@
 -- `pattern_flags::flag_at` meets its contract, by the owner. Assumes nothing.
-use Prim.Native.Nat.{◌-◌}
 use native.Mathlib.Omega.{arith}
 use borrow.Author.Rules.{rules}
 use Rattle.walk_cells.specs.Cells.{lines_of}
