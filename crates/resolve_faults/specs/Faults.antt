@@ -1,6 +1,7 @@
 -- The first type that does not resolve, among what is resolved of each declaration (`resolves_of`), in the
 -- order of the declarations. Assumes nothing.
-use Rattle.std.specs.Prelude.{List, [], ◌∷◌, ℕ, ◌*◌, ◌≤◌, ◌<◌, length, ◌≡◌}
+use Rattle.std.specs.Prelude.{List, [], ◌∷◌, ℕ, ◌*◌, ◌≤◌, ◌<◌, length, ◌≡◌, Ok, Err}
+use Rattle.std.specs.Prelude as prelude
 use Rattle.sheet.specs.Line.{Line}
 use Rattle.sheet.proofs.ListLaws.{Every}
 use Rattle.meaning.specs.Program.{field_line}
@@ -42,8 +43,14 @@ module _ (ls : List Line) (u : List ℕ) (d room : ℕ) where
 abbrev pub AllFine : List Line → List ℕ → List ℕ → ℕ → Type 0
 AllFine ls u keep d = Every (λ y. Fine (type_of_decl ls u d y)) (resolves_of ls u keep d)
 
--- All declarations resolve; or those before one do, and of that one the answer says why it does not.
-pub record Firstly (ls : List Line) (u keep : List ℕ) (room : ℕ) (r : First) : Type 0 where
+-- those before one do, and of that one the answer says why it does not
+pub record Stopped (ls : List Line) (u keep : List ℕ) (room : ℕ) (r : First) : Type 0 where
   pub fine : (d : ℕ) → d < r.decl → AllFine ls u keep d
-  pub all : 4 ≤ r.answer → r.decl ≡ decls_of ls
-  pub stops : r.answer < 4 → (r.decl < decls_of ls) × Answers ls u r.decl room (resolves_of ls u keep r.decl) r.answer
+  pub inside : r.decl < decls_of ls
+  pub below : r.answer < 4
+  pub stops : Answers ls u r.decl room (resolves_of ls u keep r.decl) r.answer
+
+-- All declarations resolve; or the search stopped at one.
+abbrev pub Firstly : List Line → List ℕ → List ℕ → ℕ → prelude.Result (Unit {0}) First → Type 0
+Firstly ls u keep room (Ok x) = (d : ℕ) → d < decls_of ls → AllFine ls u keep d
+Firstly ls u keep room (Err r) = Stopped ls u keep room r

@@ -1,5 +1,5 @@
 -- One type after the other, and one declaration after the other. Assumes nothing.
-use Rattle.std.specs.Prelude.{◌≡◌, List, [], ◌∷◌, Bool, true, false, eqb, ltb, length, get_or}
+use Rattle.std.specs.Prelude.{◌≡◌, List, [], ◌∷◌, Bool, true, false, eqb, ltb, length, get_or, Ok, Err}
 use Rattle.std.proofs.Math.Path.{refl, ap}
 use Rattle.std.proofs.Common.{ap₂, sym, ◌∙◌, subst, inl, add-one}
 use Prim.Native.Nat.{ℕ, suc, ◌+◌, ◌-◌, ◌*◌, ◌≤◌, ◌<◌}
@@ -138,12 +138,12 @@ fine_more ls u keep d room r slots f w h i q = go (eqb i d) refl
     go false e = f i (omega (arith, eqb-false i d e))
 
 pub first_stops : (ls : List Line) (u keep : List ℕ) (room room₀ d r : ℕ) (slots : List ℕ) → room ≡ room₀ → ((i : ℕ) → i < d → AllFine ls u keep i) → d < decls_of ls
-    → Went ls u d room (resolves_of ls u keep d) r slots → r < 4 → Firstly ls u keep room₀ (record { answer = r; decl = d })
+    → Went ls u d room (resolves_of ls u keep d) r slots → r < 4 → Firstly ls u keep room₀ (Err (record { answer = r; decl = d }))
 first_stops ls u keep room room₀ d r slots e f l w h =
-    record { fine = f; all = λ q. absurd (omega arith); stops = λ q. (l, subst (λ (n : ℕ). Answers ls u d n (resolves_of ls u keep d) r) e w.answers) }
+    record { fine = f; inside = l; below = h; stops = subst (λ (n : ℕ). Answers ls u d n (resolves_of ls u keep d) r) e w.answers }
 
-pub first_clear : (ls : List Line) (u keep : List ℕ) (room d n : ℕ) → n ≡ decls_of ls → d ≡ n → ((i : ℕ) → i < d → AllFine ls u keep i) → Firstly ls u keep room (record { answer = 4; decl = n })
-first_clear ls u keep room d n e q f = record { fine = λ i h. f i (omega arith); all = λ h. e; stops = λ h. absurd (omega arith) }
+pub first_clear : (ls : List Line) (u keep : List ℕ) (room d n : ℕ) → n ≡ decls_of ls → d ≡ n → ((i : ℕ) → i < d → AllFine ls u keep i) → Firstly ls u keep room (Ok tt)
+first_clear ls u keep room d n e q f = λ i h. f i (omega arith)
 
 -- ---- for the code
 module _ (ls : List Line) (t u keep : List ℕ) (kept : Kept ls t u keep) (d : ℕ) (h : d < decls_of ls) where

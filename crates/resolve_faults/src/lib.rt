@@ -10,18 +10,12 @@ ghost use Rattle.resolve_laws.specs.Resolver as resolver;
 ghost use Rattle.resolve_memory.specs.Slots.{Slots};
 ghost use Rattle.resolve_faults.specs.Faults as faults;
 
-// What becomes of a declaration.
-const GONE: usize = 0;
-
-const NEWTYPE: usize = 1;
-
 // What its body is.
 const ABSTRACT: u32 = 0;
 
 const ABBREVIATION: u32 = 1;
 
-// The answer of the resolution (below `resolve_types::VALUE`: why there is no outcome), and of which
-// declaration.
+// The answer of the resolution, which says why there is no outcome, and of which declaration.
 #[derive(Clone, Copy)]
 pub struct First {
     pub answer: usize,
@@ -29,6 +23,7 @@ pub struct First {
 }
 
 // The answer for the first kept one of declaration d's F lines from..end whose type does not resolve.
+// A number and no Result: it passes on what `resolve_types::resolved` promises.
 fn field_fault(
     t: &[u32],
     u: &[u16],
@@ -43,8 +38,7 @@ fn field_fault(
     requires slots { Slots (resolver.call_of (tables.lines_in t.now) u.now) slots.old }
     ensures { faults.Went (tables.lines_in t.now) u.now d (length out.old) (states.kept_types (tables.lines_in t.now) keep.now from (end - from)) result slots.new }
 {
-    let mut f = from;
-    while f < end {
+    for f in from..end {
         if keep[f] == 1 {
             let y = table_access::field_number(t, f, 1) as usize;
             let r = resolve_types::resolved(t, u, out, slots, d, y);
@@ -52,7 +46,6 @@ fn field_fault(
                 return r;
             }
         }
-        f += 1;
     }
     resolve_types::VALUE
 }
@@ -71,10 +64,10 @@ fn decl_fault(
     ensures { faults.Went (tables.lines_in t.now) u.now d (length out.old) (states.resolves_of (tables.lines_in t.now) u.now keep.now d) result slots.new }
 {
     let state = u[2 * d] as usize;
-    if state == GONE {
+    if state == resolve_laws::GONE {
         return resolve_types::VALUE;
     }
-    if state == NEWTYPE {
+    if state == resolve_laws::NEWTYPE {
         let y = u[2 * d + 1] as usize;
         return resolve_types::resolved(t, u, out, slots, d, y);
     }
@@ -93,7 +86,13 @@ fn decl_fault(
 
 // Resolves what is resolved of each declaration, up to the first type that does not resolve. With
 // 1,024 places for each declaration and as many more it never answers that there is no room.
-pub fn first_fault(t: &[u32], u: &[u16], keep: &[u8], out: &mut [u16], slots: &mut [u16]) -> First
+pub fn first_fault(
+    t: &[u32],
+    u: &[u16],
+    keep: &[u8],
+    out: &mut [u16],
+    slots: &mut [u16],
+) -> Result<(), First>
     requires kept { faults.Kept (tables.lines_in t.now) t.now u.now keep.now }
     requires slots { Slots (resolver.call_of (tables.lines_in t.now) u.now) slots.old }
     ensures { faults.Firstly (tables.lines_in t.now) u.now keep.now (length out.old) result }
@@ -102,11 +101,8 @@ pub fn first_fault(t: &[u32], u: &[u16], keep: &[u8], out: &mut [u16], slots: &m
     for d in 0..n {
         let answer = decl_fault(t, u, keep, d, out, slots);
         if answer < resolve_types::VALUE {
-            return First { answer, decl: d };
+            return Err(First { answer, decl: d });
         }
     }
-    First {
-        answer: resolve_types::VALUE,
-        decl: n,
-    }
+    Ok(())
 }

@@ -1,6 +1,6 @@
 -- What an attempt at rows 9 and 10 asks, and what it comes to. Assumes nothing.
-use Rattle.std.specs.Prelude.{◌≡◌, List, false, ℕ, ◌*◌, ◌≤◌, ◌<◌, eqb, length}
-use Rattle.number_columns.specs.Column.{◌⇒◌∥◌}
+use Rattle.std.specs.Prelude.{◌≡◌, List, false, ℕ, ◌*◌, ◌≤◌, ◌<◌, eqb, length, Result, Ok, Err}
+use Rattle.number_columns.specs.Column.{pick, ◌⇒◌∥◌}
 use Rattle.model.specs.Run.{layouts_of, returns, decl_fault}
 use Rattle.meaning.specs.Program.{program, field_line}
 use Rattle.meaning.specs.Rows.{count_of}
@@ -10,8 +10,8 @@ use Rattle.table_access.specs.Tables.{decls_of, TableOf}
 use Rattle.resolve_laws.specs.Resolver.{fuel_of}
 use Rattle.keep_fields.specs.Keeps.{Slotted}
 use Rattle.keep_layouts.specs.States.{Settled}
-use Rattle.row9_faults.specs.declared.attempts.Outcome.{Outcome}
-use Rattle.row9_faults.specs.declared.attempts.Outcome.TheVariants.{Clear, Fault, NoRoom}
+use Rattle.row9_faults.specs.declared.attempts.Fault.{Fault}
+use Rattle.row9_faults.specs.declared.attempts.Fault.TheVariants.{Refused, NoRoom}
 use Rattle.sheet.specs.Line.{Line}
 
 -- what is asked: the table, in the limits of the format, the cells of names, the keep table, and that row 8 passed
@@ -35,11 +35,11 @@ pub record FaultAt (ls : List Line) (code d : ℕ) : Type 0 where
   pub any : code ≡ 0 → ⊥
 
 -- what an attempt with so many places comes to; with 1,024 for each unit of fuel there is always room
-abbrev pub Comes : List Line → ℕ → Outcome → Type 0
-Comes ls room Clear = (d : ℕ) → d < decls_of ls → fault_of ls d ≡ 0
-Comes ls room (Fault code d) = FaultAt ls code d
-Comes ls room NoRoom = room < 1024 * fuel_of ls
+abbrev pub Comes : List Line → ℕ → Result (Unit {0}) Fault → Type 0
+Comes ls room (Ok x) = (d : ℕ) → d < decls_of ls → fault_of ls d ≡ 0
+Comes ls room (Err (Refused code d)) = FaultAt ls code d
+Comes ls room (Err NoRoom) = room < 1024 * fuel_of ls
 
 -- by the answer of the search, and its declaration
-unfoldable pub outcome_of : ℕ → ℕ → Outcome
-outcome_of r d = eqb r 1 ⇒ NoRoom ∥ eqb r 2 ⇒ Fault 9 d ∥ eqb r 3 ⇒ Fault 10 d ∥ Clear
+unfoldable pub outcome_of : ℕ → ℕ → Fault
+outcome_of r d = eqb r 1 ⇒ NoRoom ∥ Refused (pick (eqb r 2) 9 10) d

@@ -1,8 +1,8 @@
 -- From the answers of the search to the faults of rows 9 and 10. Assumes nothing.
 use Rattle.std.proofs.Math.Path.{◌≡◌, refl, ap}
-use Rattle.std.proofs.Common.{sym, ◌∙◌, subst, ⊎_elim, arith, eqb-true, ltb-true, ltb-false}
+use Rattle.std.proofs.Common.{sym, ◌∙◌, subst, ⊎_elim, arith, eqb-true}
 use mathlib.Core.List.{List, [], ◌∷◌, map}
-use Rattle.std.specs.Prelude.{Bool, true, false, ◌⊎◌, ℕ, zero, suc, ◌*◌, ◌≤◌, ◌<◌, eqb, ltb, get_or, replicate}
+use Rattle.std.specs.Prelude.{Bool, true, false, ℕ, zero, suc, ◌*◌, ◌≤◌, ◌<◌, eqb, get_or, replicate, Ok, Err}
 use Rattle.std.proofs.lemmas.Bool.{eqb-false}
 use Rattle.number_columns.specs.Column.{pick, ◌⇒◌∥◌}
 use Rattle.sheet.specs.Format.{base}
@@ -30,10 +30,10 @@ use Rattle.keep_laws.specs.StatesLaws.{resolves_are}
 use Rattle.resolve_laws.specs.Resolver.{type_of_decl, fuel_of}
 use Rattle.row9_faults.specs.Closing.{answered_is}
 use Rattle.resolve_faults.specs.declared.First.{First}
-use Rattle.resolve_faults.specs.Faults.{Kept, Fine, Answers, clear, stops, goes, AllFine, Firstly}
-use Rattle.row9_faults.specs.Attempts.{Asked, fault_of, FaultAt, Comes, outcome_of}
-use Rattle.row9_faults.specs.declared.attempts.Outcome.{Outcome}
-use Rattle.row9_faults.specs.declared.attempts.Outcome.TheVariants.{Clear, Fault, NoRoom}
+use Rattle.resolve_faults.specs.Faults.{Kept, Fine, Answers, clear, stops, goes, AllFine, Stopped, Firstly}
+use Rattle.row9_faults.specs.Attempts.{Asked, fault_of, Comes, outcome_of}
+use Rattle.row9_faults.specs.declared.attempts.Fault.{Fault}
+use Rattle.row9_faults.specs.declared.attempts.Fault.TheVariants.{Refused, NoRoom}
 
 -- ---- the first fault of a list of types
 module _ (res : Cty → Result Cty) (c : Cty) (cs : List Cty) where
@@ -134,46 +134,29 @@ module _ (ls : List Line) (t u keep : List ℕ) (asked : Asked ls t u keep) (d :
   short_fault room a = short room (resolves_of ls u keep d) a
 
 -- ---- what an attempt comes to
-pub comes : (ls : List Line) (t u keep : List ℕ) → Asked ls t u keep → (room : ℕ) (f : First) → Firstly ls u keep room f → Comes ls room (outcome_of f.answer f.decl)
+pub comes_clear : (ls : List Line) (t u keep : List ℕ) → Asked ls t u keep → (room : ℕ) → Firstly ls u keep room (Ok tt) → Comes ls room (Ok tt)
+comes_clear ls t u keep asked room f = λ d h. fine_fault ls t u keep asked d h (f d h)
+
+pub comes : (ls : List Line) (t u keep : List ℕ) → Asked ls t u keep → (room : ℕ) (f : First) → Stopped ls u keep room f → Comes ls room (Err (outcome_of f.answer f.decl))
 unfolding outcome_of
-comes ls t u keep asked room f w = go (eqb f.answer 1) refl (eqb f.answer 2) refl (eqb f.answer 3) refl
+comes ls t u keep asked room f w = go (eqb f.answer 1) refl
   where
-    r : ℕ
-    r = f.answer
+    positive : (x : Bool) → ◌≡◌ {A = ℕ} (pick x 9 10) 0 → ⊥
+    positive true q = omega arith
+    positive false q = omega arith
 
-    before : f.decl ≤ decls_of ls → (i : ℕ) → i < f.decl → fault_of ls i ≡ 0
-    before l i q = fine_fault ls t u keep asked i (omega arith) (w.fine i q)
-
-    stop : (c : ℕ) → f.answer < 4 → (f.answer ≡ 1 → ⊥) → pick (eqb f.answer 2) 9 10 ≡ c → (c ≡ 0 → ⊥) → FaultAt ls c f.decl
-    stop c l n e z =
-        let s = w.stops l in
-        record {
-          inside = s.0;
-          before = before (omega (arith, s.0));
-          is = sym e ∙ sym (stopped_fault ls t u keep asked f.decl s.0 room f.answer l n s.1).1;
-          any = z;
-        }
-
-    go : (x : Bool) → eqb f.answer 1 ≡ x → (y : Bool) → eqb f.answer 2 ≡ y → (z : Bool) → eqb f.answer 3 ≡ z → Comes ls room (x ⇒ NoRoom ∥ y ⇒ Fault 9 f.decl ∥ z ⇒ Fault 10 f.decl ∥ Clear)
-    go true e y g z k =
+    go : (x : Bool) → eqb f.answer 1 ≡ x → Comes ls room (Err (x ⇒ NoRoom ∥ Refused (pick (eqb f.answer 2) 9 10) f.decl))
+    go true e =
         let a : f.answer ≡ 1 = eqb-true f.answer 1 e in
-        let s = w.stops (omega arith) in
-        short_fault ls t u keep asked f.decl s.0 room (subst (λ (n : ℕ). Answers ls u f.decl room (resolves_of ls u keep f.decl) n) a s.1)
-    go false e true g z k = let a : f.answer ≡ 2 = eqb-true f.answer 2 g in stop 9 (omega arith) (λ q. omega arith) (ap (λ (c : Bool). pick c 9 10) g) (λ q. omega arith)
-    go false e false g true k = let a : f.answer ≡ 3 = eqb-true f.answer 3 k in stop 10 (omega arith) (λ q. omega arith) (ap (λ (c : Bool). pick c 9 10) g) (λ q. omega arith)
-    go false e false g false k = λ d h. all d h (ltb f.answer 4) refl
-      where
-        n1 : f.answer ≡ 1 → ⊥
-        n1 = eqb-false f.answer 1 e
-
-        all : (d : ℕ) → d < decls_of ls → (c : Bool) → ltb f.answer 4 ≡ c → fault_of ls d ≡ 0
-        all d h true q =
-            let l : f.answer < 4 = ltb-true f.answer 4 q in
-            let s = w.stops l in
-            absurd (omega (arith, (stopped_fault ls t u keep asked f.decl s.0 room f.answer l n1 s.1).0, eqb-false f.answer 2 g, eqb-false f.answer 3 k))
-        all d h false q =
-            let l : f.decl ≡ decls_of ls = w.all (ltb-false f.answer 4 q) in
-            before (omega arith) d (omega arith)
+        short_fault ls t u keep asked f.decl w.inside room (subst (λ (n : ℕ). Answers ls u f.decl room (resolves_of ls u keep f.decl) n) a w.stops)
+    go false e =
+        let s = stopped_fault ls t u keep asked f.decl w.inside room f.answer w.below (eqb-false f.answer 1 e) w.stops in
+        record {
+          inside = w.inside;
+          before = λ i q. fine_fault ls t u keep asked i (omega (arith, w.inside)) (w.fine i q);
+          is = sym s.1;
+          any = positive (eqb f.answer 2);
+        }
 
 -- ---- for the code
 -- what the search asks
@@ -198,5 +181,5 @@ pub slots_zero : (call : ℕ → List ℕ → ℕ → Result ℕ) (n : ℕ) → 
 slots_zero call n = slots_none call (replicate n 0) (zeros n)
 
 -- an attempt with n places
-pub attempted : (ls : List Line) (t u keep : List ℕ) → Asked ls t u keep → (n : ℕ) (f : First) (r : Outcome) → Firstly ls u keep n f → r ≡ outcome_of f.answer f.decl → Comes ls n r
-attempted ls t u keep asked n f r w e = subst (λ (x : Outcome). Comes ls n x) (sym e) (comes ls t u keep asked n f w)
+pub attempted : (ls : List Line) (t u keep : List ℕ) → Asked ls t u keep → (n : ℕ) (f : First) (r : Fault) → Stopped ls u keep n f → r ≡ outcome_of f.answer f.decl → Comes ls n (Err r)
+attempted ls t u keep asked n f r w e = subst (λ (x : Fault). Comes ls n (Err x)) (sym e) (comes ls t u keep asked n f w)

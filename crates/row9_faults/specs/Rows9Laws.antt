@@ -1,5 +1,5 @@
 -- From the first declaration with a fault to the refusal. Assumes nothing.
-use Rattle.std.specs.Prelude.{◌≡◌, refl, true, false, ℕ, ◌≤◌, ◌<◌}
+use Rattle.std.specs.Prelude.{◌≡◌, refl, true, false, ℕ, ◌≤◌, ◌<◌, Result, Ok, Err}
 use Rattle.std.proofs.Math.Path.{ap, sym}
 use Rattle.std.proofs.Common.{◌∙◌, arith, eq-eqb, ne_eqb, lt-ltb, le-ltb}
 use mathlib.Core.List.{List, [], ◌∷◌}
@@ -13,16 +13,22 @@ use Rattle.answer.specs.Answer.{refusal}
 use Rattle.row4_limits.specs.Limits.{start}
 use Rattle.table_access.specs.Tables.{decls_of}
 use Rattle.rows_heads.specs.HeadRows.{faults_row, faulty, fault_refusal}
-use Rattle.row9_faults.specs.declared.attempts.Outcome.{Outcome}
-use Rattle.row9_faults.specs.declared.attempts.Outcome.TheVariants.{Clear, Fault, NoRoom}
+use Rattle.row9_faults.specs.declared.attempts.Fault.{Fault}
+use Rattle.row9_faults.specs.declared.attempts.Fault.TheVariants as ends
 use Rattle.row9_faults.specs.Attempts.{fault_of, FaultAt, Comes}
 use Rattle.sheet.specs.Line.{Line}
 
 -- a full array says the less, the smaller it is
-pub comes_less : (ls : List Line) (n m : ℕ) (r : Outcome) → n ≤ m → Comes ls m r → Comes ls n r
-comes_less ls n m Clear h c = c
-comes_less ls n m (Fault code d) h c = c
-comes_less ls n m NoRoom h c = omega arith
+pub comes_less : (ls : List Line) (n m : ℕ) (r : Result (Unit {0}) Fault) → n ≤ m → Comes ls m r → Comes ls n r
+comes_less ls n m (Ok x) h c = c
+comes_less ls n m (Err (ends.Refused code d)) h c = c
+comes_less ls n m (Err ends.NoRoom) h c = omega arith
+
+-- what is no full array says the same with any room
+pub comes_found : (ls : List Line) (n m : ℕ) (r : Result (Unit {0}) Fault) → (r ≡ Err ends.NoRoom → ⊥) → Comes ls n r → Comes ls m r
+comes_found ls n m (Ok x) h c = c
+comes_found ls n m (Err (ends.Refused code d)) h c = c
+comes_found ls n m (Err ends.NoRoom) h c = absurd (h refl)
 
 module _ (ls : List Line) where
   faultless : (d : ℕ) → fault_of ls d ≡ 0 → faulty base (program ls) d ≡ false
