@@ -25,7 +25,7 @@ pub fn entry(
     requires args { resolver.Args out.now at count (at + count) }
     ensures { resolver.Entered (lines_in t.now) u.now y d at count out.now k result }
 {
-    let newtype = crate::recalls::state(u, d) == resolve_laws::NEWTYPE;
+    let newtype = form_node_words::state(u, d) == resolve_laws::NEWTYPE;
     if !resolve_calls::fits(t, newtype, y, d, out, at, count) {
         return resolve_laws::NINE;
     }

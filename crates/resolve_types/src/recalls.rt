@@ -6,17 +6,6 @@ ghost use Rattle.resolve_memory.specs.Slots.{Slots};
 ghost use Rattle.resolve_laws.specs.Resolver as resolver;
 ghost use Rattle.table_access.specs.Tables.{lines_in};
 
-// What becomes of declaration d's name; a foreign name is left.
-pub fn state(u: &[u16], d: usize) -> usize
-    requires { d ≤ 512 }
-    ensures { result ≡ get_or u.now (2 * d) 3 }
-{
-    if 2 * d >= u.len() {
-        return resolve_laws::STAYS;
-    }
-    u[2 * d] as usize
-}
-
 // The Y line that declaration d's name is unfolded to.
 pub fn body(u: &[u16], d: usize) -> usize
     requires { (d ≤ 512) × (2 * d + 1 < length u.now) }
@@ -42,7 +31,7 @@ pub fn answered(
     ensures { resolver.Answered (lines_in t.now) u.now n at count out.now slots.now result }
 {
     let d = table_access::decl_of(t, n);
-    let what = state(u, d);
+    let what = form_node_words::state(u, d);
     if what == resolve_laws::GONE {
         return resolve_kids::arguments::ONE;
     }

@@ -8,10 +8,6 @@ use borrow.Author.Rules.{rules}
 use Rattle.resolve_types.proofs.resolved.Statement.{statement}
 use Rattle.table_access.specs.Tables.{lines_in}
 use Rattle.resolve_types.proofs.resolved.Tie as tie
-use Rattle.resolve_types.proofs.resolved.Reads as reads
-use Rattle.resolve_types.proofs.resolved.Lts as lts
-use Rattle.resolve_types.proofs.resolution.node.Reads as node-reads
-use Rattle.resolve_weights.proofs.weigh.Reads as weigh-reads
 
 weigh-requires : tie.Need-weigh-requires
 weigh-requires c κs = search rules

@@ -3,7 +3,6 @@ use mathlib.Core.Path.{refl, sym, ◌∙◌}
 use Prim.Native.Nat.{◌≤◌}
 use native.Mathlib.Omega.{arith}
 use lib.Dec.{eqb}
-use borrow.Author.Tests.{not-true, not-false}
 use Rattle.table_declared.specs.PassedLaws.{decls_few}
 use Rattle.resolve_laws.specs.ResolverLaws.{unfolded_at, entered_nine, entered_spent, entered_enough, entered_ten, entered_var, entered_open, capped_least}
 use Rattle.resolve_types.proofs.entries.entry.Statement.{statement}
