@@ -89,11 +89,5 @@ pub fn count_kept(keep: &[u8], i: usize, n: usize) -> usize
     requires { i + n ≤ length keep.now }
     ensures { result ≡ kept_count keep.now i n }
 {
-    let mut m: usize = 0;
-    for j in 0..n {
-        if keep[i + j] == 1 {
-            m += 1;
-        }
-    }
-    m
+    keep[i..i + n].iter().filter(|k| **k == 1).count()
 }
