@@ -15,9 +15,7 @@ fn clear(f: &mut [u64], k: usize)
     requires { k ≤ length f.old }
     ensures { (i : ℕ) → i < k → get_or f.new i 0 ≡ 0 }
 {
-    for i in 0..k {
-        f[i] = 0;
-    }
+    f[..k].fill(0);
 }
 
 // The normal forms of all ranks, whose declarations stand from `start` to before `end`.

@@ -17,8 +17,8 @@ pub fn ends(rank: &[u16], end: &mut [u16])
     requires { (length rank.now < 65536) × ((r : ℕ) → get_or end.old r 0 ≤ length rank.now) }
     ensures { Ends rank.now (length end.old) end.new }
 {
-    for d in 0..rank.len() {
-        mark(end, rank[d] as usize, (d + 1) as u16);
+    for (d, r) in rank.iter().enumerate() {
+        mark(end, *r as usize, (d + 1) as u16);
     }
 }
 
@@ -27,9 +27,7 @@ pub fn starts(rank: &[u16], start: &mut [u16])
     requires { length rank.now < 65536 }
     ensures { Starts rank.now (length start.old) start.new }
 {
-    let mut d = rank.len();
-    while d > 0 {
-        d -= 1;
+    for d in (0..rank.len()).rev() {
         mark(start, rank[d] as usize, d as u16);
     }
 }
