@@ -57,19 +57,13 @@ fn put_line(
         let f = c.fields;
         out[at + THIRD] = b'0' + keep[f];
         let fields = f + 1;
-        return Counts {
-            fields,
-            ctors: c.ctors,
-        };
+        return Counts { fields, ..c };
     }
     if letter == b'C' {
         let k = c.ctors;
         let ctors = k + 1;
         overlay::put_tag(s, t, out, d, i, k);
-        return Counts {
-            fields: c.fields,
-            ctors,
-        };
+        return Counts { ctors, ..c };
     }
     if letter == b'D' {
         out[at] = b'I';
@@ -88,14 +82,13 @@ fn put_decl(s: &[u8], t: &[u32], u: &[u16], keep: &[u8], records: &[u8], out: &m
         return;
     }
     let end = table_access::line_of(t, d + 1);
-    let mut i = table_access::line_of(t, d);
+    let start = table_access::line_of(t, d);
     let mut c = Counts {
         fields: table_access::first_field(t, d),
         ctors: table_access::first_ctor(t, d),
     };
-    while i < end {
+    for i in start..end {
         c = put_line(s, t, u, keep, records, out, d, i, c);
-        i += 1;
     }
 }
 
@@ -108,9 +101,7 @@ pub fn put_verdicts(s: &[u8], t: &[u32], u: &[u16], keep: &[u8], records: &[u8],
 {
     overlay::copy(s, out);
     let n = table_access::decls(t);
-    let mut d = 0;
-    while d < n {
+    for d in 0..n {
         put_decl(s, t, u, keep, records, out, d);
-        d += 1;
     }
 }

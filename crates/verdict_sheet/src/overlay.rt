@@ -1,6 +1,5 @@
 // The verdict sheet over a copy of the sheet: the copy, a C line and a V line. `upto` says what stands in the output when some lines are written.
-ghost use Rattle.std.specs.Prelude.{◌≡◌, ◌++◌, suc, ◌*◌, ◌≤◌, ◌<◌, eqb, length, drop, get_or};
-ghost use Rattle.number_columns.specs.Column.{pick};
+ghost use Rattle.std.specs.Prelude.{◌≡◌, ◌++◌, suc, ◌*◌, ◌≤◌, ◌<◌, length, drop, get_or};
 ghost use Rattle.sheet.specs.Sheet.{lines};
 ghost use Rattle.model.specs.Decl as decl;
 ghost use Rattle.model.specs.Run.{layout_of_decl};
@@ -72,13 +71,6 @@ fn layout_number(t: &[u32], u: &[u16], d: usize) -> u8
     2
 }
 
-// The erased number of a layout.
-fn erased(layout: u8) -> u8
-    ensures { result ≡ pick (eqb layout 0) 1 0 }
-{
-    if layout == 0 { 1 } else { 0 }
-}
-
 // The V line i of a local declaration d: erased, layout, record.
 pub fn put_verdict(
     s: &[u8],
@@ -95,7 +87,7 @@ pub fn put_verdict(
 {
     let layout = layout_number(t, u, d);
     let at = i * LINE;
-    out[at + FIRST] = b'0' + erased(layout);
+    out[at + FIRST] = b'0' + u8::from(layout == 0);
     out[at + SECOND] = b'0' + layout;
     out[at + THIRD] = b'0' + records[d];
 }
