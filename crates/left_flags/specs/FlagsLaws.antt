@@ -171,7 +171,7 @@ pub ready_forms : (ls : List Line) (t u f keep : List ℕ) → Ready ls t u f ke
 ready_forms ls t u f keep r = record { cells = omega (arith, r.forms.head, r.forms.room); inside = λ e q. omega (arith, r.forms.cells e q, r.forms.room) }
 
 -- a node of a list is one, or none is
-has_at : (i : ℕ) (xs : List ℕ) (k : ℕ) → k < length xs → is_var i (node_of (get_or xs k 0)) ≡ true → has_var i (map node_of xs) ≡ true
+pub has_at : (i : ℕ) (xs : List ℕ) (k : ℕ) → k < length xs → is_var i (node_of (get_or xs k 0)) ≡ true → has_var i (map node_of xs) ≡ true
 unfolding has_var
 has_at i [] k h e = absurd (omega arith)
 has_at i (x ∷ xs) zero h e = rw e refl
@@ -181,7 +181,7 @@ has_at i (x ∷ xs) (suc k) h e = go (is_var i (node_of x)) (has_at i xs k (omeg
     go true q = refl
     go false q = q
 
-has_none : (i : ℕ) (xs : List ℕ) → ((k : ℕ) → k < length xs → is_var i (node_of (get_or xs k 0)) ≡ false) → has_var i (map node_of xs) ≡ false
+pub has_none : (i : ℕ) (xs : List ℕ) → ((k : ℕ) → k < length xs → is_var i (node_of (get_or xs k 0)) ≡ false) → has_var i (map node_of xs) ≡ false
 unfolding has_var
 has_none i [] h = refl
 has_none i (x ∷ xs) h = rw (h 0 (omega arith)) (has_none i xs (λ k l. h (suc k) (omega arith)))

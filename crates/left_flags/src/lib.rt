@@ -2,7 +2,6 @@
 #![tactic(auto)]
 
 ghost use Rattle.std.specs.Prelude.{◌≡◌, map, ◌+◌, ◌*◌, ◌≤◌, ◌<◌, length, take, drop};
-ghost use Rattle.model.specs.Decl as decls;
 ghost use Rattle.table_access.specs.Tables as tables;
 ghost use Rattle.resolve_kids.specs.Params.{params_of};
 ghost use Rattle.form_nodes.specs.Words.{node_of};
@@ -17,10 +16,7 @@ use form_nodes::{kind, own};
 fn is_variable(w: u64, i: usize) -> bool
     ensures { result ≡ is_var i (node_of w) }
 {
-    if kind(w) != 3 {
-        return false;
-    }
-    own(w) as usize == i
+    kind(w) == 3 && own(w) as usize == i
 }
 
 // One of the n nodes from place `start` on is.
@@ -28,8 +24,9 @@ fn has_variable(f: &[u64], start: usize, n: usize, i: usize) -> bool
     requires { start + n ≤ length f.now }
     ensures { result ≡ has_var i (map node_of (take n (drop start f.now))) }
 {
-    for k in 0..n {
-        if is_variable(f[start + k], i) {
+    let words = &f[start..start + n];
+    for w in words {
+        if is_variable(*w, i) {
             return true;
         }
     }
@@ -44,13 +41,11 @@ fn has_params(t: &[u32], f: &[u64], d: usize) -> bool
     let start = f[2 * d] as usize;
     let n = f[2 * d + 1] as usize;
     let end = table_access::first_param(t, d + 1);
-    let mut p = table_access::first_param(t, d);
-    while p < end {
+    for p in table_access::first_param(t, d)..end {
         let i = place_of(t, d, table_access::param(t, p));
         if !has_variable(f, start, n, i) {
             return false;
         }
-        p += 1;
     }
     true
 }
@@ -70,12 +65,6 @@ fn is_left(t: &[u32], u: &[u16], f: &[u64], d: usize) -> bool
     has_params(t, f, d)
 }
 
-fn bit(b: bool) -> u8
-    ensures { result ≡ decls.bit b }
-{
-    if b { 1 } else { 0 }
-}
-
 // A cell for each declaration: 1 where it leaves one.
 pub fn flags(t: &[u32], u: &[u16], f: &[u64], keep: &[u8], left: &mut [u8])
     requires { Ready (tables.lines_in t.now) t.now u.now f.now keep.now × (tables.decls_of (tables.lines_in t.now) ≤ length left.old) }
@@ -83,6 +72,6 @@ pub fn flags(t: &[u32], u: &[u16], f: &[u64], keep: &[u8], left: &mut [u8])
 {
     let n = table_access::decls(t);
     for d in 0..n {
-        left[d] = bit(is_left(t, u, f, d));
+        left[d] = u8::from(is_left(t, u, f, d));
     }
 }
