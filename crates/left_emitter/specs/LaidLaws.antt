@@ -1,7 +1,7 @@
 -- The lines that are written node by node are the A and Y lines of what `emit` writes, each kind in its own run of lines.
 -- Assumes nothing.
-use Rattle.std.specs.Prelude.{◌≡◌, refl, List, [], ◌∷◌, ◌++◌, map, Bool, true, false, ◌||◌, ℕ, zero, suc, ◌+◌, ◌*◌, ◌-◌, ◌≤◌, ◌<◌, eqb, length, take, drop}
-use Rattle.std.proofs.Common.{ap, ap₂, sym, ◌∙◌, subst, append_assoc, append-nil, arith, mul-suc, mul-le-mul_left, length-append, length-take, length-drop, take-take, drop-drop, length-take-le}
+use Rattle.std.specs.Prelude.{◌≡◌, refl, List, [], ◌∷◌, ◌++◌, map, Bool, true, false, ◌||◌, ℕ, suc, ◌+◌, ◌*◌, ◌-◌, ◌≤◌, ◌<◌, eqb, length, take, drop}
+use Rattle.std.proofs.Common.{ap, ap₂, sym, ◌∙◌, subst, append_assoc, append-nil, arith, mul-suc, mul-le-mul_left, length-append, length-drop, take-take, drop-drop, length-take-le}
 use Rattle.std.proofs.lemmas.List.{map-append, length-map, take-append-le, drop-append-le}
 use Rattle.std.proofs.Math.Seq.{take-append-add, drop-append-add}
 use Rattle.number_columns.specs.Column.{pick}
@@ -14,7 +14,7 @@ use Rattle.sheet.proofs.ListLaws.{Every, every_append}
 use Rattle.model.specs.Cty.{Cty}
 use Rattle.meaning.specs.Program.{type_line}
 use Rattle.meaning.specs.Output.{Written, put, last, emit}
-use Rattle.form_laws.specs.Nodes.{Node, post, Writing, taken, put_args, y_first, y_second, y_third, put_node, write_node, write_nodes, args_of, count_args}
+use Rattle.form_laws.specs.Nodes.{Node, post, taken, put_args, y_first, y_second, y_third, put_node, write_node, write_nodes, args_of, count_args}
 use Rattle.form_laws.specs.NodesLaws.{writing, write_post}
 use Rattle.left_emitter.specs.Lines.{y_row, arg_row, has_list, listed}
 use Rattle.left_emitter.specs.LinesLaws.{puts_last, length_puts, args_whole}

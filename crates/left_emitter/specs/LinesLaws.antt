@@ -1,7 +1,7 @@
 -- What stands in the output while the lines of nodes are written. Assumes nothing.
 use Rattle.std.specs.Prelude.{◌≡◌, Bool, ℕ, suc, ◌+◌, ◌*◌, ◌≤◌, ◌<◌, length, take, get_or}
 use Rattle.std.proofs.Math.Path.{refl}
-use Rattle.std.proofs.Common.{ap, sym, ◌∙◌, arith, add-one, mul-le-mul_left, take-suc, length-take-le}
+use Rattle.std.proofs.Common.{◌∙◌, arith, add-one, mul-le-mul_left, take-suc, length-take-le}
 use mathlib.Core.List.{List, [], ◌∷◌, ◌++◌, map, map-append}
 use Rattle.std.proofs.Math.Bool.{true, false}
 use Rattle.std.proofs.Math.Dec.{eqb}
@@ -9,7 +9,7 @@ use Rattle.std.proofs.lemmas.List.{length-map}
 use borrow.Author.Tests.{ne_eqb, eqb-true, eqb-false}
 use Rattle.number_columns.specs.Column.{pick}
 use Rattle.sheet.specs.Format.{line_bytes}
-use Rattle.sheet.specs.Line.{Line, row, encode}
+use Rattle.sheet.specs.Line.{Line, encode}
 use Rattle.sheet.proofs.LineLaws.{row_length}
 use Rattle.sheet.specs.Output.{put_at, puts}
 use Rattle.sheet.proofs.OutputLaws.{Whole, length_put}

@@ -1,7 +1,6 @@
 -- The left sheet while it is written: its A, Y and declaration lines each in their own run of lines of one output. Assumes nothing.
-use Rattle.std.specs.Prelude.{◌≡◌, List, [], ◌∷◌, ◌++◌, map, false, ℕ, ◌+◌, ◌*◌, ◌-◌, ◌≤◌, ◌<◌, length}
+use Rattle.std.specs.Prelude.{◌≡◌, List, [], ◌∷◌, ◌++◌, map, false, ℕ, ◌+◌, ◌*◌, ◌≤◌, ◌<◌, length}
 use Rattle.sheet.specs.Line.{Line}
-use Rattle.sheet.specs.Sheet.{lines}
 use Rattle.sheet.proofs.ListLaws.{Every}
 use Rattle.sheet.specs.Output.{puts}
 use Rattle.sheet.proofs.OutputLaws.{Whole}

@@ -24,11 +24,9 @@ use Rattle.left_emitter.specs.LaidLaws.{laid, puts_put, Shows, Space, shows_type
 use Rattle.form_nodes.specs.Words.{node_of}
 use Rattle.form_puts.specs.Put.{Put}
 use Rattle.form_emit.specs.Emit.{words}
-use Rattle.sheet.specs.Sheet.{lines, line}
 use Rattle.form_emit.specs.Left.{left_type}
 use Rattle.left_places.specs.declared.Place.{Place}
 use Rattle.left_places.specs.Places.{Writing, none, one, numbered, typed, more, seq, Growing, At, Inside, Room, Writes, Typed}
-use Rattle.model.specs.Erasure.{start}
 use Rattle.left_emitter.specs.Pens as pens
 
 -- ---- lengths

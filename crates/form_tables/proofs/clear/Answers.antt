@@ -1,5 +1,5 @@
 -- `form_tables::clear` meets its contract: the part that is filled has zeros.
-use Rattle.std.proofs.Common.{◌≡◌, ◌<◌, ◌∙◌, arith, length, take, replicate, length-take-le}
+use Rattle.std.proofs.Common.{◌≡◌, arith, length, take, replicate, length-take-le}
 use Rattle.std.proofs.lemmas.Grind.{common_steps}
 use borrow.Author.Rules.{rules}
 use Rattle.form_tables.specs.Bounded.{zeros}

@@ -1,18 +1,17 @@
 -- `left_flags::has_params` meets its contract: the parameters before P line p occur.
-use mathlib.Core.Path.{◌≡◌, ap₂, sym, ◌∙◌}
+use mathlib.Core.Path.{ap₂, sym, ◌∙◌}
 use mathlib.Core.List.{map}
 use Prim.Native.Nat.{ℕ, ◌+◌, ◌-◌}
 use native.Mathlib.Omega.{arith}
 use Rattle.meaning.specs.Program.{param_line}
 use Rattle.row4_limits.specs.Limits.{start}
-use Rattle.table_declared.specs.PassedLaws.{decls_few, params_few}
+use Rattle.table_declared.specs.PassedLaws.{decls_few}
 use Rattle.resolve_kids.specs.Params.{params_from, params_of}
 use Rattle.resolve_kids.specs.ParamsLaws.{count_before_le}
 use Rattle.form_nodes.specs.Words.{node_of}
 use Rattle.form_emit.specs.Emit.{form_words}
 use Rattle.left_flags.specs.Flags.{has_all}
 use Rattle.left_flags.specs.FlagsLaws.{all_end, all_hit, all_miss}
-use borrow.Author.Tests.{not-true, not-false}
 use Rattle.table_access.specs.Tables.{lines_in}
 use Rattle.left_flags.proofs.has_params.Goals as goal
 

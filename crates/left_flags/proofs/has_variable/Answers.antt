@@ -1,6 +1,5 @@
 -- `left_flags::has_variable` meets its contract: a word is the variable, or none is.
-use Rattle.std.proofs.Common.{◌≡◌, ℕ, ◌+◌, ◌-◌, sym, ◌∙◌, arith, length, take, drop, length-drop, length-take-le}
-use Rattle.form_nodes.specs.Words.{node_of}
+use Rattle.std.proofs.Common.{◌≡◌, ◌+◌, ◌-◌, sym, ◌∙◌, arith, take, drop}
 use Rattle.left_flags.specs.FlagsLaws.{has_at, has_none}
 use Rattle.left_flags.proofs.has_variable.Goals as goal
 

@@ -1,16 +1,13 @@
 -- `verdict_sheet::put_decl` meets its contract, line after line.
-use mathlib.Core.Bool.{false}
-use mathlib.Core.Path.{◌≡◌, refl, ap₂, sym, ◌∙◌}
-use Prim.Native.Nat.{ℕ, suc, ◌-◌, ◌≤◌}
+use mathlib.Core.Path.{◌≡◌, ap₂, sym, ◌∙◌}
+use Prim.Native.Nat.{ℕ, suc}
 use native.Mathlib.Omega.{arith}
 use native.Mathlib.Numerals.{add-one}
-use lib.ListN.{length}
 use Rattle.sheet.specs.Sheet.{lines}
-use Rattle.meaning.specs.Program.{ctor_line, field_line, import_line, is}
+use Rattle.meaning.specs.Program.{ctor_line, field_line, import_line}
 use Rattle.row4_limits.specs.Limits.{start}
 use Rattle.table_declared.specs.PassedLaws.{decls_few}
-use Rattle.table_access.specs.Tables.{head_line, lines_in}
-use Rattle.verdict_sheet.specs.Upto.{upto, counts_before}
+use Rattle.table_access.specs.Tables.{lines_in}
 use Rattle.verdict_sheet.specs.LineLaws.{start_le}
 use Rattle.verdict_sheet.specs.StepLaws.{starts_rise, import_whole, local_next, upto_self, sheet_of}
 use Rattle.table_access.specs.OfSheet.{head_same, decls_same, start_same, first_same}

@@ -1,5 +1,5 @@
 -- The lines of the declaration that were passed are written, with the lines before them counted.
-use Rattle.std.proofs.Common.{◌≡◌, ◌≤◌, suc, false}
+use Rattle.std.proofs.Common.{◌≡◌, suc, false}
 use Rattle.sheet.specs.Sheet.{lines}
 use Rattle.meaning.specs.Program.{import_line, is}
 use Rattle.row4_limits.specs.Limits.{start}

@@ -1,13 +1,8 @@
 -- `verdict_sheet::put_verdicts` meets its contract, declaration after declaration.
-use mathlib.Core.Path.{◌≡◌, refl, ◌∙◌}
-use Prim.Native.Nat.{◌-◌, ◌≤◌}
 use native.Mathlib.Omega.{arith}
 use native.Mathlib.Numerals.{add-one}
-use lib.ListN.{length}
 use Rattle.sheet.specs.Sheet.{lines}
 use Rattle.row4_limits.specs.Limits.{start}
-use Rattle.table_access.specs.Tables.{decls_of}
-use Rattle.verdict_sheet.specs.Upto.{upto}
 use Rattle.verdict_sheet.specs.LineLaws.{start_le}
 use Rattle.verdict_sheet.specs.StepLaws.{upto_self, begun, ended, decl_next, slotted_of, sheet_of, recorded_of}
 use Rattle.meaning.specs.Program.{field_line}

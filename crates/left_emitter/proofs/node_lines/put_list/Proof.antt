@@ -1,13 +1,9 @@
 -- `node_lines::put_list` meets its contract: the children are listed, or none is. Assumes nothing.
-use mathlib.Core.Path.{◌≡◌, refl, sym, ◌∙◌}
-use native.Mathlib.Omega.{arith}
-use lib.ListN.{length}
+use mathlib.Core.Path.{refl, sym, ◌∙◌}
 use Rattle.sheet.specs.Output.{puts}
 use Rattle.form_nodes.specs.Words.{node_of}
-use Rattle.left_emitter.specs.Lines.{listed}
 use Rattle.left_emitter.specs.LinesLaws.{listed_none, listed_all}
 use borrow.Author.Rules.{rules}
-use borrow.Author.Tests.{not-true, not-false}
 use Rattle.left_emitter.proofs.node_lines.put_list.Statement.{statement}
 use Rattle.left_emitter.proofs.node_lines.put_list.Tie as tie
 

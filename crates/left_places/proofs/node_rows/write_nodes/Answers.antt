@@ -1,5 +1,5 @@
 -- `node_rows::write_nodes` meets its contract: each node's lines go behind those of the nodes before it.
-use Rattle.std.proofs.Common.{◌≡◌, map, ◌+◌, refl, sym, ◌∙◌, arith, get_or, take, drop}
+use Rattle.std.proofs.Common.{map, ◌+◌, refl, sym, ◌∙◌, arith, get_or, drop}
 use Rattle.std.proofs.Math.Seq.{take_all}
 use Rattle.form_nodes.specs.Words.{node_of}
 use Rattle.left_emitter.specs.Pens.{write_lines}

@@ -8,9 +8,6 @@ use borrow.Rule.Slice.PartMut.{Post-is}
 use borrow.Author.Rules.{rules}
 use Rattle.verdict_sheet.proofs.overlay.copy.Statement.{statement}
 use Rattle.verdict_sheet.proofs.overlay.copy.Tie as tie
-use Rattle.verdict_sheet.proofs.overlay.copy.Reads as reads
-use Rattle.verdict_sheet.proofs.overlay.copy.Lts as lts
-use Rattle.sheet_copier.proofs.copy_lines.Reads as copy-lines-reads
 
 -- src/lib.rt:119:23
 sub-copy-lines : tie.Need-slice_bounds-copy_lines-count
