@@ -54,20 +54,16 @@ fn checked(s: &[u8], t: &mut [u32], sets: &mut [u64], names: &mut [u32]) -> Inde
     let mut u = [0u16; 192];
     let mut rank = [0u16; 96];
     let d = input_rows::decide(s, t, &mut keep, &mut u, &mut rank);
-    let refusal = d.refusal;
-    let cells = d.cells;
-    match refusal {
-        Refusal::Accepted => {
-            taken(&t[0..cells], sets, names);
-            Index {
-                refusal: Refusal::Accepted,
-                decls: d.decls,
-            }
-        }
-        Refusal::Refused { code, place } => Index {
-            refusal: Refusal::Refused { code, place },
+    let Refusal::Accepted = d.refusal else {
+        return Index {
+            refusal: d.refusal,
             decls: 0,
-        },
+        };
+    };
+    taken(&t[0..d.cells], sets, names);
+    Index {
+        refusal: Refusal::Accepted,
+        decls: d.decls,
     }
 }
 
@@ -111,8 +107,7 @@ pub fn reach_index(s: &[u8], sets: &mut [u64; 192]) -> Refusal
     ensures { Indexes base 2 s.now sets.old result sets.new }
 {
     let mut names = [0u32; 96];
-    let r = found(s, sets, &mut names);
-    r.refusal
+    found(s, sets, &mut names).refusal
 }
 
 // The lines X of a sheet's declarations: a name, and how many it reaches. A refusal changes no byte of the output.
@@ -123,19 +118,15 @@ pub fn reach_lines(s: &[u8], out: &mut [u8]) -> Listing
     let mut sets = [0u64; 192];
     let mut names = [0u32; 96];
     let r = found(s, &mut sets, &mut names);
-    let refusal = r.refusal;
-    let n = r.decls;
-    match refusal {
-        Refusal::Accepted => {
-            put_lines(&sets, &names, n, out);
-            Listing {
-                refusal: Refusal::Accepted,
-                length: n * LINE,
-            }
-        }
-        Refusal::Refused { code, place } => Listing {
-            refusal: Refusal::Refused { code, place },
+    let Refusal::Accepted = r.refusal else {
+        return Listing {
+            refusal: r.refusal,
             length: 0,
-        },
+        };
+    };
+    put_lines(&sets, &names, r.decls, out);
+    Listing {
+        refusal: Refusal::Accepted,
+        length: r.decls * LINE,
     }
 }
