@@ -7,10 +7,7 @@ use std::io;
 
 // The first n bytes, all where n is more.
 fn put(rt: &impl Print, bytes: &[u8], n: usize) -> io::Result<()> {
-    if n > bytes.len() {
-        return rt.write_all(bytes);
-    }
-    rt.write_all(&bytes[0..n])
+    rt.write_all(&bytes[..n.min(bytes.len())])
 }
 
 // Line R, and on code 0 both sheets.

@@ -14,8 +14,8 @@ fn built(
     left: &mut [u8],
     l: usize,
 ) -> Built {
-    let a = output::least(v, verdict.len());
-    let e = output::least(l, left.len());
+    let a = v.min(verdict.len());
+    let e = l.min(left.len());
     let b = build::build(sheet, &mut verdict[0..a], &mut left[0..e]);
     output::put_all(rt, b, verdict, left);
     let same_verdict = output::all_are(verdict, b.verdict, OLD);
@@ -23,7 +23,7 @@ fn built(
     output::put_line(
         rt,
         b'K',
-        [output::bit(same_verdict), output::bit(same_left), 0, 0, 0],
+        [u32::from(same_verdict), u32::from(same_left), 0, 0, 0],
     );
     b
 }
@@ -35,10 +35,6 @@ fn with(rt: &impl Print, sheet: &[u8], v: usize, l: usize) -> Built {
     built(rt, sheet, &mut verdict, v, &mut left, l)
 }
 
-fn less(n: usize) -> usize {
-    if n == 0 { 0 } else { n - 1 }
-}
-
 // With room to spare, as long as needed, the verdict output a byte short, the left output a byte short, both.
 pub fn all(rt: &impl Print, sheet: &[u8]) {
     let b = with(rt, sheet, 65536, 65536);
@@ -48,7 +44,7 @@ pub fn all(rt: &impl Print, sheet: &[u8]) {
     let v = b.verdict;
     let l = b.left;
     with(rt, sheet, v, l);
-    with(rt, sheet, less(v), l);
-    with(rt, sheet, v, less(l));
-    with(rt, sheet, less(v), less(l));
+    with(rt, sheet, v.saturating_sub(1), l);
+    with(rt, sheet, v, l.saturating_sub(1));
+    with(rt, sheet, v.saturating_sub(1), l.saturating_sub(1));
 }

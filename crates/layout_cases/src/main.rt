@@ -10,28 +10,11 @@ use std::env::Env;
 use std::rt::Files;
 
 // What is done with a sheet.
-const WHOLE: u8 = 0;
-
-const LIMITS: u8 = 1;
-
-const UNITS: u8 = 2;
-
-fn same(a: &[u8], b: &[u8]) -> bool {
-    if a.len() != b.len() {
-        return false;
-    }
-    output::differ_at(a, b) >= a.len()
-}
-
-// What a word of the arguments asks for; a sheet's name asks for nothing new.
-fn mode_of(word: &[u8], mode: u8) -> u8 {
-    if same(word, b"-limits") {
-        return LIMITS;
-    }
-    if same(word, b"-units") {
-        return UNITS;
-    }
-    mode
+#[derive(Clone, Copy)]
+enum Mode {
+    Whole,
+    Limits,
+    Units,
 }
 
 fn whole(rt: &impl Print, sheet: &[u8]) {
@@ -42,46 +25,40 @@ fn whole(rt: &impl Print, sheet: &[u8]) {
 }
 
 // The sheet in the file of this name.
-fn case(rt: &(impl Files + Print + Eprint), path: &[u8], mode: u8) {
-    let mut file = match program_input::open_read(rt, path) {
-        Ok(file) => file,
-        Err(e) => {
-            program_input::fail(rt, path, e);
-            return;
-        }
-    };
+fn case(rt: &(impl Files + Print + Eprint), path: &[u8], mode: Mode) {
     let mut sheet = [0u8; 65569];
-    let n = program_input::read_all(&mut file, &mut sheet).length;
-    drop(file);
+    let Some(n) = program_input::read_file(rt, path, &mut sheet) else {
+        return;
+    };
     match mode {
-        1 => limits::all(rt, &sheet[..n]),
-        2 => units::all(rt, &sheet[..n]),
-        _ => whole(rt, &sheet[..n]),
+        Mode::Whole => whole(rt, &sheet[..n]),
+        Mode::Limits => limits::all(rt, &sheet[..n]),
+        Mode::Units => units::all(rt, &sheet[..n]),
     }
 }
 
-// Argument i, and what is done from there on.
-fn word(rt: &(impl Env + Files + Print + Eprint), i: usize, mode: u8) -> u8 {
+// Argument i, a sheet's name or a word, and what is done from there on.
+fn word(rt: &(impl Env + Files + Print + Eprint), i: usize, mode: Mode) -> Mode {
     let mut path = [0u8; 4096];
     let Ok(length) = rt.arg(i, &mut path) else {
         return mode;
     };
-    if length == 0 {
-        return mode;
+    let word = &path[..length];
+    if word == b"-limits".as_slice() {
+        return Mode::Limits;
     }
-    let next = mode_of(&path[..length], mode);
-    if path[0] != b'-' {
-        case(rt, &path[..length], mode);
+    if word == b"-units".as_slice() {
+        return Mode::Units;
     }
-    next
+    if length > 0 && word[0] != b'-' {
+        case(rt, word, mode);
+    }
+    mode
 }
 
 fn main(rt: HostRuntime) {
-    let n = program_input::arg_count(&rt);
-    let mut mode = WHOLE;
-    let mut i: usize = 1;
-    while i < n {
+    let mut mode = Mode::Whole;
+    for i in 1..program_input::arg_count(&rt) {
         mode = word(&rt, i, mode);
-        i += 1;
     }
 }

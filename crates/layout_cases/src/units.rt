@@ -33,17 +33,12 @@ fn next_head(s: &[u8], from: usize) -> usize
     requires { from ≤ length s.now }
     ensures { result ≤ length s.now }
 {
-    let mut at = from;
-    while at < s.len() {
-        if s[at] == b'D' {
+    for at in (from..s.len()).step_by(LINE) {
+        if matches!(s[at], b'D' | b'I') {
             return at;
         }
-        if s[at] == b'I' {
-            return at;
-        }
-        at = past(s, at);
     }
-    at
+    s.len()
 }
 
 // Where the unit of k declarations ends that begins at place `from`.
@@ -52,22 +47,16 @@ fn unit_end(s: &[u8], from: usize, k: u32) -> usize
     ensures { result ≤ length s.now }
 {
     let mut at = from;
-    let mut i: u32 = 0;
-    while i < k {
+    for _ in 0..k {
         at = next_head(s, past(s, at));
-        i += 1;
     }
     at
 }
 
 // The first n bytes of a, laid over b.
 fn lay(a: &[u8], b: &mut [u8], n: usize) {
-    let end = output::least(n, output::least(a.len(), b.len()));
-    let mut i = 0;
-    while i < end {
-        b[i] = a[i];
-        i += 1;
-    }
+    let end = n.min(a.len()).min(b.len());
+    b[..end].copy_from_slice(&a[..end]);
 }
 
 // One unit more: `unit` holds the verdict sheet so far, and behind it the whole's lines.
@@ -82,7 +71,7 @@ fn step(s: &[u8], k: u32, unit: &mut [u8], v: &mut [u8], l: &mut [u8], w: Progre
     let end = unit_end(s, at, k);
     if end > unit.len() {
         return Progress {
-            at: at,
+            at,
             units: w.units,
             accepted: false,
             left: 0,
@@ -94,14 +83,14 @@ fn step(s: &[u8], k: u32, unit: &mut [u8], v: &mut [u8], l: &mut [u8], w: Progre
     if r.code != 0 {
         return Progress {
             at: end,
-            units: units,
+            units,
             accepted: false,
             left: 0,
         };
     }
     Progress {
         at: end,
-        units: units,
+        units,
         accepted: w.accepted,
         left: r.left,
     }
@@ -115,10 +104,8 @@ fn run(s: &[u8], k: u32, unit: &mut [u8], v: &mut [u8], l: &mut [u8]) -> Progres
         accepted: true,
         left: 0,
     };
-    let mut turn: usize = 0;
-    while turn < 96 {
+    for _ in 0..96 {
         w = step(s, k, unit, v, l, w);
-        turn += 1;
     }
     w
 }
@@ -130,10 +117,7 @@ fn way(rt: &impl Print, s: &[u8], k: u32, b: Built, verdict: &[u8], left: &[u8])
     let mut l = [0u8; 65536];
     lay(s, &mut unit, s.len());
     let w = run(s, k, &mut unit, &mut v, &mut l);
-    let mut same_left = false;
-    if w.left == b.left {
-        same_left = output::same_front(&l, left, b.left);
-    }
+    let same_left = w.left == b.left && output::same_front(&l, left, b.left);
     let same_verdict = output::same_front(&unit, verdict, s.len());
     output::put_line(
         rt,
@@ -141,9 +125,9 @@ fn way(rt: &impl Print, s: &[u8], k: u32, b: Built, verdict: &[u8], left: &[u8])
         [
             k,
             w.units,
-            output::bit(w.accepted),
-            output::bit(same_verdict),
-            output::bit(same_left),
+            u32::from(w.accepted),
+            u32::from(same_verdict),
+            u32::from(same_left),
         ],
     );
 }

@@ -2,7 +2,7 @@
 // line that tells what failed. A read that fails is told to the caller.
 #![tactic(auto)]
 
-ghost use Rattle.std.specs.Prelude.{◌≡◌, ◌<◌, ◌≤◌, ◌⊎◌, ◌↔◌, length, take, slice_range, IsSome, IsErrAnd, IsTrue, IsFalse};
+ghost use Rattle.std.specs.Prelude.{◌≡◌, ◌<◌, ◌≤◌, ◌⊎◌, ◌↔◌, length, take, IsNone, IfSome, IsErrAnd};
 ghost use Rattle.std.specs.Str.{IsUtf8};
 ghost use Rattle.std.specs.IoError.{error_kind};
 ghost use Rattle.std.specs.declared.io.ErrorKind.TheVariants.{InvalidFilename};
@@ -18,82 +18,46 @@ use std::rt::Files;
 // Reads that move a byte or are interrupted: enough for a byte at a time, and no input is waited for without end.
 const TURNS: usize = 1048576;
 
-// What is read so far, and whether there may be more or a read failed, and how.
+// How many bytes were read, and the error of a read that failed.
 #[derive(Clone, Copy)]
 pub struct Input {
     pub length: usize,
-    pub more: bool,
-    pub failed: bool,
     pub error: Option<io::Error>,
-}
-
-// One read into the buffer from byte `at` on.
-fn read_some<R: Read>(from: &mut R, buffer: &mut [u8], at: usize) -> Input
-    requires { at ≤ length buffer.old }
-    ensures within { result.length ≤ length buffer.new }
-    ensures forward { at ≤ result.length }
-    ensures front { take at buffer.new ≡ take at buffer.old }
-    ensures bytes { Consumes (R.remaining from.old) (R.remaining from.new) (slice_range buffer.new at result.length) }
-    ensures end { IsFalse result.more → IsFalse result.failed → at < length buffer.old → IsAtEnd (R.remaining from.new) }
-    ensures told { IsTrue result.failed ↔ IsSome result.error }
-{
-    match from.read(&mut buffer[at..]) {
-        Ok(0) => Input {
-            length: at,
-            more: false,
-            failed: false,
-            error: None,
-        },
-        Ok(n) => Input {
-            length: at + n,
-            more: true,
-            failed: false,
-            error: None,
-        },
-        Err(e) if e.kind() == ErrorKind::Interrupted => Input {
-            length: at,
-            more: true,
-            failed: false,
-            error: None,
-        },
-        Err(e) => Input {
-            length: at,
-            more: false,
-            failed: true,
-            error: Some(e),
-        },
-    }
 }
 
 // Reads until the buffer is full or the input ends.
 pub fn read_all<R: Read>(from: &mut R, buffer: &mut [u8]) -> Input
     ensures within { result.length ≤ length buffer.new }
     ensures bytes { Consumes (R.remaining from.old) (R.remaining from.new) (take result.length buffer.new) }
-    ensures whole { IsFalse result.failed → (result.length ≡ length buffer.new) ⊎ IsAtEnd (R.remaining from.new) }
-    ensures told { IsTrue result.failed ↔ IsSome result.error }
+    ensures whole { IsNone result.error → (result.length ≡ length buffer.new) ⊎ IsAtEnd (R.remaining from.new) }
 {
     let mut at = 0;
-    let mut turns: usize = 0;
-    while turns < TURNS {
+    for _ in 0..TURNS {
         if at >= buffer.len() {
             return Input {
                 length: at,
-                more: false,
-                failed: false,
                 error: None,
             };
         }
-        let r = read_some(from, buffer, at);
-        if !r.more {
-            return r;
+        match from.read(&mut buffer[at..]) {
+            Ok(0) => {
+                return Input {
+                    length: at,
+                    error: None,
+                };
+            }
+            Ok(n) => at += n,
+            Err(e) if e.kind() == ErrorKind::Interrupted => {}
+            Err(e) => {
+                return Input {
+                    length: at,
+                    error: Some(e),
+                };
+            }
         }
-        at = r.length;
-        turns += 1;
     }
     Input {
         length: at,
-        more: true,
-        failed: true,
         error: Some(io::Error::from(ErrorKind::Interrupted)),
     }
 }
@@ -116,6 +80,21 @@ pub fn open_read<R: Files>(rt: &R, path: &[u8]) -> io::Result<R::File>
     match str::from_utf8(path) {
         Ok(name) => File::open(rt, name),
         Err(_) => Err(io::Error::new(ErrorKind::InvalidFilename, "not text")),
+    }
+}
+
+// How many bytes of the file of this name were read into the buffer. A file that cannot be opened is told on standard error; of one whose
+// reading fails what came before counts.
+pub fn read_file<R: Files + Eprint>(rt: &R, path: &[u8], buffer: &mut [u8]) -> Option<usize>
+    ensures text { ¬ (IsUtf8 path.now) → IsNone result }
+    ensures within { IfSome result (λ n. n ≤ length buffer.new) }
+{
+    match open_read(rt, path) {
+        Ok(mut file) => Some(read_all(&mut file, buffer).length),
+        Err(e) => {
+            fail(rt, path, e);
+            None
+        }
     }
 }
 

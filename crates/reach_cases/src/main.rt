@@ -35,33 +35,23 @@ fn put_lines(rt: &impl Print, sheet: &[u8], shown: bool) -> usize {
 }
 
 // The words of the first n sets, two in a line, and whether all others are 0.
-fn put_words(rt: &impl Print, sets: [u64; 192], n: usize) {
-    let mut i = 0;
-    while i < 192 {
-        if i / 2 >= n {
-            if sets[i] != 0 {
-                let _ = rt.write_all(b"a word is not 0\n");
-            }
-        } else {
-            let _ = rt.print(sets[i]);
-            if i % 2 == 0 {
-                let _ = rt.write_all(b" ");
-            } else {
-                let _ = rt.write_all(b"\n");
-            }
+fn put_words(rt: &impl Print, sets: &[u64], n: usize) {
+    for (i, word) in sets.iter().enumerate() {
+        if i / 2 < n {
+            let _ = rt.print(*word);
+            let _ = rt.write_all(if i % 2 == 0 { b" " } else { b"\n" });
+        } else if *word != 0 {
+            let _ = rt.write_all(b"a word is not 0\n");
         }
-        i += 1;
     }
 }
 
 // Whether every word is as it was.
-fn put_kept(rt: &impl Print, sets: [u64; 192]) {
-    let mut i = 0;
-    while i < 192 {
-        if sets[i] != HELD {
+fn put_kept(rt: &impl Print, sets: &[u64]) {
+    for word in sets {
+        if *word != HELD {
             let _ = rt.write_all(b"a word was changed\n");
         }
-        i += 1;
     }
 }
 
@@ -69,23 +59,17 @@ fn put_sets(rt: &impl Print, sheet: &[u8], n: usize) {
     let mut sets = [HELD; 192];
     let r = reach_index::reach_index(sheet, &mut sets);
     match r {
-        Refusal::Accepted => put_words(rt, sets, n),
-        Refusal::Refused { code: _, place: _ } => put_kept(rt, sets),
+        Refusal::Accepted => put_words(rt, &sets, n),
+        Refusal::Refused { code: _, place: _ } => put_kept(rt, &sets),
     }
 }
 
 // The sheet in the file of this name.
 fn case(rt: &(impl Files + Print + Eprint), path: &[u8]) {
-    let mut file = match program_input::open_read(rt, path) {
-        Ok(file) => file,
-        Err(e) => {
-            program_input::fail(rt, path, e);
-            return;
-        }
-    };
     let mut sheet = [0u8; 65569];
-    let n = program_input::read_all(&mut file, &mut sheet).length;
-    drop(file);
+    let Some(n) = program_input::read_file(rt, path, &mut sheet) else {
+        return;
+    };
     let code = put_answer(rt, &sheet[..n]);
     let decls = put_lines(rt, &sheet[..n], code == 0);
     put_sets(rt, &sheet[..n], decls);
@@ -103,10 +87,7 @@ fn argument(rt: &(impl Env + Files + Print + Eprint), i: usize) {
 }
 
 fn main(rt: HostRuntime) {
-    let n = program_input::arg_count(&rt);
-    let mut i: usize = 1;
-    while i < n {
+    for i in 1..program_input::arg_count(&rt) {
         argument(&rt, i);
-        i += 1;
     }
 }

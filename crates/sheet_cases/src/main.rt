@@ -99,16 +99,10 @@ fn case(rt: &(impl Env + Files + Print + Eprint), i: usize) {
     let Ok(length) = rt.arg(i, &mut path) else {
         return;
     };
-    let mut file = match program_input::open_read(rt, &path[..length]) {
-        Ok(file) => file,
-        Err(e) => {
-            program_input::fail(rt, &path[..length], e);
-            return;
-        }
-    };
     let mut sheet = [0u8; 1024];
-    let n = program_input::read_all(&mut file, &mut sheet).length;
-    drop(file);
+    let Some(n) = program_input::read_file(rt, &path[..length], &mut sheet) else {
+        return;
+    };
     put(rt, b"sheet ");
     put(rt, &path[..length]);
     put(rt, b"\n");
@@ -116,10 +110,7 @@ fn case(rt: &(impl Env + Files + Print + Eprint), i: usize) {
 }
 
 fn main(rt: HostRuntime) {
-    let n = program_input::arg_count(&rt);
-    let mut i: usize = 1;
-    while i < n {
+    for i in 1..program_input::arg_count(&rt) {
         case(&rt, i);
-        i += 1;
     }
 }

@@ -1,6 +1,0 @@
--- what is left of the arguments
-use Rattle.std.proofs.Common.{◌-◌}
-use Rattle.layout_cases.proofs.main.Given as goal
-
-abbrev pub decreases-loop-i : goal.decreases-loop-i
-decreases-loop-i l = l.n - l.i
