@@ -24,7 +24,7 @@ use Rattle.answer_laws.specs.Answer.{accepted_clear, or_later, or_accepted, refu
 use Rattle.answer_patterns.specs.Whole.{front, tail, sheet_rows, program_rows, input_rows}
 use Rattle.answer_pattern_laws.specs.Parts.{front_of, tail_of}
 use Rattle.answer_pattern_laws.specs.Refusals.{row_passed, row_refused}
-use Rattle.answer_pattern_laws.specs.Rows.{row8_alone, row13_alone, program_is}
+use Rattle.answer_pattern_laws.specs.Rows.{row13_alone, program_is}
 use Rattle.answer_built.specs.BuiltLaws.{front_input}
 use Rattle.row4_limits.specs.Limits.{start}
 use Rattle.table_declared.specs.PassedLaws.{names_within, decls_within, fields_within}

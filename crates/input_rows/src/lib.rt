@@ -91,10 +91,9 @@ fn resolved(t: &[u32], q: &[u32], u: &[u16], keep: &[u8]) -> Refusal
     requires { TabledIn base t.now × Listed (count_of name_line (lines_in t.now)) q.now × Asked (lines_in t.now) t.now u.now keep.now }
     ensures { result ≡ answer.refusal (faults_row base (lines_in t.now) ∷ miscounts_row (lines_in t.now) (lines_of q.now) ∷ []) }
 {
-    let r = row9_faults::rows9_10(t, u, keep);
-    match r {
+    match row9_faults::rows9_10(t, u, keep) {
         Refusal::Accepted => row13(t, q),
-        Refusal::Refused { code, place } => Refusal::Refused { code, place },
+        refused => refused,
     }
 }
 
