@@ -100,7 +100,8 @@ pub fn first_fault(
     let n = table_access::decls(t);
     for d in 0..n {
         let answer = decl_fault(t, u, keep, d, out, slots);
-        if answer < resolve_types::VALUE {
+        let stops = answer < resolve_types::VALUE;
+        if stops {
             return Err(First { answer, decl: d });
         }
     }
