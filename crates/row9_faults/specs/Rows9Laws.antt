@@ -24,12 +24,6 @@ comes_less ls n m (Ok x) h c = c
 comes_less ls n m (Err (ends.Refused code d)) h c = c
 comes_less ls n m (Err ends.NoRoom) h c = omega arith
 
--- what is no full array says the same with any room
-pub comes_found : (ls : List Line) (n m : ℕ) (r : Result (Unit {0}) Fault) → (r ≡ Err ends.NoRoom → ⊥) → Comes ls n r → Comes ls m r
-comes_found ls n m (Ok x) h c = c
-comes_found ls n m (Err (ends.Refused code d)) h c = c
-comes_found ls n m (Err ends.NoRoom) h c = absurd (h refl)
-
 module _ (ls : List Line) where
   faultless : (d : ℕ) → fault_of ls d ≡ 0 → faulty base (program ls) d ≡ false
   unfolding faulty
