@@ -24,6 +24,7 @@ fn has_variable(f: &[u64], start: usize, n: usize, i: usize) -> bool
     requires { start + n ≤ length f.now }
     ensures { result ≡ has_var i (map node_of (take n (drop start f.now))) }
 {
+    // A for and no `any`: tried as `words.iter().any(|w| is_variable(*w, i))`, and the proof does not close: that `any` tells what `is_var` says of the words.
     let words = &f[start..start + n];
     for w in words {
         if is_variable(*w, i) {
