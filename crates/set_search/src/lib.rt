@@ -30,21 +30,23 @@ pub fn search(
     let none = WORD * words;
     let mut head = 0;
     let mut last = 0;
-    // A while and no for: the queue grows while it is read.
-    while head <= last {
-        let node = queue[head] as usize;
-        let row = node * words;
-        let mut name = set_bits::first_outside(steps, row, marks, 0, words);
-        while name < none {
-            if name == start {
-                return None;
+    'search: {
+        // A while and no for: the queue grows while it is read.
+        while head <= last {
+            let node = queue[head] as usize;
+            let row = node * words;
+            let mut name = set_bits::first_outside(steps, row, marks, 0, words);
+            while name < none {
+                if name == start {
+                    break 'search None;
+                }
+                set_bits::insert(marks, 0, name);
+                last += 1;
+                queue[last] = name as u16;
+                name = set_bits::first_outside(steps, row, marks, 0, words);
             }
-            set_bits::insert(marks, 0, name);
-            last += 1;
-            queue[last] = name as u16;
-            name = set_bits::first_outside(steps, row, marks, 0, words);
+            head += 1;
         }
-        head += 1;
+        Some(last)
     }
-    Some(last)
 }

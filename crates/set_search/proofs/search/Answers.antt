@@ -65,5 +65,5 @@ loop-head-smaller c = outer_less _ _ _ _ _ _ _ _ c.loop-head.invariant (omega ar
 pub loop-head-preserved : goal.loop-head-preserved
 loop-head-preserved c = inner_done _ _ _ _ _ _ _ _ _ _ _ c.loop-name.invariant (omega arith)
 
-pub returns : goal.returns
-returns c = outer_end _ _ _ _ _ _ _ _ c.loop-head.invariant (omega arith)
+pub returns-after-loop-head : goal.returns-after-loop-head
+returns-after-loop-head c = outer_end _ _ _ _ _ _ _ _ c.loop-head.invariant (omega arith)
