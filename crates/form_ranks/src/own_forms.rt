@@ -10,7 +10,10 @@ fn copy_words(f: &mut [u64], at: usize, ws: &[u64], n: usize)
     requires { (at + n ≤ length f.old) × (n ≤ length ws.now) }
     ensures { f.new ≡ take at f.old ++ (take n ws.now ++ drop (at + n) f.old) }
 {
-    f[at..at + n].copy_from_slice(&ws[..n]);
+    // A loop, for the reason in `sheet_copier::copy_lines`.
+    for i in 0..n {
+        f[at + i] = ws[i];
+    }
 }
 
 // The normal form of declaration d at place pos of the list, and the place after it; a place past the end where the list or

@@ -10,7 +10,10 @@ fn fill(slots: &mut [u16], base: usize, out: &[u16], at: usize, count: usize)
     requires { (base + count ≤ length slots.old) × (at + count ≤ length out.now) }
     ensures { Filled base count (scratch.part at count out.now) slots.old slots.new }
 {
-    slots[base..base + count].copy_from_slice(&out[at..at + count]);
+    // A loop, for the reason in `sheet_copier::copy_lines`.
+    for i in 0..count {
+        slots[base + i] = out[at + i];
+    }
 }
 
 // Remembers an answer that is an outcome or a fault.
