@@ -3,11 +3,11 @@
 
 mod own_forms;
 
-ghost use Rattle.std.specs.Prelude.{◌≡◌, ◌+◌, ◌<◌, length, get_or};
+ghost use Rattle.std.specs.Prelude.{◌≡◌, ◌+◌, ◌≤◌, ◌<◌, length, get_or};
 ghost use Rattle.table_access.specs.Tables.{decls_of, lines_in};
 ghost use Rattle.form_normal.specs.Tables.{Table};
 ghost use Rattle.form_normal.specs.Ranks.{Ranked, Done, Reached};
-ghost use Rattle.form_ranks.specs.Next.{Within};
+ghost use Rattle.form_ranks.specs.Next.{Next, Within};
 
 // The normal form of declaration d, whose rank is r, if it is unfolded.
 fn form_at(
@@ -34,6 +34,20 @@ fn form_at(
     own_forms::normal_form(t, u, f, d, scratch, pos)
 }
 
+// The first of the declarations from `from` on, before n, that has rank r, or n.
+fn next_of_rank(rank: &[u16], r: usize, from: usize, n: usize) -> usize
+    requires { (from ≤ n) × (n ≤ length rank.now) }
+    ensures next { Next rank.now r from n result }
+    ensures found { result < n → get_or rank.now result 0 ≡ r }
+{
+    for d in from..n {
+        if rank[d] as usize == r {
+            return d;
+        }
+    }
+    n
+}
+
 // The normal forms of rank r, whose declarations stand from place `from` to before `end`, from place pos on.
 pub fn forms_of_rank(
     t: &[u32],
@@ -51,13 +65,16 @@ pub fn forms_of_rank(
     ensures { Reached (lines_in t.now) u.now rank.now r (decls_of (lines_in t.now)) (length scratch.old) f.old f.new result }
 {
     let mut p = pos;
-    for d in from..end {
-        if rank[d] as usize == r {
-            p = form_at(t, u, rank, f, scratch, r, d, p);
-            if p > f.len() {
-                return p;
-            }
+    if from >= end {
+        return p;
+    }
+    let mut d = next_of_rank(rank, r, from, end);
+    while d < end {
+        p = form_at(t, u, rank, f, scratch, r, d, p);
+        if p > f.len() {
+            return p;
         }
+        d = next_of_rank(rank, r, d + 1, end);
     }
     p
 }
