@@ -1,5 +1,6 @@
--- `row6_spellings::same` meets its contract: slices are compared byte by byte.
-use Rattle.std.proofs.Common.{◌≡◌, refl, ◌∙◌, List, [], ◌∷◌, ℕ}
+-- `row6_spellings::same` meets its contract: slices are compared byte by byte. The answer names no step of the code.
+use Rattle.std.proofs.Common.{◌≡◌, refl, List, [], ◌∷◌, ℕ, arith}
+use Rattle.std.proofs.lemmas.Grind.{common_steps}
 use Rattle.std.specs.Prelude.{eqb}
 use Rattle.std.specs.Cmp.Lexicographic.{pointwise}
 use Rattle.meaning.specs.Rows.{equal}
@@ -13,4 +14,4 @@ bytes (x ∷ a) [] = refl
 bytes (x ∷ a) (y ∷ b) = rw (bytes a b)
 
 pub returns : goal.returns
-returns c = c.eq.ensures ∙ bytes _ _
+returns c = grind (arith, common_steps, bytes)
