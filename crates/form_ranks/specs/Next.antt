@@ -7,7 +7,7 @@ use Rattle.form_normal.specs.Ranks.{Done}
 use Rattle.form_normal.specs.RanksLaws.{table_same}
 use Rattle.sheet.specs.Line.{Line}
 
--- e is the first number from `from` on, below n, of rank r, or n
+-- e is not before `from`, at most n, and no declaration from `from` to before e has rank r
 pub record Next (rank : List ℕ) (r from n e : ℕ) : Type 0 where
   pub low : from ≤ e
   pub high : e ≤ n
